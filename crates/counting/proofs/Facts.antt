@@ -1,0 +1,84 @@
+-- Small facts on tests, shared by all crates: order by cases, conjunctions, and tests computed at every number below a bound.
+use mathlib.Core.Bool.{Bool, true, false, not, _&&_, _||_}
+use mathlib.Core.Path.{_≡_, refl, sym, subst}
+use mathlib.Core.Logic.{_⊎_, inl, inr, ⊎-elim}
+use Prim.Native.Nat.{ℕ, zero, suc, _≤_, _<_, _/_}
+use native.Mathlib.Nat.{eq-or-lt-of-le, le-of-suc-le-suc, le-div-iff-mul-le, div-mul-le-self}
+use native.Mathlib.Decide.{decLt}
+use native.Mathlib.Omega.{arith}
+use lib.Dec.{T}
+use mir.Val.{boolByte}
+
+pub order : (s t : ℕ) → (s < t) ⊎ (t ≤ s)
+order s t = by (decLt s t)
+  where
+    by : Dec (s < t) → (s < t) ⊎ (t ≤ s)
+    by (yes h) = inl h
+    by (no h) = inr (omega arith)
+
+pub div-mono : (a b k : ℕ) → 0 < k → a ≤ b → a / k ≤ b / k
+div-mono a b k h l = le-div-iff-mul-le h .1 (omega (arith, div-mul-le-self a k))
+
+-- ---- tests
+
+pub byte-le : (b : Bool) → boolByte b ≤ 1
+byte-le true = omega arith
+byte-le false = omega arith
+
+pub byte-some : (b : Bool) (n : ℕ) → n < boolByte b → (b ≡ true) × (n ≡ 0)
+byte-some true n h = (refl, omega arith)
+byte-some false n h = absurd (omega arith)
+
+pub both : (a b : Bool) → a ≡ true → b ≡ true → (a && b) ≡ true
+both a b x y = rw (x, y) refl
+
+pub both-parts : (a b : Bool) → (a && b) ≡ true → (a ≡ true) × (b ≡ true)
+both-parts true b h = (refl, h)
+both-parts false b h = let z : _≡_ {A = ℕ} 0 1 = cc in absurd (omega arith)
+
+pub either-parts : (a b : Bool) → (a || b) ≡ false → (a ≡ false) × (b ≡ false)
+either-parts true b h = let z : _≡_ {A = ℕ} 0 1 = cc in absurd (omega arith)
+either-parts false b h = (refl, h)
+
+pub either-case : (a b : Bool) → (a || b) ≡ true → (a ≡ true) ⊎ (b ≡ true)
+either-case true b h = inl refl
+either-case false b h = inr h
+
+pub not-true-is : (b : Bool) → not b ≡ true → b ≡ false
+not-true-is true h = let z : _≡_ {A = ℕ} 0 1 = cc in absurd (omega arith)
+not-true-is false h = refl
+
+pub truth : (b : Bool) → (b ≡ true) ⊎ (b ≡ false)
+truth true = inl refl
+truth false = inr refl
+
+-- ---- a test computed at every number below a bound holds at each
+
+abbrev pub each : ℕ → (ℕ → Bool) → Bool
+each zero f = true
+each (suc n) f = f n && each n f
+
+and-left : (a b : Bool) → T (a && b) → T a
+and-left true b t = tt
+and-left false b t = t
+
+and-right : (a b : Bool) → T (a && b) → T b
+and-right true b t = t
+and-right false b t = absurd t
+
+pub each-at : (n : ℕ) (f : ℕ → Bool) → T (each n f) → (i : ℕ) → i < n → T (f i)
+each-at zero f t i h = absurd (omega arith)
+each-at (suc n) f t i h =
+    ⊎-elim (λ e. subst (λ (x : ℕ). T (f x)) (sym e) (and-left (f n) (each n f) t))
+    (λ k. each-at n f (and-right (f n) (each n f) t) i k) (eq-or-lt-of-le (le-of-suc-le-suc h))
+
+-- two tests agree
+abbrev pub alike : Bool → Bool → Bool
+alike true b = b
+alike false b = not b
+
+pub alike-eq : (a b : Bool) → T (alike a b) → a ≡ b
+alike-eq true true t = refl
+alike-eq true false t = absurd t
+alike-eq false true t = absurd t
+alike-eq false false t = refl

@@ -1,0 +1,5 @@
+pub mod Facts
+pub mod Rank
+pub mod Select
+pub mod Period
+pub mod Ones

@@ -1,0 +1,126 @@
+-- The ones of a mask are the numbers of a span that pass.
+use mathlib.Core.Bool.{Bool, true, false, _&&_}
+use mathlib.Core.Path.{_≡_, refl, sym, ap, ap₂, _∙_}
+use Prim.Native.Nat.{ℕ, zero, suc, _+_, _-_, _*_, _/_, _%_, _^_, _≤_, _<_}
+use native.Mathlib.Nat.{add-zero, zero-add, mod-lt, mod-eq-of-lt, mod-one, div-one, div-div-eq-div-mul, pow-succ', pow-suc}
+use native.Mathlib.Numerals.{add-one}
+use native.Mathlib.Omega.{arith}
+use lib.Dec.{lit<, eqb}
+use lib.Bits.{bitAnd, and-shr, and-mod}
+use lib.Count.{ones, ones-cat}
+use lib.Pow.{mod-pow-add, shr-shr, pow-mono}
+use mir.Val.{boolByte}
+use borrow.Author.Tests.{eq-eqb}
+use Rattle.counting.specs.Counting.{rank, count}
+use Rattle.counting.specs.Bits.{bitAt, NthOne}
+use Rattle.counting.proofs.Rank.{rank-count, rank-on, count-same, count-from-zero}
+
+byte-digit : (d : ℕ) → d < 2 → boolByte (eqb d 1) ≡ d
+byte-digit zero h = refl
+byte-digit (suc zero) h = refl
+byte-digit (suc (suc d)) h = absurd (omega arith)
+
+ones-digit : (d : ℕ) → d < 2 → ones d ≡ d
+unfolding ones
+ones-digit zero h = refl
+ones-digit (suc zero) h = refl
+ones-digit (suc (suc d)) h = absurd (omega arith)
+
+pub bit-suc : (m i : ℕ) → bitAt m (suc i) ≡ bitAt (m / 2) i
+bit-suc m i = ap (λ (x : ℕ). eqb (x % 2) 1) (ap (λ (x : ℕ). m / x) (pow-succ' 2 i) ∙ sym (div-div-eq-div-mul m 2 (2 ^ i)))
+
+-- the ones among the k lowest digits
+pub ones-count : (k m : ℕ) → ones (m % 2 ^ k) ≡ count (bitAt m) 0 k
+unfolding count ones
+ones-count zero m = ap ones (mod-one m)
+ones-count (suc k) m =
+    ap (λ (x : ℕ). ones (m % 2 ^ x)) (sym (add-one k)) ∙ ap ones (mod-pow-add m k 1)
+    ∙ ones-cat 1 (m / 2 ^ 1 % 2 ^ k) (m % 2 ^ 1) (mod-lt m (lit< tt))
+    ∙ omega (
+      arith,
+      ones-count k (m / 2),
+      ones-digit (m % 2) (mod-lt m (lit< tt)),
+      byte-digit (m % 2) (mod-lt m (lit< tt)),
+      ap (λ (x : ℕ). boolByte (eqb (x % 2) 1)) (div-one m),
+      count-same (bitAt (m / 2)) (bitAt m) k 0 1 (λ i h. sym (bit-suc m (0 + i)) ∙ ap (bitAt m) (omega arith)),
+    )
+
+pub ones-low : (k m : ℕ) → ones (m % 2 ^ k) ≡ rank (bitAt m) k
+ones-low k m = ones-count k m ∙ count-from-zero (bitAt m) k
+
+pub ones-rank : (k m : ℕ) → m < 2 ^ k → ones m ≡ rank (bitAt m) k
+ones-rank k m h = ap ones (sym (mod-eq-of-lt h)) ∙ ones-low k m
+
+-- a span of n numbers from s, whose mask m has digit i for number s + i
+module _ (u : ℕ → Bool) (m s n : ℕ) (mask : (i : ℕ) → i < n → bitAt m i ≡ u (s + i)) where
+  pub span-part : (k : ℕ) → k ≤ n → rank u s + ones (m % 2 ^ k) ≡ rank u (s + k)
+  span-part k h =
+      omega (
+        arith,
+        rank-count u k s,
+        ones-count k m,
+        count-same (bitAt m) u k 0 s (λ i l. ap (bitAt m) (zero-add i) ∙ mask i (omega arith)),
+      )
+
+  pub span-whole : m < 2 ^ n → rank u s + ones m ≡ rank u (s + n)
+  span-whole h = rw (← mod-eq-of-lt h) (span-part n (omega arith))
+
+-- ---- one digit on, for a search by digits
+
+pub rank-digit : (m i : ℕ) → rank (bitAt m) (i + 1) ≡ rank (bitAt m) i + m / 2 ^ i % 2
+rank-digit m i = omega (arith, rank-on (bitAt m) i, byte-digit (m / 2 ^ i % 2) (omega arith))
+
+pub half-on : (m i rest : ℕ) → rest ≡ m / 2 ^ i → rest / 2 ≡ m / 2 ^ (i + 1)
+half-on m i rest e = ap (λ (x : ℕ). x / 2) e ∙ shr-shr m i 1
+
+pub digit-found : (m k i left rest : ℕ) → rest ≡ m / 2 ^ i → rank (bitAt m) i + left ≡ k → left < rest % 2 → NthOne m k i
+digit-found m k i left rest e f l =
+    record { set = eq-eqb (m / 2 ^ i % 2) 1 (omega (arith, ap (λ (x : ℕ). x % 2) e)); before = omega (arith, ap (λ (x : ℕ). x % 2) e) }
+
+-- ---- what is set in both of two masks
+
+both-digits : (x y : ℕ) → x < 2 → y < 2 → eqb (bitAnd x y) 1 ≡ (eqb x 1 && eqb y 1)
+both-digits zero zero hx hy = refl
+both-digits zero (suc zero) hx hy = refl
+both-digits (suc zero) zero hx hy = refl
+both-digits (suc zero) (suc zero) hx hy = refl
+both-digits zero (suc (suc y)) hx hy = absurd (omega arith)
+both-digits (suc zero) (suc (suc y)) hx hy = absurd (omega arith)
+both-digits (suc (suc x)) y hx hy = absurd (omega arith)
+
+pub and-bits : (m n i : ℕ) → bitAt (bitAnd m n) i ≡ (bitAt m i && bitAt n i)
+and-bits m n i =
+    ap (λ (x : ℕ). eqb (x % 2) 1) (and-shr m n i) ∙ ap (λ (x : ℕ). eqb x 1) (and-mod (m / 2 ^ i) (n / 2 ^ i) 1)
+    ∙ both-digits (m / 2 ^ i % 2) (n / 2 ^ i % 2) (omega arith) (omega arith)
+
+-- ---- a mask made digit by digit, from the top: m has the answers of v from i up to n
+
+pub record From (v : ℕ → Bool) (n i m : ℕ) : Type 0 where
+  pub small : m < 2 ^ (n - i)
+  pub bits : (x : ℕ) → x < n - i → bitAt m x ≡ v (i + x)
+
+pub from-none : (v : ℕ → Bool) (n : ℕ) → From v n n 0
+from-none v n =
+    let e : n - n ≡ 0 = omega arith in
+    record { small = rw e (omega arith); bits = λ x h. absurd (omega arith) }
+
+digit-next : (m d x : ℕ) → d < 2 → bitAt (m * 2 + d) (suc x) ≡ bitAt m x
+digit-next m d x h = bit-suc (m * 2 + d) x ∙ ap (λ (y : ℕ). bitAt y x) (omega arith)
+
+digit-zero : (m d : ℕ) → d < 2 → bitAt (m * 2 + d) 0 ≡ eqb d 1
+digit-zero m d h =
+    let e : (m * 2 + d) / 1 % 2 ≡ d = omega (arith, div-one (m * 2 + d)) in
+    ap (λ (y : ℕ). eqb y 1) e
+
+-- one digit more, below
+pub from-on : (v : ℕ → Bool) (n i m d : ℕ) → i < n → d < 2 → eqb d 1 ≡ v i → From v n (i + 1) m → From v n i (m * 2 + d)
+from-on v n i m d l h e p =
+    let s : suc (n - (i + 1)) ≡ n - i = omega arith in
+    record { small = rw (← s, pow-suc 2 (n - (i + 1))) (omega (arith, p .small)); bits = at }
+  where
+    at : (x : ℕ) → x < n - i → bitAt (m * 2 + d) x ≡ v (i + x)
+    at zero k = digit-zero m d h ∙ e ∙ ap v (sym (add-zero i))
+    at (suc x) k = digit-next m d x h ∙ p .bits x (omega arith) ∙ ap v (omega arith)
+
+pub from-bound : (v : ℕ → Bool) (n i m : ℕ) → From v n i m → m < 2 ^ n
+from-bound v n i m p = omega (arith, p .small, pow-mono {i = n - i} {j = n} (omega arith))

@@ -1,0 +1,104 @@
+-- The rules of the tables, each by one computed test.
+use mathlib.Core.Bool.{Bool, true, false, cond, _&&_, _||_}
+use mathlib.Core.List.{List, [], _∷_}
+use mathlib.Core.Path.{_≡_, refl, sym, ap, _∙_}
+use mathlib.Core.Logic.{⊎-elim}
+use Prim.Native.Nat.{ℕ, zero, suc, _+_, _*_, _/_, _%_, _^_, _≤_, _<_}
+use native.Mathlib.Nat.{pow-succ'}
+use native.Mathlib.Omega.{arith}
+use lib.Count.{ones}
+use lib.Dec.{T, leb, ltb, eqb, leb→le, eqb→eq}
+use lib.ListN.{getD}
+use lib.Pow.{pow-mono}
+use borrow.Author.Tests.{le-leb, lt-leb, ne-eqb}
+use Rattle.counting.proofs.Facts.{order, each, each-at, alike, alike-eq}
+use Rattle.grid.specs.Tables.{entry, lengths, downlinkCopies, shortDelays, longDelays, downlinkDelay, uplinkCopies, uplinkDelays, powerBelow, isRepetition}
+
+-- a test that holds at each field of a row holds at any field below its length
+row-at : (row : List ℕ) (n : ℕ) (f : ℕ → Bool) → T (each n (λ k. f (entry row k))) → (k : ℕ) → k < n → T (f (entry row k))
+row-at row n f t k h = each-at n (λ k. f (entry row k)) t k h
+
+-- a number between two bounds
+abbrev between : ℕ → ℕ → ℕ → Bool
+between a b x = leb a x && leb x b
+
+parts : (a b : Bool) → T (a && b) → T a × T b
+parts true b t = (tt, t)
+parts false b t = absurd t
+
+between-is : (a b x : ℕ) → T (between a b x) → (a ≤ x) × (x ≤ b)
+between-is a b x t =
+    let p = parts (leb a x) (leb x b) t in
+    (leb→le a x (p .0), leb→le x b (p .1))
+
+-- m is one of the numbers of copies in a row that divides the copies R
+abbrev splits : (ℕ → ℕ) → ℕ → Bool
+splits m R = eqb (R % m R) 0
+
+-- ---- bounds
+
+pub length-bounds : (k : ℕ) → k < 8 → (1 ≤ entry lengths k) × (entry lengths k ≤ 10)
+length-bounds k h = between-is 1 10 (entry lengths k) (row-at lengths 8 (between 1 10) tt k h)
+
+pub downlink-copies-bounds : (k : ℕ) → k < 16 → (1 ≤ entry downlinkCopies k) × (entry downlinkCopies k ≤ 2048)
+downlink-copies-bounds k h = between-is 1 2048 (entry downlinkCopies k) (row-at downlinkCopies 16 (between 1 2048) tt k h)
+
+pub uplink-copies-bounds : (k : ℕ) → k < 8 → (1 ≤ entry uplinkCopies k) × (entry uplinkCopies k ≤ 128)
+uplink-copies-bounds k h = between-is 1 128 (entry uplinkCopies k) (row-at uplinkCopies 8 (between 1 128) tt k h)
+
+pub uplink-delay-bound : (k : ℕ) → k < 4 → entry uplinkDelays k ≤ 64
+uplink-delay-bound k h = between-is 0 64 (entry uplinkDelays k) (row-at uplinkDelays 4 (between 0 64) tt k h) .1
+
+pub downlink-delay-bound : (rmax k : ℕ) → k < 8 → downlinkDelay rmax k ≤ 1024
+unfolding downlinkDelay
+downlink-delay-bound rmax k h = by (ltb rmax 128)
+  where
+    by : (b : Bool) → cond b (entry shortDelays k) (entry longDelays k) ≤ 1024
+    by true = between-is 0 1024 (entry shortDelays k) (row-at shortDelays 8 (between 0 1024) tt k h) .1
+    by false = between-is 0 1024 (entry longDelays k) (row-at longDelays 8 (between 0 1024) tt k h) .1
+
+-- ---- copies in a row divide the copies (for the copy order)
+
+-- min(R, 4) of the downlink
+abbrev pub rowOf : ℕ → ℕ
+rowOf R = cond (ltb R 4) R 4
+
+pub downlink-row-splits : (k : ℕ) → k < 16 → entry downlinkCopies k % rowOf (entry downlinkCopies k) ≡ 0
+downlink-row-splits k h =
+    eqb→eq (entry downlinkCopies k % rowOf (entry downlinkCopies k)) 0 (row-at downlinkCopies 16 (splits rowOf) tt k h)
+
+-- min(ceil(R/2), 4) of the uplink
+abbrev pub halfRowOf : ℕ → ℕ
+halfRowOf R = rowOf ((R + 1) / 2)
+
+pub uplink-row-splits : (k : ℕ) → k < 8 → entry uplinkCopies k % halfRowOf (entry uplinkCopies k) ≡ 0
+uplink-row-splits k h =
+    eqb→eq (entry uplinkCopies k % halfRowOf (entry uplinkCopies k)) 0 (row-at uplinkCopies 8 (splits halfRowOf) tt k h)
+
+pub row-pos : (R : ℕ) → 0 < R → 0 < rowOf R
+row-pos R h = by (ltb R 4)
+  where
+    by : (b : Bool) → 0 < cond b R 4
+    by true = h
+    by false = omega arith
+
+-- ---- powers of two
+
+no-power : (n x : ℕ) → 2 ^ n < 2 * x → powerBelow n x ≡ false
+no-power zero x h = refl
+no-power (suc n) x h = rw (ne-eqb x (2 ^ n) (λ e. omega (arith, pow-succ' 2 n)), no-power n x (omega (arith, pow-succ' 2 n))) refl
+
+-- up to 2048, a number with one digit set is a power of two
+one-digit-table : T (each 2049 (λ x. alike (eqb (ones x) 1) (powerBelow 12 x)))
+unfolding ones
+one-digit-table = tt
+
+pub one-digit : (x : ℕ) → (leb x 2048 && eqb (ones x) 1) ≡ isRepetition x
+unfolding isRepetition
+one-digit x = ⊎-elim above below (order 2048 x)
+  where
+    above : 2048 < x → (leb x 2048 && eqb (ones x) 1) ≡ powerBelow 12 x
+    above h = rw (lt-leb x 2048 h) (sym (no-power 12 x (omega arith)))
+
+    below : x ≤ 2048 → (leb x 2048 && eqb (ones x) 1) ≡ powerBelow 12 x
+    below h = rw (le-leb x 2048 h) (alike-eq (eqb (ones x) 1) (powerBelow 12 x) (each-at 2049 (λ x. alike (eqb (ones x) 1) (powerBelow 12 x)) one-digit-table x (omega arith)))

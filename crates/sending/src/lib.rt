@@ -1,0 +1,49 @@
+// What stands at a place, as backward answers it; the copy order, the abstract sending and demand 3 are in specs/ and proofs/.
+ghost use mathlib.Core.Path.{_≡_};
+ghost use Rattle.sending.specs.Sending.{Content};
+ghost use Rattle.sending.specs.Answer.{backOf, refusedBack};
+
+// Backward's answer: the refusal number; 1 and the symbol and position where the place is ours, else its kind.
+pub struct Back {
+    pub no: u64,
+    pub ours: u64,
+    pub symbol: u64,
+    pub position: u64,
+    pub kind: u64,
+}
+
+pub fn ours(symbol: u64, position: u64) -> Back
+    ensures { λ r. ⌜ r ≡ backOf (Content.ours symbol position) ⌝ }
+{
+    Back {
+        no: 0,
+        ours: 1,
+        symbol,
+        position,
+        kind: 0,
+    }
+}
+
+pub fn other(kind: u64) -> Back
+    ensures { λ r. ⌜ r ≡ backOf (Content.other kind) ⌝ }
+{
+    Back {
+        no: 0,
+        ours: 0,
+        symbol: 0,
+        position: 0,
+        kind,
+    }
+}
+
+pub fn refused(no: u64) -> Back
+    ensures { λ r. ⌜ r ≡ refusedBack no ⌝ }
+{
+    Back {
+        no,
+        ours: 0,
+        symbol: 0,
+        position: 0,
+        kind: 0,
+    }
+}
