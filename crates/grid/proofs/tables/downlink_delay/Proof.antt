@@ -6,11 +6,11 @@ use Rattle.grid.proofs.tables.downlink_delay.Tie as tie
 
 returns : tie.Need-returns
 unfolding downlinkDelay
-returns c = simp (lt-ltb _ _ (c .before .if1 .taken))
+returns c = simp (lt-ltb _ _ (c .if1 .taken))
 
 returns-2 : tie.Need-returns-2
 unfolding downlinkDelay
-returns-2 c = simp (le-ltb _ _ (c .before .if1 .left))
+returns-2 c = simp (le-ltb _ _ (c .if1 .left))
 
 pub downlink-delay-spec : {M : Type 1} → statement M
 downlink-delay-spec =
