@@ -1,0 +1,5 @@
+pub mod Forty
+pub mod Taken
+pub mod Accepted
+pub mod Showing
+pub mod Judging
