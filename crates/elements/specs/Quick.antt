@@ -1,0 +1,32 @@
+-- What the quick code's own functions say. No definition of 01 cites this file.
+use mathlib.Core.Bool.{Bool}
+use mathlib.Core.List.{List, [], _∷_}
+use mathlib.Core.Path.{_≡_}
+use Prim.Native.Nat.{ℕ, _+_, _*_, _^_, _<_}
+use lib.ListN.{getD}
+use mir.Val.{boolByte}
+use Rattle.counting.specs.Bits.{bitAt}
+use Rattle.grid.specs.Grid.{subcarriers, symbols, slots}
+use Rattle.elements.specs.declared.Layout.{Layout}
+use Rattle.elements.specs.Elements.{used}
+
+-- a row is a symbol of a slot: row slot * symbols + l
+abbrev pub rows : ℕ
+rows = slots * symbols
+
+-- digit k of m says whether subcarrier k of the row is used
+pub record RowMask (g : Layout) (from width row m : ℕ) : Type 0 where
+  pub small : m < 2 ^ subcarriers
+  pub bits : (k : ℕ) → k < subcarriers → bitAt m k ≡ used g from width (subcarriers * row + k)
+
+-- six subcarriers, where references may lie at v (near) and three on from v (far): digit 1 where none lies
+abbrev pub frees : List (List ℕ)
+frees =
+    (63 ∷ 63 ∷ 63 ∷ 63 ∷ 63 ∷ 63 ∷ [])
+    ∷ (62 ∷ 61 ∷ 59 ∷ 55 ∷ 47 ∷ 31 ∷ [])
+    ∷ (55 ∷ 47 ∷ 31 ∷ 62 ∷ 61 ∷ 59 ∷ [])
+    ∷ (54 ∷ 45 ∷ 27 ∷ 54 ∷ 45 ∷ 27 ∷ [])
+    ∷ []
+
+abbrev pub freeOf : ℕ → Bool → Bool → ℕ
+freeOf v a b = getD (getD frees (boolByte a + 2 * boolByte b) []) v 0

@@ -1,0 +1,173 @@
+// Which elements of a downlink subframe carry data, counted row by row.
+ghost use mathlib.Core.Path.{_≡_};
+ghost use Prim.Native.Nat.{_+_, _*_, _<_, _≤_};
+ghost use mir.Val.{boolByte};
+ghost use Rattle.grid.specs.Grid.{subcarriers, elements, slotOf, symbolOf, subcarrierOf};
+ghost use Rattle.elements.specs.Elements.{nrs, crs, reference, controlRegion, inPart, used, kindOf, countOf, elementAt, numberOf, Valid, Part};
+ghost use Rattle.elements.specs.Quick.{rows, freeOf, RowMask};
+use grid::Grid;
+
+// The layout of a subframe, apart from the cell: identity mod 6, narrowband and cell reference ports, control region.
+pub struct Layout {
+    pub v: u64,
+    pub nports: u64,
+    pub cports: u64,
+    pub control: u64,
+}
+
+// A symbol of a slot is a row of the grid.
+const ROWS: u64 = Grid::SLOTS * Grid::SYMBOLS;
+
+// Six subcarriers by binary digits, 1 where no reference lies: none, at v, three on from v, at both; each for v 0 to 5.
+const FREE: [[u64; 6]; 4] = [
+    [63, 63, 63, 63, 63, 63],
+    [62, 61, 59, 55, 47, 31],
+    [55, 47, 31, 62, 61, 59],
+    [54, 45, 27, 54, 45, 27],
+];
+
+fn is_nrs(g: Layout, l: u64, k: u64) -> bool
+    requires { ⌜ g .v < 6 ⌝ }
+    ensures { λ r. ⌜ r ≡ nrs g l k ⌝ }
+{
+    let near = k % 6 == g.v;
+    let far = k % 6 == (g.v + 3) % 6;
+    let first = ((l == 5) & near) | ((l == 6) & far);
+    let second = ((l == 5) & far) | ((l == 6) & near);
+    first | ((2 <= g.nports) & second)
+}
+
+fn is_crs(g: Layout, l: u64, k: u64) -> bool
+    requires { ⌜ g .v < 6 ⌝ }
+    ensures { λ r. ⌜ r ≡ crs g l k ⌝ }
+{
+    let near = k % 6 == g.v;
+    let far = k % 6 == (g.v + 3) % 6;
+    let first = ((l == 0) & near) | ((l == 4) & far);
+    let second = ((l == 0) & far) | ((l == 4) & near);
+    let others = (l == 1) & (near | far);
+    ((1 <= g.cports) & first) | (((2 <= g.cports) & second) | ((4 <= g.cports) & others))
+}
+
+fn is_reference(g: Layout, l: u64, k: u64) -> bool
+    requires { ⌜ g .v < 6 ⌝ }
+    ensures { λ r. ⌜ r ≡ reference g l k ⌝ }
+{
+    is_nrs(g, l, k) | is_crs(g, l, k)
+}
+
+fn in_control(g: Layout, slot: u64, l: u64) -> bool
+    ensures { λ r. ⌜ r ≡ controlRegion g slot l ⌝ }
+{
+    (slot == 0) & (l < g.control)
+}
+
+fn in_part(from: u64, width: u64, k: u64) -> bool
+    requires { ⌜ Part from width ⌝ }
+    ensures { λ r. ⌜ r ≡ inPart from width k ⌝ }
+{
+    (from <= k) & (k < from + width)
+}
+
+// 1 for true, 0 for false.
+fn one(b: bool) -> u64
+    ensures { λ r. ⌜ (r ≡ boolByte b) × (r ≤ 1) ⌝ }
+{
+    b as u64
+}
+
+// The free ones of six subcarriers.
+fn free(v: u64, near: bool, far: bool) -> u64
+    requires { ⌜ v < 6 ⌝ }
+    ensures { λ r. ⌜ r ≡ freeOf v near far ⌝ }
+{
+    let at = one(near) + 2 * one(far);
+    FREE[at as usize][v as usize]
+}
+
+// The used subcarriers of a row, by binary digits: its two halves are alike.
+fn row_mask(g: Layout, from: u64, width: u64, row: u64) -> u64
+    requires { ⌜ Valid g × Part from width × (row < rows) ⌝ }
+    ensures { λ r. ⌜ RowMask g from width row r ⌝ }
+{
+    let v = g.v;
+    let l = row % Grid::SYMBOLS;
+    if in_control(g, row / Grid::SYMBOLS, l) {
+        return 0;
+    }
+    let near = is_reference(g, l, v);
+    let far = is_reference(g, l, (v + 3) % 6);
+    let six = free(v, near, far);
+    let lower = one(in_part(from, width, 0));
+    let upper = one(in_part(from, width, 6));
+    six * (lower + 64 * upper)
+}
+
+// How many elements of the first rows are used.
+fn before(g: Layout, from: u64, width: u64, n: u64) -> u64
+    requires { ⌜ Valid g × Part from width × (n ≤ rows) ⌝ }
+    ensures { λ r. ⌜ r ≡ numberOf g from width (subcarriers * n) ⌝ }
+{
+    let mut sum: u64 = 0;
+    let mut row: u64 = 0;
+    while row < n {
+        sum += counting::ones_of(row_mask(g, from, width, row));
+        row += 1;
+    }
+    sum
+}
+
+// E: how many elements are used.
+pub fn count(g: Layout, from: u64, width: u64) -> u64
+    requires { ⌜ Valid g × Part from width ⌝ }
+    ensures { λ r. ⌜ r ≡ countOf g from width ⌝ }
+{
+    before(g, from, width, ROWS)
+}
+
+// The number of an element: how many before it are used.
+pub fn number(g: Layout, from: u64, width: u64, x: u64) -> u64
+    requires { ⌜ Valid g × Part from width × (x < elements) ⌝ }
+    ensures { λ r. ⌜ r ≡ numberOf g from width x ⌝ }
+{
+    let row = x / Grid::SUBCARRIERS;
+    let mask = row_mask(g, from, width, row);
+    before(g, from, width, row) + counting::ones_of(counting::low(mask, x % Grid::SUBCARRIERS))
+}
+
+// The e-th used element.
+pub fn element_at(g: Layout, from: u64, width: u64, e: u64) -> u64
+    requires { ⌜ Valid g × Part from width × (e < countOf g from width) ⌝ }
+    ensures { λ r. ⌜ r ≡ elementAt g from width e ⌝ }
+{
+    let mut left = e;
+    let mut row: u64 = 0;
+    while row < ROWS {
+        let mask = row_mask(g, from, width, row);
+        let n = counting::ones_of(mask);
+        if left < n {
+            return Grid::SUBCARRIERS * row + counting::nth_one(mask, left);
+        }
+        left -= n;
+        row += 1;
+    }
+    0
+}
+
+pub fn is_used(g: Layout, from: u64, width: u64, x: u64) -> bool
+    requires { ⌜ Valid g × Part from width × (x < elements) ⌝ }
+    ensures { λ r. ⌜ r ≡ used g from width x ⌝ }
+{
+    let mask = row_mask(g, from, width, x / Grid::SUBCARRIERS);
+    (mask >> (x % Grid::SUBCARRIERS)) % 2 == 1
+}
+
+// 0 plain, 1 narrowband reference, 2 cell reference, 3 both.
+pub fn kind(g: Layout, x: u64) -> u64
+    requires { ⌜ Valid g ⌝ }
+    ensures { λ r. ⌜ r ≡ kindOf g x ⌝ }
+{
+    let l = Grid::symbol(x);
+    let k = Grid::subcarrier(x);
+    one(is_nrs(g, l, k)) + 2 * one(is_crs(g, l, k))
+}
