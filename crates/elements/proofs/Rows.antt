@@ -1,4 +1,4 @@
--- A row of the grid by binary digits. References repeat every six subcarriers, so those at v and at v + 3 tell the whole row.
+-- A row of the grid by binary digits. References repeat every six subcarriers, so what lies near and far tells the whole row.
 use mathlib.Core.Bool.{Bool, true, false, not, cond, _&&_, _||_}
 use mathlib.Core.Path.{_≡_, refl, sym, ap, subst, _∙_}
 use mathlib.Core.Logic.{⊎-elim}
@@ -10,14 +10,14 @@ use mir.Val.{boolByte}
 use borrow.Author.Tests.{eqb-true, ne-eqb, lt-ltb}
 use Rattle.counting.specs.Counting.{rank}
 use Rattle.counting.specs.Bits.{bitAt, NthOne}
-use Rattle.counting.proofs.Facts.{order, truth, each, each-at, alike, alike-eq}
+use Rattle.counting.proofs.Facts.{order, each, each-at, alike, alike-eq}
 use Rattle.counting.proofs.Rank.{rank-later}
 use Rattle.counting.proofs.Select.{is-select-below}
 use Rattle.counting.proofs.Ones.{span-part, span-whole, ones-low, ones-rank}
 use Rattle.grid.specs.Grid.{subcarriers, symbols, elements, slotOf, symbolOf, subcarrierOf}
 use Rattle.elements.specs.declared.Layout.{Layout}
 use Rattle.elements.specs.Elements.{near, far, nrs, crs, reference, controlRegion, eligible, inPart, used, countOf, elementAt, numberOf, Part}
-use Rattle.elements.specs.Quick.{rows, freeOf, RowMask}
+use Rattle.elements.specs.Quick.{rows, referenceOn, freeOf, RowMask}
 
 pub and-false : (a : Bool) → (a && false) ≡ false
 and-false true = refl
@@ -27,39 +27,21 @@ or-false : (a : Bool) → (a || false) ≡ a
 or-false true = refl
 or-false false = refl
 
--- ---- the references of a symbol from those at v (a) and at v + 3 (b)
+-- ---- the references of a symbol from what lies near (a) and what lies far (b)
 
 abbrev spread : Layout → ℕ → Bool → Bool → Bool
 spread g k a b = (near g k && a) || (far g k && b)
 
-module _ (g : Layout) (l k : ℕ) where
-  same-sixth : (j : ℕ) → k % 6 ≡ j % 6 → reference g l k ≡ reference g l j
-  unfolding nrs crs
-  same-sixth j e = rw e refl
+on-spread : (g : Layout) (l : ℕ) (n f : Bool) → (n ≡ true → f ≡ false)
+    → referenceOn g l n f ≡ ((n && referenceOn g l true false) || (f && referenceOn g l false true))
+on-spread g l true f h = rw (h refl, or-false) refl
+on-spread g l false true h = refl
+on-spread g l false false h = simp and-false
 
-  elsewhere : near g k ≡ false → far g k ≡ false → reference g l k ≡ false
-  unfolding nrs crs
-  elsewhere n f = rw (n, f) (simp and-false)
-
-  abbrev spreads : Type 0
-  spreads = reference g l k ≡ spread g k (reference g l (g .v)) (reference g l ((g .v + 3) % 6))
-
-  at-v : g .v < 6 → near g k ≡ true → spreads
-  at-v h n =
-      let e = eqb-true (k % 6) (g .v) n in
-      let f : far g k ≡ false = ne-eqb (k % 6) ((g .v + 3) % 6) (λ d. omega (arith, e)) in
-      same-sixth (g .v) (omega (arith, e)) ∙ (rw (n, f, or-false) refl)
-
-  past-v : near g k ≡ false → far g k ≡ true → spreads
-  past-v n f =
-      let e = eqb-true (k % 6) ((g .v + 3) % 6) f in
-      same-sixth ((g .v + 3) % 6) (omega (arith, e)) ∙ (rw (n, f) refl)
-
-  neither : near g k ≡ false → far g k ≡ false → spreads
-  neither n f = elsewhere n f ∙ (rw (n, f) refl)
-
-  reference-spread : g .v < 6 → spreads
-  reference-spread h = ⊎-elim (at-v h) (λ n. ⊎-elim (past-v n) (neither n) (truth (far g k))) (truth (near g k))
+reference-spread : (g : Layout) (l k : ℕ) → g .v < 6 → reference g l k ≡ spread g k (referenceOn g l true false) (referenceOn g l false true)
+unfolding nrs crs
+reference-spread g l k h =
+    on-spread g l (near g k) (far g k) (λ n. ne-eqb (k % 6) ((g .v + 3) % 6) (λ e. omega (arith, eqb-true (k % 6) (g .v) n)))
 
 -- ---- a part from its answers in each half
 
@@ -161,19 +143,19 @@ module _ (g : Layout) (from width row : ℕ) (hr : row < rows) where
 
   open-mask : g .v < 6 → Part from width → controlRegion g (row / symbols) (row % symbols) ≡ false
       → RowMask g from width row
-      (maskOf (g .v) (reference g (row % symbols) (g .v)) (reference g (row % symbols) ((g .v + 3) % 6)) (inPart from width 0) (inPart from width 6))
+      (maskOf (g .v) (referenceOn g (row % symbols) true false) (referenceOn g (row % symbols) false true) (inPart from width 0) (inPart from width 6))
   open-mask h p e =
-      let a : Bool = reference g (row % symbols) (g .v) in
-      let b : Bool = reference g (row % symbols) ((g .v + 3) % 6) in
+      let a : Bool = referenceOn g (row % symbols) true false in
+      let b : Bool = referenceOn g (row % symbols) false true in
       record {
         small = omega (arith, mask-small (g .v) a b (inPart from width 0) (inPart from width 6) h);
         bits = λ k l. mask-digit (g .v) a b (inPart from width 0) (inPart from width 6) h k l
             ∙ sym (row-used k l ∙ (rw (e, reference-spread g (row % symbols) k h, part-halves from width p k l) refl));
       }
 
-  -- any other: a and b are the references at v and at v + 3, lower and upper the part's answers at 0 and 6
+  -- any other: a and b say whether references lie near and far, lower and upper are the part's answers at 0 and 6
   pub row-open : g .v < 6 → Part from width → controlRegion g (row / symbols) (row % symbols) ≡ false → (a b lower upper : Bool) (six x y : ℕ)
-      → a ≡ reference g (row % symbols) (g .v) → b ≡ reference g (row % symbols) ((g .v + 3) % 6) → six ≡ freeOf (g .v) a b
+      → a ≡ referenceOn g (row % symbols) true false → b ≡ referenceOn g (row % symbols) false true → six ≡ freeOf (g .v) a b
       → lower ≡ inPart from width 0 → x ≡ boolByte lower → upper ≡ inPart from width 6 → y ≡ boolByte upper
       → RowMask g from width row (six * (x + 64 * y))
   row-open h p e a b lower upper six x y ea eb es el ex eu ey = rw (es, ex, ey, ea, eb, el, eu) (open-mask h p e)

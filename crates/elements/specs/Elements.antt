@@ -16,7 +16,7 @@ pub record Valid (g : Layout) : Type 0 where
   pub cell : (g .cports ≤ 4) × (g .cports ≡ 3 → ⊥)
   pub region : g .control ≤ 3
 
--- ---- reference signals, in each slot: every sixth subcarrier, from v on or from v + 3
+-- ---- reference signals, in each slot, at every sixth subcarrier: near where k mod 6 is v, far where it is (v + 3) mod 6
 
 abbrev pub near : Layout → ℕ → Bool
 near g k = eqb (k % 6) (g .v)
@@ -24,28 +24,34 @@ near g k = eqb (k % 6) (g .v)
 abbrev pub far : Layout → ℕ → Bool
 far g k = eqb (k % 6) ((g .v + 3) % 6)
 
--- narrowband reference signal (clause 10.2.6.2): port 2000, and port 2001 the other way round
-abbrev pub port2000 : Layout → ℕ → ℕ → Bool
-port2000 g l k = (eqb l 5 && near g k) || (eqb l 6 && far g k)
+-- narrowband reference signal (clause 10.2.6.2): port 2000 near at l = 5 and far at l = 6; port 2001 the other way round
+abbrev pub port2000 : ℕ → Bool → Bool → Bool
+port2000 l n f = (eqb l 5 && n) || (eqb l 6 && f)
 
-abbrev pub port2001 : Layout → ℕ → ℕ → Bool
-port2001 g l k = (eqb l 5 && far g k) || (eqb l 6 && near g k)
+abbrev pub port2001 : ℕ → Bool → Bool → Bool
+port2001 l n f = port2000 l f n
+
+abbrev pub nrsOn : Layout → ℕ → Bool → Bool → Bool
+nrsOn g l n f = port2000 l n f || (leb 2 (g .nports) && port2001 l n f)
 
 unfoldable pub nrs : Layout → ℕ → ℕ → Bool
-nrs g l k = port2000 g l k || (leb 2 (g .nports) && port2001 g l k)
+nrs g l k = nrsOn g l (near g k) (far g k)
 
--- cell reference signal (clause 6.10.1.2): port 0, port 1 the other way round, ports 2 and 3 together
-abbrev pub port0 : Layout → ℕ → ℕ → Bool
-port0 g l k = (eqb l 0 && near g k) || (eqb l 4 && far g k)
+-- cell reference signal (clause 6.10.1.2): port 0 near at l = 0 and far at l = 4; port 1 the other way round; ports 2 and 3 together both at l = 1
+abbrev pub port0 : ℕ → Bool → Bool → Bool
+port0 l n f = (eqb l 0 && n) || (eqb l 4 && f)
 
-abbrev pub port1 : Layout → ℕ → ℕ → Bool
-port1 g l k = (eqb l 0 && far g k) || (eqb l 4 && near g k)
+abbrev pub port1 : ℕ → Bool → Bool → Bool
+port1 l n f = port0 l f n
 
-abbrev pub ports2and3 : Layout → ℕ → ℕ → Bool
-ports2and3 g l k = eqb l 1 && (near g k || far g k)
+abbrev pub ports2and3 : ℕ → Bool → Bool → Bool
+ports2and3 l n f = eqb l 1 && (n || f)
+
+abbrev pub crsOn : Layout → ℕ → Bool → Bool → Bool
+crsOn g l n f = (leb 1 (g .cports) && port0 l n f) || ((leb 2 (g .cports) && port1 l n f) || (leb 4 (g .cports) && ports2and3 l n f))
 
 unfoldable pub crs : Layout → ℕ → ℕ → Bool
-crs g l k = (leb 1 (g .cports) && port0 g l k) || ((leb 2 (g .cports) && port1 g l k) || (leb 4 (g .cports) && ports2and3 g l k))
+crs g l k = crsOn g l (near g k) (far g k)
 
 abbrev pub reference : Layout → ℕ → ℕ → Bool
 reference g l k = nrs g l k || crs g l k

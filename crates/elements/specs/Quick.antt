@@ -1,5 +1,5 @@
 -- What the quick code's own functions say. No definition of 01 cites this file.
-use mathlib.Core.Bool.{Bool}
+use mathlib.Core.Bool.{Bool, _||_}
 use mathlib.Core.List.{List, [], _∷_}
 use mathlib.Core.Path.{_≡_}
 use Prim.Native.Nat.{ℕ, _+_, _*_, _^_, _<_}
@@ -8,7 +8,7 @@ use mir.Val.{boolByte}
 use Rattle.counting.specs.Bits.{bitAt}
 use Rattle.grid.specs.Grid.{subcarriers, symbols, slots}
 use Rattle.elements.specs.declared.Layout.{Layout}
-use Rattle.elements.specs.Elements.{used}
+use Rattle.elements.specs.Elements.{nrsOn, crsOn, used}
 
 -- a row is a symbol of a slot: row slot * symbols + l
 abbrev pub rows : ℕ
@@ -19,7 +19,11 @@ pub record RowMask (g : Layout) (from width row m : ℕ) : Type 0 where
   pub small : m < 2 ^ subcarriers
   pub bits : (k : ℕ) → k < subcarriers → bitAt m k ≡ used g from width (subcarriers * row + k)
 
--- six subcarriers, where references may lie at v (near) and three on from v (far): digit 1 where none lies
+-- a reference of either kind lies on symbol l, near or far
+abbrev pub referenceOn : Layout → ℕ → Bool → Bool → Bool
+referenceOn g l n f = nrsOn g l n f || crsOn g l n f
+
+-- six subcarriers by binary digits, 1 where no reference lies; a: references lie near, b: far
 abbrev pub frees : List (List ℕ)
 frees =
     (63 ∷ 63 ∷ 63 ∷ 63 ∷ 63 ∷ 63 ∷ [])

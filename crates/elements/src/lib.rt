@@ -3,8 +3,8 @@ ghost use mathlib.Core.Path.{_≡_};
 ghost use Prim.Native.Nat.{_+_, _*_, _<_, _≤_};
 ghost use mir.Val.{boolByte};
 ghost use Rattle.grid.specs.Grid.{subcarriers, elements, slotOf, symbolOf, subcarrierOf};
-ghost use Rattle.elements.specs.Elements.{nrs, crs, reference, controlRegion, inPart, used, kindOf, countOf, elementAt, numberOf, Valid, Part};
-ghost use Rattle.elements.specs.Quick.{rows, freeOf, RowMask};
+ghost use Rattle.elements.specs.Elements.{nrsOn, crsOn, controlRegion, inPart, used, kindOf, countOf, elementAt, numberOf, npdcchFrom, npdcchWidth, Valid, Part};
+ghost use Rattle.elements.specs.Quick.{rows, referenceOn, freeOf, RowMask};
 use grid::Grid;
 
 // The layout of a subframe, apart from the cell: identity mod 6, narrowband and cell reference ports, control region.
@@ -18,6 +18,8 @@ pub struct Layout {
 // A symbol of a slot is a row of the grid.
 const ROWS: u64 = Grid::SLOTS * Grid::SYMBOLS;
 
+const NCCE_WIDTH: u64 = 6;
+
 // Six subcarriers by binary digits, 1 where no reference lies: none, at v, three on from v, at both; each for v 0 to 5.
 const FREE: [[u64; 6]; 4] = [
     [63, 63, 63, 63, 63, 63],
@@ -26,34 +28,29 @@ const FREE: [[u64; 6]; 4] = [
     [54, 45, 27, 54, 45, 27],
 ];
 
-fn is_nrs(g: Layout, l: u64, k: u64) -> bool
-    requires { ⌜ g .v < 6 ⌝ }
-    ensures { λ r. ⌜ r ≡ nrs g l k ⌝ }
+// A narrowband reference lies on symbol l, near or far.
+fn nrs_on(g: Layout, l: u64, near: bool, far: bool) -> bool
+    ensures { λ r. ⌜ r ≡ nrsOn g l near far ⌝ }
 {
-    let near = k % 6 == g.v;
-    let far = k % 6 == (g.v + 3) % 6;
     let first = ((l == 5) & near) | ((l == 6) & far);
     let second = ((l == 5) & far) | ((l == 6) & near);
     first | ((2 <= g.nports) & second)
 }
 
-fn is_crs(g: Layout, l: u64, k: u64) -> bool
-    requires { ⌜ g .v < 6 ⌝ }
-    ensures { λ r. ⌜ r ≡ crs g l k ⌝ }
+// A cell reference lies on symbol l, near or far.
+fn crs_on(g: Layout, l: u64, near: bool, far: bool) -> bool
+    ensures { λ r. ⌜ r ≡ crsOn g l near far ⌝ }
 {
-    let near = k % 6 == g.v;
-    let far = k % 6 == (g.v + 3) % 6;
     let first = ((l == 0) & near) | ((l == 4) & far);
     let second = ((l == 0) & far) | ((l == 4) & near);
     let others = (l == 1) & (near | far);
     ((1 <= g.cports) & first) | (((2 <= g.cports) & second) | ((4 <= g.cports) & others))
 }
 
-fn is_reference(g: Layout, l: u64, k: u64) -> bool
-    requires { ⌜ g .v < 6 ⌝ }
-    ensures { λ r. ⌜ r ≡ reference g l k ⌝ }
+fn reference_on(g: Layout, l: u64, near: bool, far: bool) -> bool
+    ensures { λ r. ⌜ r ≡ referenceOn g l near far ⌝ }
 {
-    is_nrs(g, l, k) | is_crs(g, l, k)
+    nrs_on(g, l, near, far) | crs_on(g, l, near, far)
 }
 
 fn in_control(g: Layout, slot: u64, l: u64) -> bool
@@ -95,11 +92,11 @@ fn row_mask(g: Layout, from: u64, width: u64, row: u64) -> u64
     if in_control(g, row / Grid::SYMBOLS, l) {
         return 0;
     }
-    let near = is_reference(g, l, v);
-    let far = is_reference(g, l, (v + 3) % 6);
+    let near = reference_on(g, l, true, false);
+    let far = reference_on(g, l, false, true);
     let six = free(v, near, far);
     let lower = one(in_part(from, width, 0));
-    let upper = one(in_part(from, width, 6));
+    let upper = one(in_part(from, width, NCCE_WIDTH));
     six * (lower + 64 * upper)
 }
 
@@ -169,5 +166,27 @@ pub fn kind(g: Layout, x: u64) -> u64
 {
     let l = Grid::symbol(x);
     let k = Grid::subcarrier(x);
-    one(is_nrs(g, l, k)) + 2 * one(is_crs(g, l, k))
+    let near = k % 6 == g.v;
+    let far = k % 6 == (g.v + 3) % 6;
+    one(nrs_on(g, l, near, far)) + 2 * one(crs_on(g, l, near, far))
+}
+
+// NPDCCH format 0 uses one NCCE, format 1 both: the first subcarrier, and how many.
+pub fn npdcch_from(format: u64, ncce: u64) -> u64
+    requires { ⌜ ncce ≤ 1 ⌝ }
+    ensures { λ r. ⌜ r ≡ npdcchFrom format ncce ⌝ }
+{
+    if format == 0 {
+        return NCCE_WIDTH * ncce;
+    }
+    0
+}
+
+pub fn npdcch_width(format: u64) -> u64
+    ensures { λ r. ⌜ r ≡ npdcchWidth format ⌝ }
+{
+    if format == 0 {
+        return NCCE_WIDTH;
+    }
+    Grid::SUBCARRIERS
 }

@@ -23,13 +23,12 @@ made c =
     let r = f .before .before in
     let s = start c in
     row-open (s .args .g) (s .args .from) (s .args .width) (s .args .row) (s .pre .2) (s .pre .0 .shift) (s .pre .1)
-    (sym (r .before .before .in-control .ensures) ∙ r .before .if1 .left) _ _ _ _ _ _ _ (r .is-reference .ensures)
-    (f .before .is-reference2 .ensures) (f .free .ensures) (c .before .before .before .in-part .ensures) (c .before .before .one .ensures .0)
+    (sym (r .before .before .in-control .ensures) ∙ r .before .if1 .left) _ _ _ _ _ _ _ (r .reference-on .ensures)
+    (f .before .reference-on2 .ensures) (f .free .ensures) (c .before .before .before .in-part .ensures) (c .before .before .one .ensures .0)
     (c .before .in-part2 .ensures) (c .one2 .ensures .0)
 
 pub row-mask-spec : {M : Type 1} → statement M
 row-mask-spec =
     tie.close
-    (tie.spec (λ c κs. tt) returns (λ c κs. search needs) (λ c. search needs) (λ c κs. search needs) (λ c κs. search needs)
-    (λ c κs. search needs) (λ c κs. tt) (λ c κs. search needs) (λ c κs. tt) (λ c. search needs) (λ c. search needs)
-    (λ c. omega (arith, made c .small)) made)
+    (tie.spec (λ c κs. tt) returns (λ c κs. tt) (λ c κs. tt) (λ c κs. search needs) (λ c κs. search needs) (λ c κs. tt)
+    (λ c κs. search needs) (λ c κs. tt) (λ c. search needs) (λ c. search needs) (λ c. omega (arith, made c .small)) made)

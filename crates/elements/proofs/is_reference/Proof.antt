@@ -1,7 +1,0 @@
-use borrow.Author.Needs.{needs}
-use Rattle.elements.proofs.is_reference.Statement.{statement}
-use Rattle.elements.proofs.is_reference.Tie as tie
-
-pub is-reference-spec : {M : Type 1} → statement M
-is-reference-spec =
-    tie.close (tie.spec (λ c κs. search needs) (λ c κs. search needs) (λ c. simp (c .is-crs .ensures, c .before .is-nrs .ensures)))
