@@ -5,7 +5,7 @@ use mathlib.Core.Logic.{⊎-elim}
 use Prim.Native.Nat.{ℕ, _+_, _*_, _/_, _%_, _^_, _≤_, _<_}
 use native.Mathlib.Omega.{arith}
 use lib.Count.{ones}
-use lib.Dec.{T, eqb, ltb, leb, leb→le}
+use lib.Dec.{T, eqb, ltb, leb, leb→le, eqb→eq}
 use mir.Val.{boolByte}
 use borrow.Author.Tests.{eqb-true, ne-eqb, lt-ltb}
 use Rattle.counting.specs.Counting.{rank}
@@ -26,6 +26,32 @@ and-false false = refl
 or-false : (a : Bool) → (a || false) ≡ a
 or-false true = refl
 or-false false = refl
+
+-- ---- a test computed at both answers holds at each
+
+left : (a b : Bool) → T (a && b) → T a
+left true b t = tt
+left false b t = t
+
+right : (a b : Bool) → T (a && b) → T b
+right true b t = t
+right false b t = absurd t
+
+abbrev every : (Bool → Bool) → Bool
+every f = f true && f false
+
+every-at : (f : Bool → Bool) → T (every f) → (b : Bool) → T (f b)
+every-at f t true = left (f true) (f false) t
+every-at f t false = right (f true) (f false) t
+
+abbrev every4 : (Bool → Bool → Bool → Bool → Bool) → Bool
+every4 f = every (λ a. every (λ b. every (λ c. every (f a b c))))
+
+every4-at : (f : Bool → Bool → Bool → Bool → Bool) → T (every4 f) → (a b c d : Bool) → T (f a b c d)
+every4-at f t a b c d =
+    every-at (f a b c)
+    (every-at (λ c. every (f a b c))
+    (every-at (λ b. every (λ c. every (f a b c))) (every-at (λ a. every (λ b. every (λ c. every (f a b c)))) t a) b) c) d
 
 -- ---- the references of a symbol from what lies near (a) and what lies far (b)
 
@@ -68,6 +94,27 @@ part-halves from width h k l =
     alike-eq (inPart from width k) (cond (ltb k 6) (inPart from width 0) (inPart from width 6))
     (each-at subcarriers (halved from width) (parts (λ f w. T (each subcarriers (halved f w))) tt tt tt from width h) k l)
 
+-- ---- the digits that near and far references take
+
+one-shifted : T (every (λ b. each 6 (λ i. eqb (boolByte b * 2 ^ i % 2 ^ 64) (boolByte b * 2 ^ i))))
+one-shifted = tt
+
+pub shifted : (b : Bool) (d i : ℕ) → d ≡ boolByte b → i < 6 → d * 2 ^ i % 2 ^ 64 ≡ boolByte b * 2 ^ i
+shifted b d i e h =
+    let t = every-at (λ b. each 6 (λ i. eqb (boolByte b * 2 ^ i % 2 ^ 64) (boolByte b * 2 ^ i))) one-shifted b in
+    rw e (eqb→eq (boolByte b * 2 ^ i % 2 ^ 64) (boolByte b * 2 ^ i) (each-at 6 (λ i. eqb (boolByte b * 2 ^ i % 2 ^ 64) (boolByte b * 2 ^ i)) t i h))
+
+abbrev fit : Bool → Bool → ℕ → Bool
+fit a b v = leb (boolByte a * 2 ^ v + boolByte b * 2 ^ ((v + 3) % 6)) 63
+
+both-fit : T (every (λ a. every (λ b. each 6 (fit a b))))
+both-fit = tt
+
+pub free-fits : (a b : Bool) (v : ℕ) → v < 6 → boolByte a * 2 ^ v + boolByte b * 2 ^ ((v + 3) % 6) ≤ 63
+free-fits a b v h =
+    leb→le (boolByte a * 2 ^ v + boolByte b * 2 ^ ((v + 3) % 6)) 63
+    (each-at 6 (fit a b) (every-at (λ b. each 6 (fit a b)) (every-at (λ a. every (λ b. each 6 (fit a b))) both-fit a) b) v h)
+
 -- ---- the mask of a row from its four answers, by one computed test
 
 abbrev maskOf : ℕ → Bool → Bool → Bool → Bool → ℕ
@@ -79,31 +126,6 @@ digitOf v a b lower upper k = not ((eqb (k % 6) v && a) || (eqb (k % 6) ((v + 3)
 abbrev masked : Bool → Bool → Bool → Bool → ℕ → Bool
 masked a b lower upper v =
     leb (maskOf v a b lower upper) 4095 && each subcarriers (λ k. alike (bitAt (maskOf v a b lower upper) k) (digitOf v a b lower upper k))
-
-left : (a b : Bool) → T (a && b) → T a
-left true b t = tt
-left false b t = t
-
-right : (a b : Bool) → T (a && b) → T b
-right true b t = t
-right false b t = absurd t
-
--- a test at both answers
-abbrev every : (Bool → Bool) → Bool
-every f = f true && f false
-
-every-at : (f : Bool → Bool) → T (every f) → (b : Bool) → T (f b)
-every-at f t true = left (f true) (f false) t
-every-at f t false = right (f true) (f false) t
-
-abbrev every4 : (Bool → Bool → Bool → Bool → Bool) → Bool
-every4 f = every (λ a. every (λ b. every (λ c. every (f a b c))))
-
-every4-at : (f : Bool → Bool → Bool → Bool → Bool) → T (every4 f) → (a b c d : Bool) → T (f a b c d)
-every4-at f t a b c d =
-    every-at (f a b c)
-    (every-at (λ c. every (f a b c))
-    (every-at (λ b. every (λ c. every (f a b c))) (every-at (λ a. every (λ b. every (λ c. every (f a b c)))) t a) b) c) d
 
 table : T (every4 (λ a b c d. each 6 (masked a b c d)))
 table = tt

@@ -1,9 +1,7 @@
 -- What the quick code's own functions say. No definition of 01 cites this file.
 use mathlib.Core.Bool.{Bool, _||_}
-use mathlib.Core.List.{List, [], _∷_}
 use mathlib.Core.Path.{_≡_}
-use Prim.Native.Nat.{ℕ, _+_, _*_, _^_, _<_}
-use lib.ListN.{getD}
+use Prim.Native.Nat.{ℕ, _+_, _-_, _*_, _%_, _^_, _<_}
 use mir.Val.{boolByte}
 use Rattle.counting.specs.Bits.{bitAt}
 use Rattle.grid.specs.Grid.{subcarriers, symbols, slots}
@@ -24,13 +22,5 @@ abbrev pub referenceOn : Layout → ℕ → Bool → Bool → Bool
 referenceOn g l n f = nrsOn g l n f || crsOn g l n f
 
 -- six subcarriers by binary digits, 1 where no reference lies; a: references lie near, b: far
-abbrev pub frees : List (List ℕ)
-frees =
-    (63 ∷ 63 ∷ 63 ∷ 63 ∷ 63 ∷ 63 ∷ [])
-    ∷ (62 ∷ 61 ∷ 59 ∷ 55 ∷ 47 ∷ 31 ∷ [])
-    ∷ (55 ∷ 47 ∷ 31 ∷ 62 ∷ 61 ∷ 59 ∷ [])
-    ∷ (54 ∷ 45 ∷ 27 ∷ 54 ∷ 45 ∷ 27 ∷ [])
-    ∷ []
-
 abbrev pub freeOf : ℕ → Bool → Bool → ℕ
-freeOf v a b = getD (getD frees (boolByte a + 2 * boolByte b) []) v 0
+freeOf v a b = 63 - boolByte a * 2 ^ v - boolByte b * 2 ^ ((v + 3) % 6)

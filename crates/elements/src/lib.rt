@@ -20,14 +20,6 @@ const ROWS: u64 = Grid::SLOTS * Grid::SYMBOLS;
 
 const NCCE_WIDTH: u64 = 6;
 
-// Six subcarriers by binary digits, 1 where no reference lies: none, at v, three on from v, at both; each for v 0 to 5.
-const FREE: [[u64; 6]; 4] = [
-    [63, 63, 63, 63, 63, 63],
-    [62, 61, 59, 55, 47, 31],
-    [55, 47, 31, 62, 61, 59],
-    [54, 45, 27, 54, 45, 27],
-];
-
 // A narrowband reference lies on symbol l, near or far.
 fn nrs_on(g: Layout, l: u64, near: bool, far: bool) -> bool
     ensures { λ r. ⌜ r ≡ nrsOn g l near far ⌝ }
@@ -73,13 +65,12 @@ fn one(b: bool) -> u64
     b as u64
 }
 
-// The free ones of six subcarriers.
+// Six subcarriers by binary digits, 1 where no reference lies: near ones take digit v, far ones (v + 3) mod 6.
 fn free(v: u64, near: bool, far: bool) -> u64
     requires { ⌜ v < 6 ⌝ }
     ensures { λ r. ⌜ r ≡ freeOf v near far ⌝ }
 {
-    let at = one(near) + 2 * one(far);
-    FREE[at as usize][v as usize]
+    63 - (one(near) << v) - (one(far) << ((v + 3) % 6))
 }
 
 // The used subcarriers of a row, by binary digits: its two halves are alike.
