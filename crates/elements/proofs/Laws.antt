@@ -12,7 +12,8 @@ use Rattle.counting.proofs.Select.{lists-below}
 use Rattle.grid.specs.Grid.{subcarriers, symbols, elements, elementOf, slotOf, symbolOf, subcarrierOf}
 use Rattle.elements.specs.declared.Layout.{Layout}
 use Rattle.elements.specs.Elements.{nrs, crs, reference, controlRegion, eligible, inPart, used, kindOf, countOf, elementAt, numberOf, ncceWidth, npdcchFrom, npdcchWidth, Part}
-use Rattle.elements.proofs.Rows.{and-false, row-used}
+use Rattle.elements.proofs.Masks.{and-false}
+use Rattle.elements.proofs.Rows.{row-used}
 
 -- x lies in the grid and in the part, and carries no reference and no control
 pub record Clear (g : Layout) (from width x : ℕ) : Type 0 where
@@ -60,6 +61,9 @@ module _ (g : Layout) (from width : ℕ) where
 
   pub used-listed : Lists (countOf g from width) (elementAt g from width) (used g from width) (numberOf g from width)
   used-listed = lists-below (used g from width) elements used-below
+
+  pub element-below : (e : ℕ) → e < countOf g from width → elementAt g from width e < elements
+  element-below e h = used-below (elementAt g from width e) (used-listed .passes e h)
 
   pub count-le : countOf g from width ≤ elements
   count-le = rank-le (used g from width) elements

@@ -9,14 +9,14 @@ use Rattle.counting.specs.Counting.{rank, select}
 use Rattle.grid.specs.Grid.{subcarriers, elements, slotOf, symbolOf, subcarrierOf}
 use Rattle.elements.specs.declared.Layout.{Layout}
 
--- a layout of an accepted cell: v is the identity mod 6; no cell reference and no control region but in-band
+-- a layout that an accepted cell can have: v is the identity mod 6; 1 or 2 narrowband ports; 0, 1, 2 or 4 cell ports; control region 0 to 3
 pub record Valid (g : Layout) : Type 0 where
   pub shift : g .v < 6
   pub narrowband : (1 ≤ g .nports) × (g .nports ≤ 2)
   pub cell : (g .cports ≤ 4) × (g .cports ≡ 3 → ⊥)
   pub region : g .control ≤ 3
 
--- ---- reference signals, in each slot, at every sixth subcarrier: near where k mod 6 is v, far where it is (v + 3) mod 6
+-- ---- reference signals, in each slot, at every sixth subcarrier: near, k mod 6 = v, or far, k mod 6 = (v + 3) mod 6
 
 abbrev pub near : Layout → ℕ → Bool
 near g k = eqb (k % 6) (g .v)
@@ -24,7 +24,8 @@ near g k = eqb (k % 6) (g .v)
 abbrev pub far : Layout → ℕ → Bool
 far g k = eqb (k % 6) ((g .v + 3) % 6)
 
--- narrowband reference signal (clause 10.2.6.2): port 2000 near at l = 5 and far at l = 6; port 2001 the other way round
+-- narrowband reference signal (clause 10.2.6.2): port 2000 at l = 5 near and at l = 6 far; port 2001 the other way round
+-- (n: the subcarrier is near, f: it is far)
 abbrev pub port2000 : ℕ → Bool → Bool → Bool
 port2000 l n f = (eqb l 5 && n) || (eqb l 6 && f)
 
@@ -37,7 +38,8 @@ nrsOn g l n f = port2000 l n f || (leb 2 (g .nports) && port2001 l n f)
 unfoldable pub nrs : Layout → ℕ → ℕ → Bool
 nrs g l k = nrsOn g l (near g k) (far g k)
 
--- cell reference signal (clause 6.10.1.2): port 0 near at l = 0 and far at l = 4; port 1 the other way round; ports 2 and 3 together both at l = 1
+-- cell reference signal (clause 6.10.1.2): port 0 at l = 0 near and at l = 4 far; port 1 the other way round;
+-- ports 2 and 3 together at l = 1 near and far
 abbrev pub port0 : ℕ → Bool → Bool → Bool
 port0 l n f = (eqb l 0 && n) || (eqb l 4 && f)
 
@@ -60,7 +62,7 @@ reference g l k = nrs g l k || crs g l k
 unfoldable pub kindOf : Layout → ℕ → ℕ
 kindOf g x = boolByte (nrs g (symbolOf x) (subcarrierOf x)) + 2 * boolByte (crs g (symbolOf x) (subcarrierOf x))
 
--- ---- elements that carry data (clauses 10.2.3.4 and 10.2.5.5)
+-- ---- elements that carry data (clause 10.2.3.4 for NPDSCH, 10.2.5.5 for NPDCCH)
 
 -- the control region: the first symbols of the first slot
 abbrev pub controlRegion : Layout → ℕ → ℕ → Bool
@@ -79,7 +81,7 @@ inPart from width k = leb from k && ltb k (from + width)
 unfoldable pub used : Layout → ℕ → ℕ → ℕ → Bool
 used g from width x = eligible g x && inPart from width (subcarrierOf x)
 
--- E, the e-th used element, and how many used ones lie before x: in the order of the element numbers
+-- E, the e-th used element, and the number of an element: how many used ones come before it, by slot, then l, then k
 abbrev pub countOf : Layout → ℕ → ℕ → ℕ
 countOf g from width = rank (used g from width) elements
 

@@ -1,9 +1,9 @@
 // Which elements of a downlink subframe carry data, counted row by row.
 ghost use mathlib.Core.Path.{_≡_};
-ghost use Prim.Native.Nat.{_+_, _*_, _<_, _≤_};
+ghost use Prim.Native.Nat.{_*_, _<_, _≤_};
 ghost use mir.Val.{boolByte};
-ghost use Rattle.grid.specs.Grid.{subcarriers, elements, slotOf, symbolOf, subcarrierOf};
-ghost use Rattle.elements.specs.Elements.{nrsOn, crsOn, controlRegion, inPart, used, kindOf, countOf, elementAt, numberOf, npdcchFrom, npdcchWidth, Valid, Part};
+ghost use Rattle.grid.specs.Grid.{subcarriers, elements};
+ghost use Rattle.elements.specs.Elements.{near, far, nrsOn, crsOn, controlRegion, inPart, used, kindOf, countOf, elementAt, numberOf, npdcchFrom, npdcchWidth, Valid, Part};
 ghost use Rattle.elements.specs.Quick.{rows, referenceOn, freeOf, RowMask};
 use grid::Grid;
 
@@ -19,6 +19,19 @@ pub struct Layout {
 const ROWS: u64 = Grid::SLOTS * Grid::SYMBOLS;
 
 const NCCE_WIDTH: u64 = 6;
+
+fn is_near(g: Layout, k: u64) -> bool
+    ensures { λ r. ⌜ r ≡ near g k ⌝ }
+{
+    k % 6 == g.v
+}
+
+fn is_far(g: Layout, k: u64) -> bool
+    requires { ⌜ g .v < 6 ⌝ }
+    ensures { λ r. ⌜ r ≡ far g k ⌝ }
+{
+    k % 6 == (g.v + 3) % 6
+}
 
 // A narrowband reference lies on symbol l, near or far.
 fn nrs_on(g: Layout, l: u64, near: bool, far: bool) -> bool
@@ -157,8 +170,8 @@ pub fn kind(g: Layout, x: u64) -> u64
 {
     let l = Grid::symbol(x);
     let k = Grid::subcarrier(x);
-    let near = k % 6 == g.v;
-    let far = k % 6 == (g.v + 3) % 6;
+    let near = is_near(g, k);
+    let far = is_far(g, k);
     one(nrs_on(g, l, near, far)) + 2 * one(crs_on(g, l, near, far))
 }
 

@@ -3,7 +3,7 @@ use mathlib.Core.Path.{_≡_}
 use native.Mathlib.Omega.{arith}
 use mir.Val.{boolByte}
 use borrow.Author.Needs.{needs}
-use Rattle.elements.proofs.Rows.{shifted, free-fits}
+use Rattle.elements.proofs.Masks.{shifted, free-fits}
 use Rattle.elements.proofs.free.Statement.{statement}
 use Rattle.elements.proofs.free.Tie as tie
 

@@ -7,11 +7,21 @@ returns : tie.Need-returns
 unfolding kindOf nrs crs
 returns c =
     let n = c .before .before in
-    let k = n .before .before .before .before in
-    simp (c .one2 .ensures .0, c .before .crs-on .ensures, n .one .ensures .0, n .before .nrs-on .ensures, k .subcarrier .ensures, k .before .symbol .ensures)
+    let f = n .before .before in
+    let k = f .before .before in
+    simp (
+      c .one2 .ensures .0,
+      c .before .crs-on .ensures,
+      n .one .ensures .0,
+      n .before .nrs-on .ensures,
+      f .is-far .ensures,
+      f .before .is-near .ensures,
+      k .subcarrier .ensures,
+      k .before .symbol .ensures,
+    )
 
 pub kind-spec : {M : Type 1} → statement M
 kind-spec =
     tie.close
-    (tie.spec (λ c κs. tt) (λ c κs. tt) (λ c. search needs) (λ c κs. tt) (λ c κs. tt) (λ c κs. tt) (λ c κs. tt) (λ c. search needs) (λ c. search needs)
-    returns)
+    (tie.spec (λ c κs. tt) (λ c κs. tt) (λ c κs. tt) (λ c κs. search needs) (λ c κs. tt) (λ c κs. tt) (λ c κs. tt) (λ c κs. tt) (λ c. search needs)
+    (λ c. search needs) returns)

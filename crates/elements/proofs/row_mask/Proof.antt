@@ -1,16 +1,22 @@
-use Prim.Native.Nat.{_+_, _*_}
-use mathlib.Core.Path.{sym, _∙_}
+use Prim.Native.Nat.{_+_, _*_, _/_, _%_}
+use mathlib.Core.Path.{_≡_, sym, _∙_}
 use native.Mathlib.Omega.{arith}
 use borrow.Author.Needs.{needs}
+use Rattle.grid.specs.Grid.{symbols}
+use Rattle.elements.specs.Elements.{controlRegion}
 use Rattle.elements.specs.Quick.{RowMask}
 use Rattle.elements.proofs.Rows.{row-closed, row-open}
 use Rattle.elements.proofs.row_mask.Statement.{statement}
 use Rattle.elements.proofs.row_mask.Tie as tie
 
+control : (c : tie.After-in-control) →
+    c .in-control .result ≡ controlRegion (c .before .args .g) (c .before .args .row / symbols) (c .before .args .row % symbols)
+control c = c .in-control .ensures
+
 returns : tie.Need-returns
 returns c =
     let s = c .before .before in
-    row-closed (s .args .g) _ _ _ (s .pre .2) (sym (c .before .in-control .ensures) ∙ c .if1 .taken)
+    row-closed (s .args .g) _ _ _ (s .pre .2) (sym (control (c .before)) ∙ c .if1 .taken)
 
 abbrev start : tie.After-one2 → tie.Start
 start c = c .before .before .before .before .before .before .before .before .before
@@ -23,7 +29,7 @@ made c =
     let r = f .before .before in
     let s = start c in
     row-open (s .args .g) (s .args .from) (s .args .width) (s .args .row) (s .pre .2) (s .pre .0 .shift) (s .pre .1)
-    (sym (r .before .before .in-control .ensures) ∙ r .before .if1 .left) _ _ _ _ _ _ _ (r .reference-on .ensures)
+    (sym (control (r .before .before)) ∙ r .before .if1 .left) _ _ _ _ _ _ _ (r .reference-on .ensures)
     (f .before .reference-on2 .ensures) (f .free .ensures) (c .before .before .before .in-part .ensures) (c .before .before .one .ensures .0)
     (c .before .in-part2 .ensures) (c .one2 .ensures .0)
 
