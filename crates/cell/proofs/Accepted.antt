@@ -8,12 +8,10 @@ use native.Mathlib.Omega.{arith}
 use lib.Dec.{eqb, ltb, leb}
 use lib.ListN.{length, take}
 use borrow.Author.Tests.{ltb-false, eqb-true, leb-true, not-false, eq-eqb, ne-eqb}
-use Rattle.counting.specs.Counting.{rank}
 use Rattle.counting.proofs.Facts.{passed, chained, both-parts, either-parts, either-case}
 use Rattle.cell.specs.declared.Cell.{Cell}
 use Rattle.cell.specs.Bitmap.{ownBuffer, bytesOf, listedLength, spareSet, bitmapIn, badBitmap}
-use Rattle.cell.specs.Usable.{period, usable}
-use Rattle.cell.specs.Judge.{inBand, cellPortsListed, controlListed, numbersRefusal, formRefusal, cellRefusal, judgeOf, inForceOf}
+use Rattle.cell.specs.Judge.{inBand, cellPortsListed, controlListed, numbersRefusal, formRefusal, noneUsable, cellRefusal, judgeOf, inForceOf}
 use Rattle.cell.specs.Quick.{BitmapFits}
 
 pub record WellFormed (c : Cell) : Type 0 where
@@ -77,7 +75,7 @@ module _ (c : Cell) (own : List ℕ) where
   -- an accepted cell is well-formed
   pub accepted-form : cellRefusal c own ≡ 0 → formRefusal c own ≡ 0
   unfolding cellRefusal
-  accepted-form e = chained (formRefusal c own) (cond (eqb (rank (usable c (bitmapIn c own)) period) 0) 8 0) e .0
+  accepted-form e = chained (formRefusal c own) (cond (noneUsable c own) 8 0) e .0
 
 -- ---- the bitmap in force
 

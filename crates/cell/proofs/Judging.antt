@@ -13,7 +13,7 @@ use Rattle.cell.specs.declared.Cell.{Cell}
 use Rattle.cell.specs.declared.Verdict.{Verdict}
 use Rattle.cell.specs.Bitmap.{bitmapIn}
 use Rattle.cell.specs.Usable.{period, usable}
-use Rattle.cell.specs.Judge.{formRefusal, cellRefusal}
+use Rattle.cell.specs.Judge.{formRefusal, noneUsable, cellRefusal}
 use Rattle.cell.specs.Quick.{Shows, VerdictOn}
 use Rattle.cell.proofs.Showing.{some-usable, none-usable}
 
@@ -25,14 +25,14 @@ module _ (c : Cell) (own : List ℕ) where
   pub refused-form : (r : Verdict) → r .no ≡ formRefusal c own → (r .no ≡ 0 → ⊥) → VerdictOn c own r
   unfolding cellRefusal
   refused-form r e n = record {
-    number = e ∙ sym (ap (λ (b : Bool). cond b (cond (eqb (rank (usable c (bitmapIn c own)) period) 0) 8 0) (formRefusal c own)) (ne-eqb (formRefusal c own) 0 (λ z. n (e ∙ z))));
+    number = e ∙ sym (ap (λ (b : Bool). cond b (cond (noneUsable c own) 8 0) (formRefusal c own)) (ne-eqb (formRefusal c own) 0 (λ z. n (e ∙ z))));
     shows = λ z. absurd (n z);
     some = λ z. absurd (n z);
   }
 
-  well : (x : ℕ) → formRefusal c own ≡ 0 → cond (eqb (rank (usable c (bitmapIn c own)) period) 0) 8 0 ≡ x → cellRefusal c own ≡ x
+  well : (x : ℕ) → formRefusal c own ≡ 0 → cond (noneUsable c own) 8 0 ≡ x → cellRefusal c own ≡ x
   unfolding cellRefusal
-  well x f e = ap (λ (b : Bool). cond b (cond (eqb (rank (usable c (bitmapIn c own)) period) 0) 8 0) (formRefusal c own)) (eq-eqb (formRefusal c own) 0 f) ∙ e
+  well x f e = ap (λ (b : Bool). cond b (cond (noneUsable c own) 8 0) (formRefusal c own)) (eq-eqb (formRefusal c own) 0 f) ∙ e
 
   pub refused-eight : (p : Pattern) (r : Verdict) → formRefusal c own ≡ 0 → Shows c (bitmapIn c own) p → rank (allows p) (periodOf p) ≡ 0 → r .no ≡ 8
       → VerdictOn c own r

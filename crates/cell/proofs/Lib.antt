@@ -3,3 +3,4 @@ pub mod Taken
 pub mod Accepted
 pub mod Showing
 pub mod Judging
+pub mod Cases

@@ -35,10 +35,12 @@ numbersRefusal c =
 unfoldable pub formRefusal : Cell → List ℕ → ℕ
 formRefusal c own = cond (eqb (numbersRefusal c) 0) (cond (badBitmap (c .bits) own) 7 0) (numbersRefusal c)
 
--- 8: no usable subframe in a period
+-- no usable subframe in a period
+abbrev pub noneUsable : Cell → List ℕ → Bool
+noneUsable c own = eqb (rank (usable c (bitmapIn c own)) period) 0
+
 unfoldable pub cellRefusal : Cell → List ℕ → ℕ
-cellRefusal c own =
-    cond (eqb (formRefusal c own) 0) (cond (eqb (rank (usable c (bitmapIn c own)) period) 0) 8 0) (formRefusal c own)
+cellRefusal c own = cond (eqb (formRefusal c own) 0) (cond (noneUsable c own) 8 0) (formRefusal c own)
 
 unfoldable pub judgeOf : Cell → List ℕ → List ℕ → ℕ
 judgeOf c anchor other = cellRefusal c (ownBuffer c anchor other)

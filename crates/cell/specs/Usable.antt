@@ -30,7 +30,7 @@ npss t = eqb (subframe t) 5
 
 -- subframe 9 of even frames
 abbrev pub nsss : ℕ → Bool
-nsss t = eqb (subframe t) 9 && even (frame t)
+nsss t = eqb (subframe t) 9 && eqb (frame t % 2) 0
 
 -- SIB1's copies and first frame, by schedule and identity (TS 36.213 tables 16.4.1.3-3 and 16.4.1.3-4)
 abbrev pub bySchedule : ℕ → ℕ → ℕ → ℕ → ℕ
