@@ -1,5 +1,6 @@
 pub mod Facts
 pub mod Rank
+pub mod Range
 pub mod Select
 pub mod Period
 pub mod Ones

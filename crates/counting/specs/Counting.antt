@@ -29,6 +29,10 @@ select u d f (suc j) = next u d (suc (select u d f j))
 unfoldable pub amongFirst : (ℕ → Bool) → ℕ → ℕ → ℕ → Bool
 amongFirst u f K t = leb f t && (u t && ltb (count u f (t - f)) K)
 
+-- x is one of the n numbers from a on
+abbrev pub inRange : ℕ → ℕ → ℕ → Bool
+inRange a n x = leb a x && ltb x (a + n)
+
 -- t is the j-th that passes from f on: it passes, and j in [f, t) do
 pub record Nth (u : ℕ → Bool) (f j t : ℕ) : Type 0 where
   pub late : f ≤ t
