@@ -1,18 +1,21 @@
 -- The ones of a mask are the numbers of a span that pass.
 use mathlib.Core.Bool.{Bool, true, false, _&&_}
 use mathlib.Core.Path.{_≡_, refl, sym, ap, ap₂, _∙_}
+use mathlib.Core.Logic.{_⊎_, inl, inr, ⊎-elim}
 use Prim.Native.Nat.{ℕ, zero, suc, _+_, _-_, _*_, _/_, _%_, _^_, _≤_, _<_}
-use native.Mathlib.Nat.{add-zero, zero-add, mod-lt, mod-eq-of-lt, mod-one, div-one, div-div-eq-div-mul, pow-succ', pow-suc}
+use native.Mathlib.Nat.{add-zero, zero-add, mod-lt, mod-eq-of-lt, mod-one, div-one, div-eq-of-lt, div-div-eq-div-mul, pow-succ'}
 use native.Mathlib.Numerals.{add-one}
 use native.Mathlib.Omega.{arith}
 use lib.Dec.{lit<, eqb}
 use lib.Bits.{bitAnd, and-shr, and-mod}
 use lib.Count.{ones, ones-cat}
-use lib.Pow.{mod-pow-add, shr-shr, pow-mono}
+use lib.Arith.{digits-lt}
+use lib.Pow.{mod-pow-add, mod-mod-pow, shr-shr, field, low, high, pow-mono, pow-add}
 use mir.Val.{boolByte}
 use borrow.Author.Tests.{eq-eqb}
 use Rattle.counting.specs.Counting.{rank, count}
 use Rattle.counting.specs.Bits.{bitAt, NthOne}
+use Rattle.counting.proofs.Facts.{order}
 use Rattle.counting.proofs.Rank.{rank-count, rank-on, count-same, count-from-zero}
 
 byte-digit : (d : ℕ) → d < 2 → boolByte (eqb d 1) ≡ d
@@ -93,7 +96,25 @@ and-bits m n i =
     ap (λ (x : ℕ). eqb (x % 2) 1) (and-shr m n i) ∙ ap (λ (x : ℕ). eqb x 1) (and-mod (m / 2 ^ i) (n / 2 ^ i) 1)
     ∙ both-digits (m / 2 ^ i % 2) (n / 2 ^ i % 2) (omega arith) (omega arith)
 
--- ---- a mask made digit by digit, from the top: m has the answers of v from i up to n
+-- ---- two masks one above the other: x has the w lowest digits
+
+module _ (y x w : ℕ) (small : x < 2 ^ w) where
+  front : (i : ℕ) → i < w → (y * 2 ^ w + x) % 2 ^ (1 + i) ≡ x % 2 ^ (1 + i)
+  front i h =
+      let e : w - (1 + i) + (1 + i) ≡ w = omega arith in
+      sym (mod-mod-pow (y * 2 ^ w + x) (w - (1 + i)) (1 + i))
+      ∙ ap (λ (j : ℕ). (y * 2 ^ w + x) % 2 ^ j % 2 ^ (1 + i)) e ∙ ap (λ (z : ℕ). z % 2 ^ (1 + i)) (low y w small)
+
+  pub low-digit : (i : ℕ) → i < w → bitAt (y * 2 ^ w + x) i ≡ bitAt x i
+  low-digit i h =
+      ap (λ (z : ℕ). eqb z 1)
+      (sym (field (y * 2 ^ w + x) 1 i) ∙ ap (λ (z : ℕ). z / 2 ^ i) (front i h) ∙ field x 1 i)
+
+  pub high-digit : (i : ℕ) → bitAt (y * 2 ^ w + x) (w + i) ≡ bitAt y i
+  high-digit i =
+      ap (λ (z : ℕ). eqb (z % 2) 1) (sym (shr-shr (y * 2 ^ w + x) w i) ∙ ap (λ (z : ℕ). z / 2 ^ i) (high y w small))
+
+-- ---- a mask made from the top, w digits at a time: m has the answers of v from i up to n
 
 pub record From (v : ℕ → Bool) (n i m : ℕ) : Type 0 where
   pub small : m < 2 ^ (n - i)
@@ -104,23 +125,26 @@ from-none v n =
     let e : n - n ≡ 0 = omega arith in
     record { small = rw e (omega arith); bits = λ x h. absurd (omega arith) }
 
-digit-next : (m d x : ℕ) → d < 2 → bitAt (m * 2 + d) (suc x) ≡ bitAt m x
-digit-next m d x h = bit-suc (m * 2 + d) x ∙ ap (λ (y : ℕ). bitAt y x) (omega arith)
-
-digit-zero : (m d : ℕ) → d < 2 → bitAt (m * 2 + d) 0 ≡ eqb d 1
-digit-zero m d h =
-    let e : (m * 2 + d) / 1 % 2 ≡ d = omega (arith, div-one (m * 2 + d)) in
-    ap (λ (y : ℕ). eqb y 1) e
-
--- one digit more, below
-pub from-on : (v : ℕ → Bool) (n i m d : ℕ) → i < n → d < 2 → eqb d 1 ≡ v i → From v n (i + 1) m → From v n i (m * 2 + d)
-from-on v n i m d l h e p =
-    let s : suc (n - (i + 1)) ≡ n - i = omega arith in
-    record { small = rw (← s, pow-suc 2 (n - (i + 1))) (omega (arith, p .small)); bits = at }
+pub from-more : (v : ℕ → Bool) (n i w m d : ℕ) → i + w ≤ n → d < 2 ^ w → ((x : ℕ) → x < w → bitAt d x ≡ v (i + x)) → From v n (i + w) m
+    → From v n i (m * 2 ^ w + d)
+from-more v n i w m d l h e p = record { small = rw (← s, pow-add 2 (n - (i + w)) w) (digits-lt (p .small) h); bits = λ x k. at x k (order x w) }
   where
-    at : (x : ℕ) → x < n - i → bitAt (m * 2 + d) x ≡ v (i + x)
-    at zero k = digit-zero m d h ∙ e ∙ ap v (sym (add-zero i))
-    at (suc x) k = digit-next m d x h ∙ p .bits x (omega arith) ∙ ap v (omega arith)
+    s : n - (i + w) + w ≡ n - i
+    s = omega arith
 
-pub from-bound : (v : ℕ → Bool) (n i m : ℕ) → From v n i m → m < 2 ^ n
-from-bound v n i m p = omega (arith, p .small, pow-mono {i = n - i} {j = n} (omega arith))
+    at : (x : ℕ) → x < n - i → (x < w) ⊎ (w ≤ x) → bitAt (m * 2 ^ w + d) x ≡ v (i + x)
+    at x k (inl a) = low-digit m d w h x a ∙ e x a
+    at x k (inr a) =
+        let f : w + (x - w) ≡ x = omega arith in
+        ap (bitAt (m * 2 ^ w + d)) (sym f) ∙ high-digit m d w h (x - w) ∙ p .bits (x - w) (omega arith) ∙ ap v (omega arith)
+
+-- a digit that is 1 lies below the width of its number
+pub one-below : (w m k r : ℕ) → m < 2 ^ w → NthOne m k r → r < w
+one-below w m k r h d = ⊎-elim (λ l. l) (λ l. absurd (none l)) (order r w)
+  where
+    none : w ≤ r → ⊥
+    none l =
+        let z : m / 2 ^ r % 2 ≡ 0 = ap (λ (x : ℕ). x % 2) (div-eq-of-lt {n = m} {m = 2 ^ r} (omega (arith, pow-mono {i = w} {j = r} l))) in
+        let f : true ≡ false = sym (d .set) ∙ ap (λ (x : ℕ). eqb x 1) z in
+        let g : _≡_ {A = ℕ} 0 1 = cc in
+        omega arith

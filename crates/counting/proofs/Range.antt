@@ -20,16 +20,16 @@ rank-all u s (suc n) h =
       rank-all u s n (λ i a b. h i a (omega (arith, add-suc s n))),
     )
 
+pub and-none : (b : Bool) → (b && false) ≡ false
+and-none true = refl
+and-none false = refl
+
 module _ (a n : ℕ) where
   pub in-range : (x : ℕ) → a ≤ x → x < a + n → inRange a n x ≡ true
   in-range x h k = rw (le-leb a x h, lt-ltb x (a + n) k) refl
 
   pub below-range : (x : ℕ) → x < a → inRange a n x ≡ false
   below-range x h = rw (lt-leb a x h) refl
-
-  and-none : (b : Bool) → (b && false) ≡ false
-  and-none true = refl
-  and-none false = refl
 
   pub above-range : (x : ℕ) → a + n ≤ x → inRange a n x ≡ false
   above-range x h = rw (le-ltb x (a + n) h) (and-none (leb a x))

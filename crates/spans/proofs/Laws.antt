@@ -1,0 +1,284 @@
+-- A regular pattern: how many subframes it allows before any span, and that it repeats.
+use mathlib.Core.Bool.{Bool, true, false, cond}
+use mathlib.Core.Path.{_≡_, refl, sym, ap, ap₂, _∙_, subst}
+use mathlib.Core.Logic.{⊎-elim}
+use Prim.Native.Nat.{ℕ, zero, suc, _+_, _-_, _*_, _/_, _%_, _^_, _≤_, _<_}
+use native.Mathlib.Nat.{add-mod-right, add-comm, zero-add, mod-eq-of-lt, mod-lt, add-mul, zero-mul, mul-zero, div-add-mod', div-lt-iff-lt-mul}
+use native.Mathlib.Omega.{arith}
+use lib.Count.{ones}
+use lib.Dec.{leb}
+use mir.Val.{boolByte}
+use borrow.Author.Tests.{le-leb, lt-leb, lt-ltb, le-ltb}
+use Rattle.counting.specs.Counting.{rank, count, select, amongFirst, inRange}
+use Rattle.counting.specs.Bits.{bitAt, NthOne}
+use Rattle.counting.proofs.Facts.{order}
+use Rattle.counting.proofs.Rank.{rank-zero, rank-suc, rank-le, rank-mono, rank-strict, rank-later, rank-same, count-between}
+use Rattle.counting.proofs.Range.{in-range, below-range, above-range, and-none, rank-before, rank-inside, rank-after}
+use Rattle.counting.proofs.Ones.{ones-low, span-part, span-whole, one-below}
+use Rattle.counting.proofs.Period.{rank-split, select-is, select-jump}
+use Rattle.spans.specs.declared.Pattern.{Pattern}
+use Rattle.spans.specs.declared.Found.{Found}
+use Rattle.spans.specs.declared.Found.the-variants.{At, Nothing}
+use Rattle.spans.specs.Pattern.{span, withSib1, maskAt, allows, periodOf, Regular, Landed, Picked, foundAt}
+
+-- digit i of a span's mask is its subframe i
+pub mask-bits : (p : Pattern) (s i : ℕ) → i < span → bitAt (maskAt p s) i ≡ allows p (span * s + i)
+unfolding allows
+mask-bits p s i h =
+    let q : (span * s + i) / span ≡ s = omega arith in
+    let r : (span * s + i) % span ≡ i = omega arith in
+    rw (q, r) refl
+
+module _ (p : Pattern) (ok : Regular p) where
+  some-spans : 0 < p .spans
+  some-spans = omega (arith, ok .fits)
+
+  -- ---- spans with SIB1
+
+  in-first-period : (x : ℕ) → x ≤ p .spans → rank (withSib1 p) x ≡ rank (inRange (p .first) 4) x
+  in-first-period x h = rank-same (withSib1 p) (inRange (p .first) 4) x (λ i l. ap (inRange (p .first) 4) (mod-eq-of-lt {n = i} {m = p .spans} (omega arith)))
+
+  four-a-period : rank (withSib1 p) (p .spans) ≡ 4
+  four-a-period =
+      let e : p .first + 4 + (p .spans - (p .first + 4)) ≡ p .spans = omega (arith, ok .fits) in
+      in-first-period (p .spans) (omega arith) ∙ ap (rank (inRange (p .first) 4)) (sym e) ∙ rank-after (p .first) 4 (p .spans - (p .first + 4))
+
+  pub sib1-split : (s : ℕ) → rank (withSib1 p) s ≡ s / p .spans * 4 + rank (inRange (p .first) 4) (s % p .spans)
+  sib1-split s =
+      rank-split (withSib1 p) (p .spans) (λ t. ap (inRange (p .first) 4) (add-mod-right t (p .spans))) s
+      ∙ ap₂ (λ (x y : ℕ). s / p .spans * x + y) four-a-period (in-first-period (s % p .spans) (omega (arith, mod-lt s some-spans)))
+
+  pub sib1-le : (s : ℕ) → rank (withSib1 p) s ≤ s
+  sib1-le s = rank-le (withSib1 p) s
+
+  -- ---- a span on
+
+  mask-small : (b : Bool) → cond b (p .sib1) (p .plain) < 2 ^ 40
+  mask-small true = ok .sib1-small
+  mask-small false = ok .plain-small
+
+  mask-ones : (b : Bool) → ones (cond b (p .sib1) (p .plain)) ≡ boolByte b * ones (p .sib1) + (1 - boolByte b) * ones (p .plain)
+  mask-ones true = omega arith
+  mask-ones false = omega arith
+
+  pub span-on : (s : ℕ) → rank (allows p) (span * s) + ones (maskAt p s) ≡ rank (allows p) (span * suc s)
+  span-on s =
+      let e : span * s + span ≡ span * suc s = omega arith in
+      span-whole (allows p) (maskAt p s) (span * s) span (mask-bits p s) (mask-small (withSib1 p s)) ∙ ap (rank (allows p)) e
+
+  pub span-front : (s i : ℕ) → i ≤ span → rank (allows p) (span * s) + ones (maskAt p s % 2 ^ i) ≡ rank (allows p) (span * s + i)
+  span-front s i h = span-part (allows p) (maskAt p s) (span * s) span (mask-bits p s) i h
+
+  step : (b : Bool) (h s r x y : ℕ) → h ≤ s → r ≡ h * x + (s - h) * y
+      → r + (boolByte b * x + (1 - boolByte b) * y) ≡ (h + boolByte b) * x + (suc s - (h + boolByte b)) * y
+  step true h s r x y l e =
+      let a : suc s - (h + 1) ≡ s - h = omega arith in
+      rw a (omega (arith, add-mul h 1 x))
+  step false h s r x y l e =
+      let a : suc s - (h + 0) ≡ (s - h) + 1 = omega arith in
+      rw a (omega (arith, add-mul (s - h) 1 y, add-mul h 0 x))
+
+  -- so many before span s, by the spans with SIB1 and those without
+  pub spans-rank : (s : ℕ) → rank (allows p) (span * s) ≡ rank (withSib1 p) s * ones (p .sib1) + (s - rank (withSib1 p) s) * ones (p .plain)
+  spans-rank zero = omega (arith, rank-zero (allows p), rank-zero (withSib1 p), ap (λ (h : ℕ). h * ones (p .sib1)) (rank-zero (withSib1 p)), zero-mul (ones (p .sib1)), ap (λ (h : ℕ). (0 - h) * ones (p .plain)) (rank-zero (withSib1 p)), zero-mul (ones (p .plain)))
+  spans-rank (suc s) =
+      sym (span-on s) ∙ ap (λ (x : ℕ). rank (allows p) (span * s) + x) (mask-ones (withSib1 p s))
+      ∙ step (withSib1 p s) (rank (withSib1 p) s) s (rank (allows p) (span * s)) (ones (p .sib1)) (ones (p .plain)) (sib1-le s) (spans-rank s)
+      ∙ ap (λ (h : ℕ). h * ones (p .sib1) + (suc s - h) * ones (p .plain)) (sym (rank-suc (withSib1 p) s))
+
+  -- ---- the period
+
+  pub repeats : (t : ℕ) → allows p (t + periodOf p) ≡ allows p t
+  unfolding allows
+  repeats t =
+      let q : (t + span * p .spans) / span ≡ t / span + p .spans = omega arith in
+      let r : (t + span * p .spans) % span ≡ t % span = omega arith in
+      rw (q, r, add-mod-right (t / span) (p .spans)) refl
+
+  some-of-period : rank (allows p) (periodOf p) ≡ 4 * ones (p .sib1) + (p .spans - 4) * ones (p .plain)
+  some-of-period = spans-rank (p .spans) ∙ ap (λ (h : ℕ). h * ones (p .sib1) + (p .spans - h) * ones (p .plain)) four-a-period
+
+  -- ---- spans with SIB1 before span s: none, some, or all four of its period
+
+  module _ (s : ℕ) where
+    pub sib1-whole-le : s / p .spans * 4 ≤ s
+    sib1-whole-le = omega (arith, sib1-split s, sib1-le s)
+
+    pub sib1-early : s % p .spans ≤ p .first → s / p .spans * 4 ≡ rank (withSib1 p) s
+    sib1-early h = omega (arith, sib1-split s, rank-before (p .first) 4 (s % p .spans) h)
+
+    pub sib1-among : p .first < s % p .spans → s % p .spans < p .first + 4
+        → s / p .spans * 4 + (s % p .spans - p .first) ≡ rank (withSib1 p) s
+    sib1-among h k =
+        let e : p .first + (s % p .spans - p .first) ≡ s % p .spans = omega arith in
+        omega (arith, sib1-split s, rank-inside (p .first) 4 (s % p .spans - p .first) (omega arith), ap (rank (inRange (p .first) 4)) e)
+
+    pub sib1-late : p .first + 4 ≤ s % p .spans → s / p .spans * 4 + 4 ≡ rank (withSib1 p) s
+    sib1-late h =
+        let e : p .first + 4 + (s % p .spans - (p .first + 4)) ≡ s % p .spans = omega arith in
+        omega (arith, sib1-split s, rank-after (p .first) 4 (s % p .spans - (p .first + 4)), ap (rank (inRange (p .first) 4)) e)
+
+  -- ---- the three stretches of a period: before the spans with SIB1, those, and after them
+
+  first-period : (s : ℕ) → s < p .spans → withSib1 p s ≡ inRange (p .first) 4 s
+  first-period s h = ap (inRange (p .first) 4) (mod-eq-of-lt {n = s} {m = p .spans} h)
+
+  mask-plain : (s : ℕ) → withSib1 p s ≡ false → maskAt p s ≡ p .plain
+  mask-plain s e = ap (λ (b : Bool). cond b (p .sib1) (p .plain)) e
+
+  mask-sib1 : (s : ℕ) → withSib1 p s ≡ true → maskAt p s ≡ p .sib1
+  mask-sib1 s e = ap (λ (b : Bool). cond b (p .sib1) (p .plain)) e
+
+  -- so many before span s, where h of the spans before it have SIB1
+  with-sib1 : (s h : ℕ) → s ≤ p .spans → rank (inRange (p .first) 4) s ≡ h
+      → rank (allows p) (span * s) ≡ h * ones (p .sib1) + (s - h) * ones (p .plain)
+  with-sib1 s h l e = spans-rank s ∙ ap (λ (x : ℕ). x * ones (p .sib1) + (s - x) * ones (p .plain)) (in-first-period s l ∙ e)
+
+  -- the j-th of a stretch from span s on lies in its span j / n, n the ones of its mask
+  pub record Stretch (mask s j target : ℕ) : Type 0 where
+    pub some : 0 < ones mask
+    pub inside : s + j / ones mask < p .spans
+    pub its : maskAt p (s + j / ones mask) ≡ mask
+    pub sum : rank (allows p) (span * (s + j / ones mask)) + j % ones mask ≡ target
+
+  positive : (a n k : ℕ) → k < a * n → 0 < n
+  positive a zero k h = absurd (omega (arith, mul-zero a))
+  positive a (suc n) k h = omega arith
+
+  pub in-lead : (k : ℕ) → k < p .first * ones (p .plain) → Stretch (p .plain) 0 k k
+  in-lead k h =
+      let n : ℕ = ones (p .plain) in
+      let pos : 0 < n = positive (p .first) n k h in
+      let q : k / n < p .first = div-lt-iff-lt-mul pos .1 h in
+      let l : 0 + k / n < p .spans = omega (arith, ok .fits) in
+      let e : 0 + k / n - 0 ≡ k / n = omega arith in
+      record {
+        some = pos;
+        inside = l;
+        its = mask-plain (0 + k / n) (first-period (0 + k / n) l ∙ below-range (p .first) 4 (0 + k / n) (omega arith));
+        sum = omega (
+          arith,
+          with-sib1 (0 + k / n) 0 (omega arith) (rank-before (p .first) 4 (0 + k / n) (omega arith)),
+          zero-mul (ones (p .sib1)),
+          ap (λ (x : ℕ). x * n) e,
+          div-add-mod' k n,
+        );
+      }
+
+  pub in-sib1 : (j : ℕ) → j < 4 * ones (p .sib1) → Stretch (p .sib1) (p .first) j (p .first * ones (p .plain) + j)
+  in-sib1 j h =
+      let n : ℕ = ones (p .sib1) in
+      let pos : 0 < n = positive 4 n j h in
+      let q : j / n < 4 = div-lt-iff-lt-mul pos .1 h in
+      let l : p .first + j / n < p .spans = omega (arith, ok .fits) in
+      let e : p .first + j / n - j / n ≡ p .first = omega arith in
+      record {
+        some = pos;
+        inside = l;
+        its = mask-sib1 (p .first + j / n) (first-period (p .first + j / n) l ∙ in-range (p .first) 4 (p .first + j / n) (omega arith) (omega arith));
+        sum = omega (
+          arith,
+          with-sib1 (p .first + j / n) (j / n) (omega arith) (rank-inside (p .first) 4 (j / n) (omega arith)),
+          ap (λ (x : ℕ). x * ones (p .plain)) e,
+          div-add-mod' j n,
+        );
+      }
+
+  pub in-tail : (j : ℕ) → p .first * ones (p .plain) + 4 * ones (p .sib1) + j < rank (allows p) (periodOf p)
+      → Stretch (p .plain) (p .first + 4) j (p .first * ones (p .plain) + 4 * ones (p .sib1) + j)
+  in-tail j h =
+      let n : ℕ = ones (p .plain) in
+      let rest : ℕ = p .spans - (p .first + 4) in
+      let e : p .spans - 4 ≡ p .first + rest = omega (arith, ok .fits) in
+      let k : j < rest * n = omega (arith, some-of-period, ap (λ (x : ℕ). x * n) e, add-mul (p .first) rest n) in
+      let pos : 0 < n = positive rest n j k in
+      let q : j / n < rest = div-lt-iff-lt-mul pos .1 k in
+      let l : p .first + 4 + j / n < p .spans = omega arith in
+      let f : p .first + 4 + j / n - 4 ≡ p .first + j / n = omega arith in
+      record {
+        some = pos;
+        inside = l;
+        its = mask-plain (p .first + 4 + j / n) (first-period (p .first + 4 + j / n) l ∙ above-range (p .first) 4 (p .first + 4 + j / n) (omega arith));
+        sum = omega (
+          arith,
+          with-sib1 (p .first + 4 + j / n) 4 (omega arith) (rank-after (p .first) 4 (j / n)),
+          ap (λ (x : ℕ). x * n) f,
+          add-mul (p .first) (j / n) n,
+          div-add-mod' j n,
+        );
+      }
+
+  pub ready : (mask n s j target : ℕ) → n ≡ ones mask → mask < 2 ^ 40 → Stretch mask s j target
+      → (n ≡ ones mask) × (0 < n) × (mask < 2 ^ 40) × (s + j / n < 16)
+  ready mask n s j target e small w =
+      (e, omega (arith, w .some), small, rw e (omega (arith, w .inside, ok .few)))
+
+  pub landed : (mask n s j r target : ℕ) → n ≡ ones mask → mask < 2 ^ 40 → Stretch mask s j target → Landed mask n s j r → Picked p target r
+  landed mask n s j r target e small w d =
+      let m : ℕ = ones mask in
+      let x : ℕ = d .digit in
+      let one : NthOne mask (j % m) x = subst (λ (y : ℕ). NthOne mask (j % y) x) e (d .one) in
+      let at : ℕ = s + j / m in
+      let b = one-below 40 mask (j % m) x small one in
+      let t : ℕ = span * at + x in
+      let pick : Picked p target t = record {
+        small = omega (arith, b, w .inside);
+        passes = sym (mask-bits p at x b) ∙ ap (λ (y : ℕ). bitAt y x) (w .its) ∙ one .set;
+        before =
+            omega (arith, span-front at x (omega (arith, b)), ones-low x (maskAt p at), ap (λ (y : ℕ). rank (bitAt y) x) (w .its), one .before, w .sum);
+      } in
+      subst (λ (y : ℕ). Picked p target y) (sym (d .there ∙ ap (λ (y : ℕ). span * (s + j / y) + x) e)) pick
+
+  -- ---- the quick rank and the quick select
+
+  pub rank-quick : (t whole part : ℕ) → whole ≡ rank (allows p) (span * (t / span)) → part ≡ ones (maskAt p (t / span) % 2 ^ (t % span))
+      → whole + part ≡ rank (allows p) t
+  rank-quick t whole part hw hp =
+      let e : span * (t / span) + t % span ≡ t = omega arith in
+      omega (arith, span-front (t / span) (t % span) (omega arith), ap (rank (allows p)) e)
+
+  pub nth-quick : (f j per k r : ℕ) → 0 < rank (allows p) (periodOf p) → per ≡ rank (allows p) (periodOf p) → k ≡ rank (allows p) f
+      → Picked p ((k + j) % per) r → (k + j) / per * periodOf p + r ≡ select (allows p) (periodOf p) f j
+  nth-quick f j per k r some hp hk h =
+      add-comm ((k + j) / per * periodOf p) r ∙ ap₂ (λ (x y : ℕ). r + (x + j) / y * periodOf p) hk hp
+      ∙ select-jump (allows p) (periodOf p) repeats some f j r (h .passes) (h .before ∙ ap₂ (λ (x y : ℕ). (x + j) % y) hk hp)
+
+  -- ---- the index of a subframe among those that follow the skip-th from f on
+
+  module _ (some : 0 < rank (allows p) (periodOf p)) (f skip K t : ℕ) where
+    abbrev start : ℕ
+    start = select (allows p) (periodOf p) f skip
+
+    start-rank : rank (allows p) start ≡ rank (allows p) f + skip
+    start-rank = select-is (allows p) (periodOf p) repeats some f skip .before
+
+    early-is : t < start → foundAt p start K t ≡ Nothing
+    unfolding foundAt amongFirst
+    early-is h = simp (lt-leb start t h)
+
+    pub early : t < f → Nothing ≡ foundAt p start K t
+    early h = sym (early-is (omega (arith, select-is (allows p) (periodOf p) repeats some f skip .late)))
+
+    pub unusable : allows p t ≡ false → Nothing ≡ foundAt p start K t
+    unfolding foundAt amongFirst
+    unusable n = simp (n, and-none (leb start t))
+
+    module _ (a b : ℕ) (ha : a ≡ rank (allows p) t) (hb : b ≡ rank (allows p) f) (y : allows p t ≡ true) where
+      pub skipped : a - b < skip → Nothing ≡ foundAt p start K t
+      skipped h = sym (early-is (rank-later (allows p) t start (omega (arith, start-rank))))
+
+      module _ (h : f ≤ t) (l : skip ≤ a - b) where
+        reached : start ≤ t
+        reached =
+            ⊎-elim (λ w. absurd (omega (arith, rank-strict (allows p) t start y w, start-rank, rank-mono (allows p) f t h))) (λ w. w) (order t start)
+
+        index : a - b - skip ≡ count (allows p) start (t - start)
+        index = omega (arith, count-between (allows p) start t reached, start-rank)
+
+        pub found : a - b - skip < K → At (a - b - skip) ≡ foundAt p start K t
+        unfolding foundAt amongFirst
+        found w = simp (le-leb start t reached, y, ← index, lt-ltb (a - b - skip) K w)
+
+        pub past : K ≤ a - b - skip → Nothing ≡ foundAt p start K t
+        unfolding foundAt amongFirst
+        past w = simp (le-leb start t reached, y, ← index, le-ltb (a - b - skip) K w)

@@ -1,0 +1,51 @@
+-- How the quick search sees the usable subframes: spans of forty with two masks. No definition of 01 cites this file; the cell's crate
+-- proves that the pattern it makes allows exactly the usable subframes.
+use mathlib.Core.Bool.{Bool, true, cond}
+use mathlib.Core.Path.{_≡_}
+use Prim.Native.Nat.{ℕ, _+_, _-_, _*_, _/_, _%_, _^_, _≤_, _<_}
+use Rattle.counting.specs.Counting.{rank, count, amongFirst, inRange}
+use Rattle.counting.specs.Bits.{bitAt, NthOne}
+use Rattle.spans.specs.declared.Pattern.{Pattern}
+use Rattle.spans.specs.declared.Found.{Found}
+use Rattle.spans.specs.declared.Found.the-variants.{At, Nothing}
+
+-- subframes of a span
+abbrev pub span : ℕ
+span = 40
+
+-- span s is one of the four with SIB1
+abbrev pub withSib1 : Pattern → ℕ → Bool
+withSib1 p s = inRange (p .first) 4 (s % p .spans)
+
+abbrev pub maskAt : Pattern → ℕ → ℕ
+maskAt p s = cond (withSib1 p s) (p .sib1) (p .plain)
+
+-- subframe t is allowed: its digit in the mask of its span is 1
+unfoldable pub allows : Pattern → ℕ → Bool
+allows p t = bitAt (maskAt p (t / span)) (t % span)
+
+-- the pattern repeats after so many subframes
+abbrev pub periodOf : Pattern → ℕ
+periodOf p = span * p .spans
+
+pub record Regular (p : Pattern) : Type 0 where
+  pub fits : p .first + 4 ≤ p .spans
+  pub few : p .spans ≤ 16
+  pub plain-small : p .plain < 2 ^ 40
+  pub sib1-small : p .sib1 < 2 ^ 40
+
+-- r is the k-th subframe of a stretch of spans from span s on, all with one mask of n ones
+pub record Landed (mask n s k r : ℕ) : Type 0 where
+  pub digit : ℕ
+  pub one : NthOne mask (k % n) digit
+  pub there : r ≡ span * (s + k / n) + digit
+
+-- r is the subframe of the first period before which k allowed ones lie
+pub record Picked (p : Pattern) (k r : ℕ) : Type 0 where
+  pub small : r < periodOf p
+  pub passes : allows p r ≡ true
+  pub before : rank (allows p) r ≡ k
+
+-- the index of subframe t among the first K allowed ones from f on
+unfoldable pub foundAt : Pattern → ℕ → ℕ → ℕ → Found
+foundAt p f K t = cond (amongFirst (allows p) f K t) (At (count (allows p) f (t - f))) Nothing

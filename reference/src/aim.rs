@@ -1,0 +1,192 @@
+//! Where a generated question aims: positions, transmitted subframes or
+//! slots, places that the grant has and places that it just misses.
+
+use crate::elements::{self, Element, SLOTS, SUBCARRIERS, SYMBOLS};
+use crate::grant::Grant;
+use crate::random::Random;
+use crate::scene::{Scene, Word};
+use crate::text::{Kind, Question};
+
+/// The number of a transmitted subframe or slot: ends, passes, gaps, any.
+pub fn draw_sent(random: &mut Random, scene: &Scene) -> u64 {
+    let listing = &scene.listing;
+    let count = listing.sent.len() as u64;
+    let n = listing.codeword_units;
+    let i = match random.below(6) {
+        0 => 0,
+        1 => count - 1,
+        2 => random.pick(&[1, 3, 4, 7, 8, n - 1, n, n + 1]),
+        3 => random.pick(&[4 * n - 1, 4 * n, 4 * n + 1, 8 * n, 2 * n]),
+        4 => random.pick(&[127, 128, 129, 255, 256, 511, 512, 513, 1024]),
+        _ => random.below(count),
+    };
+    i % count
+}
+
+/// A position: first, last, at a unit's ends, any, or around the end.
+pub fn draw_position(random: &mut Random, scene: &Scene, question: Question) -> u64 {
+    let total = scene.listing.total();
+    let width = scene.listing.width();
+    let walk = matches!(question, Question::Step(_));
+    let percent = random.below(100);
+    if walk && percent < 25 {
+        return total - 1 - random.below(4).min(total - 1);
+    }
+    match percent {
+        0..=4 => random.pick(&[total, total + 1, total + width, u64::MAX]),
+        5..=6 if walk => total,
+        7..=14 => 0,
+        15..=24 => total - 1,
+        _ => {
+            let within = match random.below(3) {
+                0 => 0,
+                1 => width - 1,
+                _ => random.below(width),
+            };
+            draw_sent(random, scene) * width + within
+        }
+    }
+}
+
+pub fn place_words(random: &mut Random, scene: &Scene) -> Vec<Word> {
+    let (unit, e) = draw_place(random, scene);
+    let (l, k) = (e.l.to_string(), e.k.to_string());
+    match scene.kind {
+        Kind::Up => vec![("slot", unit.to_string()), ("l", l), ("k", k)],
+        _ => vec![
+            ("t", unit.to_string()),
+            ("slot", e.slot.to_string()),
+            ("l", l),
+            ("k", k),
+        ],
+    }
+}
+
+/// A place that forward gives, a near miss, a reference, or far away.
+fn draw_place(random: &mut Random, scene: &Scene) -> (u64, Element) {
+    let listing = &scene.listing;
+    let unit = listing.sent[draw_sent(random, scene) as usize];
+    let e = random.pick(&listing.elements);
+    match random.below(100) {
+        0..=42 => (unit, e),
+        43..=52 => (unit, beside(random, scene, e)),
+        53..=59 => (unit_beside(random, scene, unit), e),
+        60..=64 => (unit_far(random, unit), e),
+        65..=78 => (unit, reference(random, scene)),
+        79..=82 => (unit_beside(random, scene, unit), reference(random, scene)),
+        83..=88 => (unit, any_element(random, scene)),
+        89..=92 => (
+            unit,
+            Element {
+                k: (e.k + 6) % subcarriers(scene),
+                ..e
+            },
+        ),
+        _ => {
+            let l = random.below(scene.cell.control.max(1));
+            let k = random.below(subcarriers(scene));
+            (unit, Element { slot: 0, l, k })
+        }
+    }
+}
+
+fn subcarriers(scene: &Scene) -> u64 {
+    match scene.grant {
+        Grant::Up(g) => g.subcarriers(),
+        _ => SUBCARRIERS,
+    }
+}
+
+/// One element aside; now and then this leaves the grid.
+fn beside(random: &mut Random, scene: &Scene, e: Element) -> Element {
+    match random.below(5) {
+        0 => Element { k: e.k + 1, ..e },
+        1 => Element {
+            k: e.k.saturating_sub(1),
+            ..e
+        },
+        2 => Element { l: e.l + 1, ..e },
+        3 => Element {
+            l: e.l.saturating_sub(1),
+            ..e
+        },
+        _ if scene.kind == Kind::Up => Element { k: e.k + 3, ..e },
+        _ => Element {
+            slot: 1 - e.slot,
+            ..e
+        },
+    }
+}
+
+/// A subframe or slot aside, around the span, or unsent within it.
+fn unit_beside(random: &mut Random, scene: &Scene, unit: u64) -> u64 {
+    let listing = &scene.listing;
+    match random.below(6) {
+        0 => unit.saturating_sub(1),
+        1 => unit + 1,
+        2 => listing.first().saturating_sub(1),
+        3 => listing.last() + 1,
+        _ => unsent_within(random, scene).unwrap_or(listing.last() + 2),
+    }
+}
+
+/// A subframe or slot between first and last that isn't sent.
+fn unsent_within(random: &mut Random, scene: &Scene) -> Option<u64> {
+    let sent = &scene.listing.sent;
+    let from = random.below(sent.len() as u64) as usize;
+    let holes = |pairs: &[u64]| {
+        pairs
+            .windows(2)
+            .find(|w| w[1] > w[0] + 1)
+            .map(|w| (w[0], w[1]))
+    };
+    let (before, after) = holes(&sent[from..]).or_else(|| holes(sent))?;
+    Some(random.between(before + 1, after - 1))
+}
+
+/// Far away: cut to 32 bits, or by a whole period, some look like the grant's own.
+fn unit_far(random: &mut Random, unit: u64) -> u64 {
+    let aside = random.draw() >> random.below(64);
+    random.pick(&[
+        0,
+        unit + 2560,
+        unit + 10240,
+        unit + (1 << 32),
+        unit + (1 << 63),
+        (1 << 32) - 1,
+        1 << 32,
+        u64::MAX,
+        u64::MAX - 1,
+        aside,
+    ])
+}
+
+fn any_element(random: &mut Random, scene: &Scene) -> Element {
+    Element {
+        slot: match scene.kind {
+            Kind::Up => 0,
+            _ => random.below(SLOTS),
+        },
+        l: random.below(SYMBOLS),
+        k: random.below(subcarriers(scene)),
+    }
+}
+
+/// A reference element; in the uplink also its symbol on tones not granted.
+fn reference(random: &mut Random, scene: &Scene) -> Element {
+    if let Grant::Up(g) = scene.grant {
+        let l = g.reference_symbol();
+        let e = random.pick(&scene.listing.elements);
+        let k = match random.below(4) {
+            0 => random.below(g.subcarriers()),
+            _ => e.k,
+        };
+        return Element { slot: 0, l, k };
+    }
+    loop {
+        let e = any_element(random, scene);
+        if elements::reference_kind(&scene.cell, e) != 0 {
+            return e;
+        }
+    }
+}

@@ -1,0 +1,201 @@
+//! Answers: each question asked of the values in force, and its text.
+
+use crate::cell::Cell;
+use crate::elements::{self, Element, SLOTS, SUBCARRIERS, SYMBOLS};
+use crate::fill::{self, Lent, Shown};
+use crate::grant::{self, Found, Grant, Plan, Step};
+use crate::lines::next_line;
+use crate::places::{Listing, Place};
+use crate::text::{read_line, Fault, Kind, Question, Values};
+use crate::{refuse, Refusal};
+use std::io::{self, BufRead, Write};
+
+/// The pattern that each lent number has before a fill.
+const PRESET: u32 = 0x4228_0000;
+
+/// The answer to one line.
+#[derive(Clone, Debug)]
+pub enum Answer {
+    Fault(Fault),
+    Cell(Result<(), Refusal>),
+    Bitmap(Result<Vec<u8>, Refusal>),
+    Plan(Kind, Result<Plan, Refusal>),
+    Forward(Kind, Result<Place, Refusal>),
+    Backward(Kind, Result<Found, Refusal>),
+    /// With the record's p afterwards.
+    Step(Kind, Result<Step, Refusal>, u64),
+    /// With the lent output as it stands afterwards.
+    Fill(Result<(), Refusal>, Vec<f32>),
+    Element(Result<Shown, Refusal>),
+    Picture(Kind, Result<Vec<String>, Refusal>),
+}
+
+/// The listing of the last cell and grant of a kind.
+#[derive(Debug)]
+struct Last {
+    cell: Cell,
+    grant: Grant,
+    listed: Result<Listing, Refusal>,
+}
+
+/// Reads lines, keeps values and answers.
+#[derive(Debug, Default)]
+pub struct Answerer {
+    pub values: Values,
+    last: [Option<Last>; 3],
+}
+
+impl Last {
+    fn serves(&self, cell: &Cell, grant: &Grant) -> bool {
+        let cell_matters = !matches!(grant, Grant::Up(_));
+        self.grant == *grant && (!cell_matters || self.cell == *cell)
+    }
+}
+
+impl Answerer {
+    /// The answer to a line, or none for an empty line, a comment or a `set`.
+    pub fn line(&mut self, line: &[u8]) -> Option<Answer> {
+        match read_line(&mut self.values, line) {
+            Err(fault) => Some(Answer::Fault(fault)),
+            Ok(None) | Ok(Some(Question::Set)) => None,
+            Ok(Some(question)) => Some(self.ask(question)),
+        }
+    }
+
+    fn ask(&mut self, question: Question) -> Answer {
+        match question {
+            Question::Set => unreachable!("set asks nothing"),
+            Question::Cell => Answer::Cell(self.values.cell.judge()),
+            Question::Bitmap => Answer::Bitmap(self.bitmap()),
+            Question::Plan(kind) => Answer::Plan(kind, self.plan(kind)),
+            Question::Forward(kind) => Answer::Forward(kind, self.forward(kind)),
+            Question::Backward(kind) => Answer::Backward(kind, self.backward(kind)),
+            Question::Step(kind) => {
+                let stepped = self.step(kind);
+                Answer::Step(kind, stepped, self.values.p)
+            }
+            Question::Fill => self.fill(),
+            Question::Element => Answer::Element(self.element()),
+            Question::Picture(kind) => Answer::Picture(kind, self.picture(kind)),
+        }
+    }
+
+    /// The grant in force and its listing, made anew only if the numbers changed.
+    pub fn listing(&mut self, kind: Kind) -> Result<(Grant, &Values, &Listing), Refusal> {
+        let grant = self.values.grant(kind);
+        let cell = &self.values.cell;
+        let last = &mut self.last[kind as usize];
+        if !last.as_ref().is_some_and(|l| l.serves(cell, &grant)) {
+            *last = Some(Last {
+                cell: cell.clone(),
+                grant,
+                listed: grant.list(cell),
+            });
+        }
+        match last.as_ref().map(|l| &l.listed) {
+            Some(Ok(listing)) => Ok((grant, &self.values, listing)),
+            Some(Err(no)) => Err(*no),
+            None => unreachable!("listed above"),
+        }
+    }
+
+    fn bitmap(&self) -> Result<Vec<u8>, Refusal> {
+        self.values.cell.judge()?;
+        Ok(self.values.cell.bitmap_in_force().to_vec())
+    }
+
+    fn plan(&mut self, kind: Kind) -> Result<Plan, Refusal> {
+        let (grant, _, listing) = self.listing(kind)?;
+        Ok(grant.plan(listing))
+    }
+
+    fn forward(&mut self, kind: Kind) -> Result<Place, Refusal> {
+        let (_, values, listing) = self.listing(kind)?;
+        listing.forward(values.p)
+    }
+
+    fn backward(&mut self, kind: Kind) -> Result<Found, Refusal> {
+        let (grant, values, listing) = self.listing(kind)?;
+        let (unit, element) = values.place(kind);
+        grant.backward(&values.cell, listing, unit, element)
+    }
+
+    /// The record's p moves on only when a place was answered.
+    fn step(&mut self, kind: Kind) -> Result<Step, Refusal> {
+        let (_, values, listing) = self.listing(kind)?;
+        let step = grant::step(listing, values.p)?;
+        if let Step::At(_) = step {
+            self.values.p += 1;
+        }
+        Ok(step)
+    }
+
+    fn fill(&mut self) -> Answer {
+        let mut output = vec![f32::from_bits(PRESET); self.values.room as usize];
+        let filled = match self.listing(Kind::Down) {
+            Ok((_, values, listing)) => {
+                fill::fill(&values.cell, listing, &lent(values), &mut output)
+            }
+            Err(no) => Err(no),
+        };
+        Answer::Fill(filled, output)
+    }
+
+    fn element(&mut self) -> Result<Shown, Refusal> {
+        let (_, values, listing) = self.listing(Kind::Down)?;
+        let (_, element) = values.place(Kind::Down);
+        fill::element(&values.cell, listing, &lent(values), element)
+    }
+
+    fn picture(&mut self, kind: Kind) -> Result<Vec<String>, Refusal> {
+        let (_, values, listing) = self.listing(kind)?;
+        refuse(14, values.i >= listing.sent.len() as u64)?;
+        let rows = (0..SUBCARRIERS).rev();
+        Ok(rows.map(|k| row(&values.cell, listing, k)).collect())
+    }
+}
+
+fn lent(values: &Values) -> Lent<'_> {
+    Lent {
+        i: values.i,
+        data: &values.data,
+        level: f32::from_bits(values.level),
+    }
+}
+
+/// One subcarrier of a picture, first slot first.
+fn row(cell: &Cell, listing: &Listing, k: u64) -> String {
+    let mut text = String::new();
+    for slot in 0..SLOTS {
+        for l in 0..SYMBOLS {
+            text.push(mark(cell, listing, Element { slot, l, k }));
+        }
+    }
+    text
+}
+
+fn mark(cell: &Cell, listing: &Listing, e: Element) -> char {
+    if listing.element_number(e).is_some() {
+        'o'
+    } else if elements::narrowband_reference(cell, e) {
+        'N'
+    } else if elements::cell_reference(cell, e) {
+        'C'
+    } else if elements::in_control_region(cell, e) {
+        '#'
+    } else {
+        '.'
+    }
+}
+
+/// Answers every line of the input.
+pub fn answer_all(input: &mut impl BufRead, out: &mut impl Write) -> io::Result<()> {
+    let mut answerer = Answerer::default();
+    let mut line = Vec::new();
+    while next_line(input, &mut line)? {
+        if let Some(answer) = answerer.line(&line) {
+            answer.write(out)?;
+        }
+    }
+    out.flush()
+}

@@ -1,0 +1,151 @@
+//! The cell: its numbers, its bitmap and its usable subframes
+//! (01, "The cell" and "Usable subframes").
+
+use crate::{refuse, Refusal};
+
+/// The subframes after which all usability repeats.
+pub const PERIOD: u64 = 2560;
+
+/// The numbers of a cell and the two lent bitmap buffers.
+#[derive(Clone, Debug, Default, PartialEq, Eq)]
+pub struct Cell {
+    pub mode: u64,
+    pub carrier: u64,
+    pub identity: u64,
+    pub nports: u64,
+    pub cports: u64,
+    pub control: u64,
+    pub sib1: u64,
+    pub bits: u64,
+    pub anchor: Vec<u8>,
+    pub other: Vec<u8>,
+}
+
+impl Cell {
+    /// 01, numbers 1 to 8, the smallest that applies.
+    pub fn judge(&self) -> Result<(), Refusal> {
+        refuse(1, self.mode > 3 || self.carrier > 1)?;
+        refuse(2, self.identity > 503)?;
+        refuse(3, self.nports != 1 && self.nports != 2)?;
+        refuse(4, !self.cell_ports_listed())?;
+        refuse(5, !self.control_region_listed())?;
+        refuse(6, self.sib1 > 11)?;
+        refuse(7, self.bitmap_wrong())?;
+        refuse(8, !(0..PERIOD).any(|t| self.usable(t)))
+    }
+
+    /// Modes 0 and 1 lie inside an LTE carrier.
+    pub fn in_band(&self) -> bool {
+        self.mode <= 1
+    }
+
+    fn cell_ports_listed(&self) -> bool {
+        if self.in_band() {
+            matches!(self.cports, 1 | 2 | 4)
+        } else {
+            self.cports == 0
+        }
+    }
+
+    fn control_region_listed(&self) -> bool {
+        if self.in_band() {
+            matches!(self.control, 1..=3)
+        } else {
+            self.control == 0
+        }
+    }
+
+    /// The buffer of the cell's own carrier; the other one isn't read.
+    pub fn own_buffer(&self) -> &[u8] {
+        if self.carrier == 0 {
+            &self.anchor
+        } else {
+            &self.other
+        }
+    }
+
+    /// How many bytes hold the bitmap: 0, 2 or 5.
+    pub fn part_bytes(&self) -> usize {
+        match self.bits {
+            10 => 2,
+            40 => 5,
+            _ => 0,
+        }
+    }
+
+    fn bitmap_wrong(&self) -> bool {
+        if !matches!(self.bits, 0 | 10 | 40) {
+            return true;
+        }
+        let own = self.own_buffer();
+        if own.len() < self.part_bytes() {
+            return true;
+        }
+        self.bits == 10 && own[1] & 0b0011_1111 != 0
+    }
+
+    /// The bitmap in force: a part of the own buffer, empty if the cell is refused.
+    pub fn bitmap_in_force(&self) -> &[u8] {
+        if self.judge().is_ok() {
+            &self.own_buffer()[..self.part_bytes()]
+        } else {
+            &[]
+        }
+    }
+
+    /// Bit t mod 10 or t mod 40 allows subframe t; length 0 allows all.
+    pub fn allowed(&self, t: u64) -> bool {
+        if self.bits == 0 {
+            return true;
+        }
+        let bit = (t % self.bits) as usize;
+        let byte = self.own_buffer()[bit / 8];
+        (byte >> (7 - bit % 8)) & 1 == 1
+    }
+
+    /// How often SIB1 is sent in 2,560 subframes.
+    fn sib1_copies(&self) -> u64 {
+        match self.sib1 % 3 {
+            0 => 4,
+            1 => 8,
+            _ => 16,
+        }
+    }
+
+    /// The first frame of SIB1.
+    fn sib1_first_frame(&self) -> u64 {
+        match self.sib1_copies() {
+            4 => 16 * (self.identity % 4),
+            8 => 16 * (self.identity % 2),
+            _ => self.identity % 2,
+        }
+    }
+
+    /// Does SIB1 take subframe 4 of this frame?
+    pub fn sib1_in_frame(&self, frame: u64) -> bool {
+        let span = (256 / self.sib1_copies()) as i64;
+        let after = frame as i64 - self.sib1_first_frame() as i64;
+        let rest = after.rem_euclid(span);
+        rest % 2 == 0 && rest < 16
+    }
+
+    /// Taken by synchronization or broadcast: anything but the bitmap.
+    pub fn taken(&self, t: u64) -> bool {
+        if self.carrier != 0 {
+            return false;
+        }
+        let frame = (t / 10) % 1024;
+        match t % 10 {
+            0 => true,                      // NPBCH
+            5 => true,                      // NPSS
+            9 => frame.is_multiple_of(2),   // NSSS
+            4 => self.sib1_in_frame(frame), // SIB1
+            _ => false,
+        }
+    }
+
+    /// A usable downlink subframe (TS 36.213 clause 16.4).
+    pub fn usable(&self, t: u64) -> bool {
+        !self.taken(t) && self.allowed(t)
+    }
+}

@@ -1,0 +1,154 @@
+//! Lines that are no questions, for the question file.
+
+use crate::lines::LONGEST_LINE;
+use crate::random::Random;
+use crate::text::Fault;
+
+const QUESTION: &[&[u8]] = &[
+    b"plam down",
+    b"Plan down",
+    b" plan down",
+    b" ",
+    b"cell\r",
+    b"\r",
+    b"\tcell",
+    b"cell\tmode=1",
+    b"ours",
+    b"=",
+    b"p=1",
+    b"forwarddown p=1",
+    b"\xff\xfe\x00",
+    b"plan\0down",
+];
+
+const KIND: &[&[u8]] = &[
+    b"plan",
+    b"plan sideways",
+    b"plan  down",
+    b"forward p=3",
+    b"backward t=3 down",
+    b"cell down",
+    b"set up mode=1",
+    b"picture up",
+    b"fill down i=0",
+    b"element up",
+    b"bitmap control",
+    b"step Down",
+    b"backward down\r",
+    b"plan down\tp=1",
+    b"step \xc3\xbc",
+];
+
+/// Words that bring `value`, `name`, `number`, `hex` and `size` after a good beginning.
+const VALUE: &[&[u8]] = &[
+    b"mode",
+    b"",
+    b" p=1",
+    b"p=1\r",
+    b"p=1\tk=2",
+    b"-",
+    b"\t",
+    b"\xff",
+];
+const NAME: &[&[u8]] = &[
+    b"moed=1",
+    b"=1",
+    b"Mode=1",
+    b"q=7",
+    b"nn=x",
+    b"pp=",
+    b"anchor2=zz",
+    b"\xff=1",
+];
+const NUMBER: &[&[u8]] = &[
+    b"p=",
+    b"p=-1",
+    b"p=+1",
+    b"p=0x10",
+    b"p=18446744073709551616",
+    b"n=99999999999999999999999999",
+    b"k=1.0",
+    b"l=1=2",
+    b"mode=a",
+    b"room=-",
+    b"i=1_0",
+];
+const HEX: &[&[u8]] = &[
+    b"anchor=abc",
+    b"anchor=zz",
+    b"other=--",
+    b"other=0",
+    b"data=0g",
+    b"data=0x",
+    b"level=3f80000g",
+    b"level=+3f80000",
+];
+const SIZE: &[&[u8]] = &[
+    b"level=3f8000",
+    b"level=3f80000000",
+    b"level=00",
+    b"room=1025",
+    b"room=18446744073709551615",
+];
+
+/// Beginnings whose values must not be kept.
+const BEGINNINGS: &[&[u8]] = &[
+    b"set n=4294967296",
+    b"cell mode=9",
+    b"plan down n=4294967296 copies=99",
+    b"forward up units=8",
+    b"backward control r=3",
+    b"step down p=18446744073709551615",
+    b"fill level=00000000 room=3",
+    b"element i=99999999 data=-",
+    b"picture control identity=504",
+];
+
+/// A line of exactly 4,096 bytes: the zeros count for nothing.
+pub fn full_line() -> Vec<u8> {
+    let mut line = b"cell t=".to_vec();
+    line.resize(LONGEST_LINE - 1, b'0');
+    line.push(b'7');
+    line
+}
+
+/// A line over 4,096 bytes.
+fn long_line(random: &mut Random) -> Vec<u8> {
+    let beginnings: [&[u8]; 4] = [b"cell t=", b"set data=", b"plan ", b"x"];
+    let mut line = random.pick(&beginnings).to_vec();
+    let length = random.pick(&[LONGEST_LINE + 1, LONGEST_LINE + 1, 5000, 9000]);
+    line.resize(length, b'0');
+    line
+}
+
+/// A word of a buffer one byte or more past its limit.
+fn oversized(random: &mut Random) -> Vec<u8> {
+    let buffers: [(&[u8], usize); 3] = [(b"anchor=", 64), (b"other=", 64), (b"data=", 1024)];
+    let (name, limit) = random.pick(&buffers);
+    let mut word = name.to_vec();
+    word.resize(name.len() + 2 * (limit + 1), b'5');
+    word
+}
+
+/// A line that is no question.
+pub fn bad_line(random: &mut Random) -> Vec<u8> {
+    let mut word = match random.pick(&Fault::ALL) {
+        Fault::Long => return long_line(random),
+        Fault::Question => return random.pick(QUESTION).to_vec(),
+        Fault::Kind => return random.pick(KIND).to_vec(),
+        Fault::Value => random.pick(VALUE).to_vec(),
+        Fault::Name => random.pick(NAME).to_vec(),
+        Fault::Number => random.pick(NUMBER).to_vec(),
+        Fault::Hex => random.pick(HEX).to_vec(),
+        Fault::Size if random.chance(40) => oversized(random),
+        Fault::Size => random.pick(SIZE).to_vec(),
+    };
+    let mut line = random.pick(BEGINNINGS).to_vec();
+    line.push(b' ');
+    line.append(&mut word);
+    if random.chance(20) {
+        // The first fault from the left is the one answered.
+        line.extend_from_slice(random.pick(&[b" q=1", b" k=x", b" k=3"]));
+    }
+    line
+}

@@ -1,0 +1,131 @@
+//! Fill of one transmitted NPDSCH subframe on one port, and one element of it
+//! (01, "Questions", the paragraph on fill).
+
+use crate::cell::Cell;
+use crate::elements::{self, Element, SLOTS, SUBCARRIERS, SYMBOLS};
+use crate::places::Listing;
+use crate::{refuse, Refusal};
+
+/// How many f32 a fill writes.
+pub const NUMBERS: u64 = 2 * SLOTS * SYMBOLS * SUBCARRIERS;
+
+/// The f32 by which the level is multiplied.
+const ROOT_HALF: u32 = 0x3F35_04F3;
+
+/// A QPSK symbol: a real and an imaginary number kept together.
+#[derive(Clone, Copy, Debug, PartialEq)]
+pub struct Symbol {
+    pub re: f32,
+    pub im: f32,
+}
+
+/// What one element shows.
+#[derive(Clone, Copy, Debug, PartialEq)]
+pub enum Shown {
+    Silent,
+    /// A reference place of this kind, 1 to 3.
+    Reference(u64),
+    Symbol(Symbol),
+}
+
+/// What is lent to a fill: the subframe's number i, the bits and the level.
+#[derive(Clone, Copy, Debug)]
+pub struct Lent<'a> {
+    pub i: u64,
+    pub data: &'a [u8],
+    pub level: f32,
+}
+
+fn level_wrong(level: f32) -> bool {
+    let least = 1.0 / 1_048_576.0;
+    let most = 1_048_576.0;
+    !(least <= level && level <= most)
+}
+
+fn data_wrong(listing: &Listing, data: &[u8]) -> bool {
+    data.len() as u64 != listing.symbols().div_ceil(4)
+}
+
+/// Numbers 14 to 17 of a fill, in order.
+fn judge_fill(cell: &Cell, listing: &Listing, lent: &Lent, room: u64) -> Result<(), Refusal> {
+    refuse(14, lent.i >= listing.sent.len() as u64)?;
+    refuse(15, data_wrong(listing, lent.data) || room != NUMBERS)?;
+    refuse(16, level_wrong(lent.level))?;
+    refuse(17, cell.nports == 2)
+}
+
+/// Numbers 14 to 17 of one element, in order; no output is lent here.
+fn judge_element(cell: &Cell, listing: &Listing, lent: &Lent, e: Element) -> Result<(), Refusal> {
+    refuse(14, lent.i >= listing.sent.len() as u64)?;
+    refuse(14, !e.in_downlink_grid())?;
+    refuse(15, data_wrong(listing, lent.data))?;
+    refuse(16, level_wrong(lent.level))?;
+    refuse(17, cell.nports == 2)
+}
+
+/// Bit number `bit`, the first bit highest.
+fn bit_at(data: &[u8], bit: u64) -> bool {
+    let byte = data[(bit / 8) as usize];
+    (byte >> (7 - bit % 8)) & 1 == 1
+}
+
+/// Plus for bit 0, minus for bit 1; the product is rounded once.
+fn signed_size(bit: bool, level: f32) -> f32 {
+    let size = level * f32::from_bits(ROOT_HALF);
+    if bit {
+        -size
+    } else {
+        size
+    }
+}
+
+/// Symbol c: bits 2c (real) and 2c + 1 (imaginary).
+fn symbol(data: &[u8], c: u64, level: f32) -> Symbol {
+    Symbol {
+        re: signed_size(bit_at(data, 2 * c), level),
+        im: signed_size(bit_at(data, 2 * c + 1), level),
+    }
+}
+
+/// What an element of transmitted subframe i shows, all numbers judged before.
+fn shown(cell: &Cell, listing: &Listing, lent: &Lent, e: Element) -> Shown {
+    if let Some(number) = listing.element_number(e) {
+        let carried = listing.carries[lent.i as usize];
+        let c = carried * listing.width() + number;
+        return Shown::Symbol(symbol(lent.data, c, lent.level));
+    }
+    match elements::reference_kind(cell, e) {
+        0 => Shown::Silent,
+        kind => Shown::Reference(kind),
+    }
+}
+
+/// One element asked instead of a fill.
+pub fn element(cell: &Cell, listing: &Listing, lent: &Lent, e: Element) -> Result<Shown, Refusal> {
+    judge_element(cell, listing, lent, e)?;
+    Ok(shown(cell, listing, lent, e))
+}
+
+/// Write all 336 numbers, +0 where not ours; a refused fill writes nothing.
+pub fn fill(
+    cell: &Cell,
+    listing: &Listing,
+    lent: &Lent,
+    output: &mut [f32],
+) -> Result<(), Refusal> {
+    judge_fill(cell, listing, lent, output.len() as u64)?;
+    for slot in 0..SLOTS {
+        for l in 0..SYMBOLS {
+            for k in 0..SUBCARRIERS {
+                let number = ((slot * 7 + l) * 12 + k) as usize;
+                let (re, im) = match shown(cell, listing, lent, Element { slot, l, k }) {
+                    Shown::Symbol(s) => (s.re, s.im),
+                    _ => (0.0, 0.0),
+                };
+                output[2 * number] = re;
+                output[2 * number + 1] = im;
+            }
+        }
+    }
+    Ok(())
+}

@@ -1,0 +1,119 @@
+//! A grant of any kind and the questions asked of it (01, "Questions").
+
+use crate::cell::Cell;
+use crate::downlink::{Npdcch, Npdsch};
+use crate::elements::{self, Element};
+use crate::places::{Listing, Place};
+use crate::uplink::Npusch;
+use crate::{refuse, Refusal};
+
+/// One of the three kinds of grant.
+#[derive(Clone, Copy, Debug, PartialEq, Eq)]
+pub enum Grant {
+    Down(Npdsch),
+    Control(Npdcch),
+    Up(Npusch),
+}
+
+/// What plan answers; size and order are an uplink grant's only.
+#[derive(Clone, Copy, Debug, Default, PartialEq, Eq)]
+pub struct Plan {
+    pub first: u64,
+    pub last: u64,
+    pub copies: u64,
+    pub places: u64,
+    pub size: u64,
+    pub order: u64,
+}
+
+/// What backward answers.
+#[derive(Clone, Copy, Debug, Default, PartialEq, Eq)]
+pub struct Found {
+    pub ours: bool,
+    pub symbol: u64,
+    pub p: u64,
+    pub kind: u64,
+}
+
+/// What a step answers: a place, or the end of the walk.
+#[derive(Clone, Copy, Debug, PartialEq, Eq)]
+pub enum Step {
+    At(Place),
+    Finished,
+}
+
+impl Grant {
+    /// Judge and list; an uplink grant has no cell.
+    pub fn list(&self, cell: &Cell) -> Result<Listing, Refusal> {
+        match self {
+            Grant::Down(g) => g.list(cell),
+            Grant::Control(g) => g.list(cell),
+            Grant::Up(g) => g.list(),
+        }
+    }
+
+    pub fn plan(&self, listing: &Listing) -> Plan {
+        let (size, order) = match self {
+            Grant::Up(g) => g.size_and_order(),
+            _ => (0, 0),
+        };
+        Plan {
+            first: listing.first(),
+            last: listing.last(),
+            copies: listing.copies,
+            places: listing.total(),
+            size,
+            order,
+        }
+    }
+
+    /// Is the element inside the grid, whatever the subframe or uplink slot?
+    fn in_grid(&self, e: Element) -> bool {
+        match self {
+            Grant::Up(g) => g.in_grid(e),
+            _ => e.in_downlink_grid(),
+        }
+    }
+
+    fn reference_kind(&self, cell: &Cell, e: Element) -> u64 {
+        match self {
+            Grant::Up(g) => g.reference_kind(e),
+            _ => elements::reference_kind(cell, e),
+        }
+    }
+
+    /// Whose is this place? Kinds 1 to 3 only in what the grant sends.
+    pub fn backward(
+        &self,
+        cell: &Cell,
+        listing: &Listing,
+        unit: u64,
+        e: Element,
+    ) -> Result<Found, Refusal> {
+        refuse(14, !self.in_grid(e))?;
+        let Some(i) = listing.sent_number(unit) else {
+            return Ok(Found::default());
+        };
+        let Some(number) = listing.element_number(e) else {
+            let kind = self.reference_kind(cell, e);
+            return Ok(Found {
+                kind,
+                ..Found::default()
+            });
+        };
+        Ok(Found {
+            ours: true,
+            symbol: listing.carries[i as usize] * listing.width() + number,
+            p: i * listing.width() + number,
+            kind: 0,
+        })
+    }
+}
+
+/// A step at p: finished at the total, 14 past it, else what forward answers.
+pub fn step(listing: &Listing, p: u64) -> Result<Step, Refusal> {
+    if p == listing.total() {
+        return Ok(Step::Finished);
+    }
+    listing.forward(p).map(Step::At)
+}

@@ -1,0 +1,34 @@
+//! An independent program that answers the mapping's questions by plain
+//! scanning and listing. It is slow and simple on purpose: it is what the
+//! proved library is compared with.
+
+pub mod aim;
+pub mod answer;
+pub mod cell;
+pub mod downlink;
+pub mod elements;
+pub mod faults;
+pub mod fill;
+pub mod generate;
+pub mod grant;
+pub mod lines;
+pub mod places;
+pub mod random;
+pub mod scene;
+pub mod spoil;
+pub mod table;
+pub mod text;
+pub mod uplink;
+pub mod write;
+
+/// A number from 01's table "Numbers a caller may get back".
+pub type Refusal = u64;
+
+/// One link of the ordered chain of refusals: the first that holds is given.
+pub fn refuse(no: Refusal, when: bool) -> Result<(), Refusal> {
+    if when {
+        Err(no)
+    } else {
+        Ok(())
+    }
+}

@@ -1,0 +1,361 @@
+//! Scenes of a question file: an accepted cell and grant that some tens of
+//! questions share.
+
+use crate::cell::{Cell, PERIOD};
+use crate::downlink::{self, Npdcch, Npdsch, LARGEST_N, SUBFRAMES};
+use crate::elements;
+use crate::grant::Grant;
+use crate::places::Listing;
+use crate::random::Random;
+use crate::text::Kind;
+use crate::uplink::Npusch;
+use crate::write::hex_text;
+
+/// A name and its value's text.
+pub type Word = (&'static str, String);
+
+/// A cell, a grant, its listing, and the words that set them.
+#[derive(Clone, Debug)]
+pub struct Scene {
+    pub kind: Kind,
+    pub cell: Cell,
+    pub grant: Grant,
+    pub listing: Listing,
+    pub words: Vec<Word>,
+}
+
+/// Bits at which a bitmap meets synchronization and broadcast.
+const BORDER_BITS: [u64; 16] = [0, 4, 5, 9, 10, 14, 15, 19, 20, 24, 25, 29, 30, 34, 35, 39];
+
+/// Buffer text; now and then in upper case.
+pub fn buffer(random: &mut Random, bytes: &[u8]) -> String {
+    let text = hex_text(bytes);
+    if random.chance(10) {
+        text.to_uppercase()
+    } else {
+        text
+    }
+}
+
+fn set_bit(bytes: &mut [u8], bit: u64) {
+    bytes[(bit / 8) as usize] |= 128 >> (bit % 8);
+}
+
+/// A bitmap of 10 or 40 bits with these bits set.
+pub fn bitmap_of(bits: u64, ones: &[u64]) -> Vec<u8> {
+    let mut bytes = vec![0; bits.div_ceil(8) as usize];
+    for &bit in ones {
+        set_bit(&mut bytes, bit % bits);
+    }
+    bytes
+}
+
+/// Dense, random, sparse or borderline bitmaps.
+fn draw_bitmap(random: &mut Random, bits: u64) -> Vec<u8> {
+    let style = random.below(6);
+    let mut ones = Vec::new();
+    let few = random.between(1, 3);
+    match style {
+        0 => ones.extend(0..bits),
+        1 => ones.extend((0..bits).filter(|_| random.chance(90))),
+        2 | 3 => ones.extend((0..bits).filter(|_| random.chance(50))),
+        4 => ones.extend((0..few).map(|_| random.below(bits))),
+        _ => ones.extend((0..few).map(|_| random.pick(&BORDER_BITS))),
+    }
+    bitmap_of(bits, &ones)
+}
+
+/// Some bytes that nobody should look at.
+fn garbage(random: &mut Random) -> Vec<u8> {
+    let count = random.pick(&[0, 0, 1, 2, 2, 5, 5, 6, 64]);
+    random.bytes(count)
+}
+
+/// A cell with listed numbers; its bitmap may still leave nothing usable.
+pub fn draw_cell(random: &mut Random) -> Cell {
+    let mode = random.below(4);
+    let in_band = mode <= 1;
+    let identity = if random.chance(30) {
+        random.pick(&[0, 1, 2, 3, 4, 5, 6, 7, 502, 503])
+    } else {
+        random.below(504)
+    };
+    let bits = random.pick(&[0, 10, 40, 40]);
+    let mut own = match bits {
+        0 => Vec::new(),
+        _ => draw_bitmap(random, bits),
+    };
+    if random.chance(40) {
+        own.extend(garbage(random));
+        own.truncate(64);
+    }
+    let carrier = u64::from(random.chance(40));
+    let not_own = garbage(random);
+    let (anchor, other) = match carrier {
+        0 => (own, not_own),
+        _ => (not_own, own),
+    };
+    Cell {
+        mode,
+        carrier,
+        identity,
+        nports: if random.chance(75) { 1 } else { 2 },
+        cports: if in_band { random.pick(&[1, 2, 4]) } else { 0 },
+        control: if in_band { random.between(1, 3) } else { 0 },
+        sib1: random.below(12),
+        bits,
+        anchor,
+        other,
+    }
+}
+
+fn draw_accepted_cell(random: &mut Random) -> Cell {
+    loop {
+        let cell = draw_cell(random);
+        if cell.judge().is_ok() {
+            return cell;
+        }
+    }
+}
+
+/// Usable subframes among 2,560.
+pub fn usable_in_period(cell: &Cell) -> u64 {
+    (0..PERIOD).filter(|&t| cell.usable(t)).count() as u64
+}
+
+fn draw_n(random: &mut Random) -> u64 {
+    match random.below(10) {
+        0..=4 => random.below(3 * PERIOD),
+        5 => random.pick(&[0, 1, 2, 9, 10, 2559, 10235, 10239, 10240]),
+        6 => random.pick(&[LARGEST_N, LARGEST_N - 1, 1 << 29, (1 << 29) - 1]),
+        7 => LARGEST_N - random.below(3 * PERIOD),
+        _ => random.below(1 << 30),
+    }
+}
+
+fn draw_npdsch(random: &mut Random) -> Npdsch {
+    Npdsch {
+        n: draw_n(random),
+        delay: random.below(8),
+        rmax: 1 << random.below(12),
+        subframes: random.below(8),
+        copies: random.below(16),
+    }
+}
+
+/// Very long scans are drawn seldom.
+fn draw_bearable_npdsch(random: &mut Random, cell: &Cell) -> Npdsch {
+    let usable = usable_in_period(cell);
+    loop {
+        let g = draw_npdsch(random);
+        let copies = downlink::COPIES[g.copies as usize];
+        let sent = copies * SUBFRAMES[g.subframes as usize];
+        if sent * PERIOD / usable < 100_000 || random.chance(2) {
+            return g;
+        }
+    }
+}
+
+fn draw_npdcch(random: &mut Random) -> Npdcch {
+    let (format, ncce) = random.pick(&[(0, 0), (0, 1), (1, 0)]);
+    Npdcch {
+        n: draw_n(random),
+        r: 1 << random.below(12),
+        format,
+        ncce,
+    }
+}
+
+fn draw_npusch(random: &mut Random) -> Npusch {
+    let spacing = random.below(2);
+    let subcarrier = match (spacing, random.below(3)) {
+        (0, 0) => random.pick(&[0, 1, 11, 12, 18, 19, 46, 47]),
+        (0, _) => random.below(48),
+        (_, 0) => random.pick(&[0, 11, 12, 15, 16, 17, 18, 18]),
+        _ => random.below(19),
+    };
+    Npusch {
+        n: draw_n(random),
+        spacing,
+        subcarrier,
+        units: random.below(8),
+        copies: random.below(8),
+        delay: random.below(4),
+        mcs: random.below(5),
+    }
+}
+
+fn draw_grant(random: &mut Random, kind: Kind, cell: &Cell) -> Grant {
+    match kind {
+        Kind::Down => Grant::Down(draw_bearable_npdsch(random, cell)),
+        Kind::Control => Grant::Control(draw_npdcch(random)),
+        Kind::Up => Grant::Up(draw_npusch(random)),
+    }
+}
+
+fn number(name: &'static str, value: u64) -> Word {
+    (name, value.to_string())
+}
+
+/// The words that set a cell.
+pub fn cell_words(random: &mut Random, cell: &Cell) -> Vec<Word> {
+    vec![
+        number("mode", cell.mode),
+        number("carrier", cell.carrier),
+        number("identity", cell.identity),
+        number("nports", cell.nports),
+        number("cports", cell.cports),
+        number("control", cell.control),
+        number("sib1", cell.sib1),
+        number("bits", cell.bits),
+        ("anchor", buffer(random, &cell.anchor)),
+        ("other", buffer(random, &cell.other)),
+    ]
+}
+
+/// The words that set a grant.
+pub fn grant_words(grant: &Grant) -> Vec<Word> {
+    match grant {
+        Grant::Down(g) => vec![
+            number("n", g.n),
+            number("delay", g.delay),
+            number("rmax", g.rmax),
+            number("subframes", g.subframes),
+            number("copies", g.copies),
+        ],
+        Grant::Control(g) => vec![
+            number("n", g.n),
+            number("r", g.r),
+            number("format", g.format),
+            number("ncce", g.ncce),
+        ],
+        Grant::Up(g) => vec![
+            number("n", g.n),
+            number("spacing", g.spacing),
+            number("subcarrier", g.subcarrier),
+            number("units", g.units),
+            number("copies", g.copies),
+            number("delay", g.delay),
+            number("mcs", g.mcs),
+        ],
+    }
+}
+
+/// Bits of the right length for a cell's codeword of so many subframes.
+pub fn data_word(random: &mut Random, cell: &Cell, subframes: u64) -> Word {
+    let symbols = subframes * elements::eligible(cell).len() as u64;
+    let bytes = random.bytes(symbols.div_ceil(4) as usize);
+    ("data", buffer(random, &bytes))
+}
+
+/// A level inside the bounds, often at or next to one of them.
+pub fn level_word(random: &mut Random) -> Word {
+    let (least, most) = (0x3580_0000, 0x4980_0000);
+    let pattern = match random.below(5) {
+        0 => 0x3F80_0000,
+        1 => random.pick(&[least, least + 1, most - 1, most]),
+        _ => random.between(least, most),
+    };
+    ("level", format!("{pattern:08x}"))
+}
+
+/// Values that the kind's questions don't look at.
+fn idle_words(random: &mut Random, kind: Kind) -> Vec<Word> {
+    let names: &[&'static str] = match kind {
+        Kind::Down => &[
+            "r",
+            "format",
+            "ncce",
+            "spacing",
+            "subcarrier",
+            "units",
+            "mcs",
+        ],
+        Kind::Control => &["delay", "rmax", "subframes", "copies", "spacing", "mcs"],
+        Kind::Up => &[
+            "mode",
+            "carrier",
+            "identity",
+            "nports",
+            "bits",
+            "rmax",
+            "subframes",
+            "r",
+        ],
+    };
+    let mut words = Vec::new();
+    for &name in names {
+        if random.chance(50) {
+            let value = random.pick(&[0, 1, 3, 99, 1 << 32, u64::MAX]);
+            words.push(number(name, value));
+        }
+    }
+    words
+}
+
+impl Scene {
+    /// Draws an accepted cell and grant of a kind.
+    pub fn draw(random: &mut Random, kind: Kind) -> Scene {
+        let cell = draw_accepted_cell(random);
+        let grant = draw_grant(random, kind, &cell);
+        let listing = match grant.list(&cell) {
+            Ok(listing) => listing,
+            Err(no) => unreachable!("drawn to be accepted, refused with {no}"),
+        };
+        let mut words = grant_words(&grant);
+        if kind != Kind::Up {
+            words.extend(cell_words(random, &cell));
+        }
+        if kind == Kind::Down {
+            words.push(data_word(random, &cell, listing.codeword_units));
+            words.push(level_word(random));
+            words.push(number("room", 336));
+        }
+        Scene {
+            kind,
+            cell,
+            grant,
+            listing,
+            words,
+        }
+    }
+
+    /// All words of the scene's `set` line.
+    pub fn set_words(&self, random: &mut Random) -> Vec<Word> {
+        let mut words = self.words.clone();
+        if random.chance(40) {
+            words.extend(idle_words(random, self.kind));
+        }
+        words
+    }
+
+    /// Another accepted grant in the same cell, for plan; none where scans are long.
+    pub fn other_grant(&self, random: &mut Random) -> Option<Vec<Word>> {
+        if self.kind != Kind::Up && usable_in_period(&self.cell) < 200 {
+            return None;
+        }
+        Some(grant_words(&draw_grant(random, self.kind, &self.cell)))
+    }
+
+    /// A new level and new bits of the right length.
+    pub fn other_bits(&self, random: &mut Random) -> Vec<Word> {
+        let data = data_word(random, &self.cell, self.listing.codeword_units);
+        vec![data, level_word(random)]
+    }
+
+    /// The scene's own words for the names that a line changed.
+    pub fn restoring(&self, changed: &[Word]) -> Vec<Word> {
+        let own = self.words.iter();
+        own.filter(|(name, text)| changed.iter().any(|(n, x)| n == name && x != text))
+            .cloned()
+            .collect()
+    }
+
+    /// The name of the own carrier's buffer and of the other one.
+    pub fn buffer_names(&self) -> (&'static str, &'static str) {
+        match self.cell.carrier {
+            0 => ("anchor", "other"),
+            _ => ("other", "anchor"),
+        }
+    }
+}

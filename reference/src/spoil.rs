@@ -1,0 +1,263 @@
+//! Words that make a question of a scene refused with a wanted number.
+
+use crate::grant::Grant;
+use crate::random::Random;
+use crate::scene::{bitmap_of, buffer, data_word, Scene, Word};
+use crate::text::{Kind, Question};
+
+const CELL: &[u64] = &[1, 2, 3, 4, 5, 6, 7, 8];
+const PLAN: &[u64] = &[1, 2, 3, 4, 5, 6, 7, 8, 9, 10, 12];
+const PLAN_UP: &[u64] = &[9, 10, 11, 13];
+const PLACE: &[u64] = &[1, 2, 3, 4, 5, 6, 7, 8, 9, 10, 12, 14];
+const PLACE_UP: &[u64] = &[9, 10, 11, 13, 14];
+const FILL: &[u64] = &[
+    1, 2, 3, 4, 5, 6, 7, 8, 9, 10, 12, 14, 15, 15, 15, 16, 16, 16, 17,
+];
+
+/// Bits of forty that synchronization takes on an anchor.
+const SYNC_BITS: [u64; 10] = [0, 5, 9, 10, 15, 20, 25, 29, 30, 35];
+
+/// Levels outside the bounds: just outside, zeros, subnormals, negatives,
+/// infinities and NaN.
+const BAD_LEVELS: [u32; 20] = [
+    0x357F_FFFF,
+    0x4980_0001,
+    0x357F_FFFE,
+    0x4980_0002,
+    0x0000_0000,
+    0x8000_0000,
+    0x0000_0001,
+    0x007F_FFFF,
+    0x0080_0000,
+    0xB580_0000,
+    0xBF80_0000,
+    0xC980_0000,
+    0x7F7F_FFFF,
+    0x7F80_0000,
+    0xFF80_0000,
+    0x7F80_0001,
+    0x7FC0_0000,
+    0xFFC0_0000,
+    0x7FFF_FFFF,
+    0xFFFF_FFFF,
+];
+
+/// The numbers with which a question can be refused.
+pub fn numbers_of(question: Question) -> &'static [u64] {
+    match question {
+        Question::Set => &[],
+        Question::Cell | Question::Bitmap => CELL,
+        Question::Plan(Kind::Up) => PLAN_UP,
+        Question::Plan(_) => PLAN,
+        Question::Forward(Kind::Up) | Question::Backward(Kind::Up) | Question::Step(Kind::Up) => {
+            PLACE_UP
+        }
+        Question::Fill | Question::Element => FILL,
+        _ => PLACE,
+    }
+}
+
+/// A number above the largest: one more, wide ones, and ones that look
+/// allowed when cut to 8, 16 or 32 bits.
+pub fn above(random: &mut Random, largest: u64) -> u64 {
+    let small = random.below(largest.min(1 << 30) + 1);
+    let wide = 1 << random.pick(&[8, 16, 31, 32, 33, 63]);
+    let value = match random.below(8) {
+        0 | 1 => largest + 1,
+        2 => largest + 2,
+        3 => random.pick(&[(1 << 32) - 1, 1 << 32]),
+        4 => u64::MAX,
+        5 | 6 => wide + small,
+        _ => random.draw(),
+    };
+    value.max(largest + 1)
+}
+
+fn one_above(random: &mut Random, name: &'static str, largest: u64) -> Vec<Word> {
+    vec![(name, above(random, largest).to_string())]
+}
+
+/// One of a list or a number above the largest.
+fn unlisted(random: &mut Random, name: &'static str, list: &[u64], largest: u64) -> Vec<Word> {
+    if random.chance(60) {
+        vec![(name, random.pick(list).to_string())]
+    } else {
+        one_above(random, name, largest)
+    }
+}
+
+/// Words that would alone bring the number `no` to the question.
+pub fn spoil(random: &mut Random, scene: &Scene, question: Question, no: u64) -> Vec<Word> {
+    let in_band = scene.cell.in_band();
+    match no {
+        1 if random.chance(50) => one_above(random, "mode", 3),
+        1 => one_above(random, "carrier", 1),
+        2 => one_above(random, "identity", 503),
+        3 => unlisted(random, "nports", &[0, 3, 4], 2),
+        4 if in_band => unlisted(random, "cports", &[0, 3, 5, 6, 8], 4),
+        4 => unlisted(random, "cports", &[1, 2, 3, 4], 0),
+        5 if in_band => unlisted(random, "control", &[0, 4], 3),
+        5 => unlisted(random, "control", &[1, 2, 3], 0),
+        6 => one_above(random, "sib1", 11),
+        7 => bad_bitmap(random, scene),
+        8 => nothing_usable(random, scene),
+        9 => one_above(random, "n", (1 << 30) - 1),
+        10 => bad_field(random, scene),
+        11 => bad_subcarrier(random, scene),
+        12 => bad_power(random, scene),
+        13 => vec![("mcs", random.between(5, 15).to_string())],
+        14 => bad_place(random, scene, question),
+        15 => bad_length(random, scene, question),
+        16 => vec![("level", format!("{:08x}", random.pick(&BAD_LEVELS)))],
+        _ => two_ports(random, scene),
+    }
+}
+
+/// Number 7: a length not listed, a buffer too short, spare bits set.
+fn bad_bitmap(random: &mut Random, scene: &Scene) -> Vec<Word> {
+    let (own, other) = scene.buffer_names();
+    let bits = random.pick(&[10, 40]);
+    let full = if bits == 10 { 2 } else { 5 };
+    let good = random.bytes(4);
+    match random.below(3) {
+        0 => unlisted(random, "bits", &[1, 5, 8, 9, 11, 16, 20, 39, 41, 80], 40),
+        1 => {
+            let short = random.pick(&[0, full - 1, full - 1]).min(4);
+            vec![
+                ("bits", bits.to_string()),
+                (own, buffer(random, &good[..short])),
+                (other, "ff00ff00ff".to_string()),
+            ]
+        }
+        _ => {
+            let spare = 1 << random.below(6);
+            let bytes = [good[0], (good[1] & 0b1100_0000) | spare, good[2], good[3]];
+            let count = random.pick(&[2, 2, 4]);
+            vec![
+                ("bits", "10".to_string()),
+                (own, buffer(random, &bytes[..count])),
+                (other, "ffc0".to_string()),
+            ]
+        }
+    }
+}
+
+/// Number 8: a bitmap that allows only what the anchor takes, or nothing.
+fn nothing_usable(random: &mut Random, scene: &Scene) -> Vec<Word> {
+    let (own, other) = scene.buffer_names();
+    let bits = random.pick(&[10, 40]);
+    let mut ones = Vec::new();
+    if scene.cell.carrier == 0 && bits == 10 {
+        ones.extend([0, 5].iter().filter(|_| random.chance(60)));
+    } else if scene.cell.carrier == 0 {
+        ones.extend(SYNC_BITS.iter().filter(|_| random.chance(40)));
+        if scene.cell.sib1 % 3 == 2 {
+            let frame = 10 * (scene.cell.identity % 2);
+            ones.extend([4 + frame, 24 + frame].iter().filter(|_| random.chance(70)));
+        }
+    }
+    let mut bytes = bitmap_of(bits, &ones);
+    if random.chance(40) {
+        bytes.push(255);
+    }
+    vec![
+        ("bits", bits.to_string()),
+        (own, buffer(random, &bytes)),
+        (other, "ffffffffff".to_string()),
+    ]
+}
+
+/// Number 10: a field above its largest number, or NCCE 1 with format 1.
+fn bad_field(random: &mut Random, scene: &Scene) -> Vec<Word> {
+    let fields: &[(&'static str, u64)] = match scene.kind {
+        Kind::Down => &[("delay", 7), ("subframes", 7), ("copies", 15)],
+        Kind::Control => &[("format", 1), ("ncce", 1)],
+        Kind::Up => &[
+            ("spacing", 1),
+            ("subcarrier", 63),
+            ("units", 7),
+            ("copies", 7),
+            ("delay", 3),
+            ("mcs", 15),
+        ],
+    };
+    if scene.kind == Kind::Control && random.chance(33) {
+        return vec![("format", "1".to_string()), ("ncce", "1".to_string())];
+    }
+    let (name, largest) = random.pick(fields);
+    one_above(random, name, largest)
+}
+
+/// Number 11: a subcarrier field that the spacing doesn't have.
+fn bad_subcarrier(random: &mut Random, scene: &Scene) -> Vec<Word> {
+    let end = match scene.grant {
+        Grant::Up(g) if g.spacing == 1 => 19,
+        _ => 48,
+    };
+    let field = match random.below(3) {
+        0 => end,
+        1 => 63,
+        _ => random.between(end, 63),
+    };
+    vec![("subcarrier", field.to_string())]
+}
+
+/// Number 12: Rmax or NPDCCH copies not a power of two in range.
+fn bad_power(random: &mut Random, scene: &Scene) -> Vec<Word> {
+    let name = match scene.kind {
+        Kind::Control => "r",
+        _ => "rmax",
+    };
+    let list = [0, 3, 5, 6, 7, 12, 96, 127, 129, 2047, 2049, 4096, 1 << 40];
+    unlisted(random, name, &list, 2048)
+}
+
+/// Number 14: past the end, or outside the grid.
+fn bad_place(random: &mut Random, scene: &Scene, question: Question) -> Vec<Word> {
+    let total = scene.listing.total();
+    let sent = scene.listing.sent.len() as u64;
+    match question {
+        Question::Forward(_) => one_above(random, "p", total - 1),
+        Question::Step(_) => one_above(random, "p", total),
+        Question::Backward(_) => outside_grid(random, scene),
+        Question::Element if random.chance(60) => outside_grid(random, scene),
+        _ => one_above(random, "i", sent - 1),
+    }
+}
+
+fn outside_grid(random: &mut Random, scene: &Scene) -> Vec<Word> {
+    let subcarriers = match scene.grant {
+        Grant::Up(g) => g.subcarriers(),
+        _ => 12,
+    };
+    match random.below(3) {
+        0 => one_above(random, "l", 6),
+        1 if scene.kind != Kind::Up => one_above(random, "slot", 1),
+        _ => one_above(random, "k", subcarriers - 1),
+    }
+}
+
+/// Number 15: bits of a wrong length, or output not of 336 numbers.
+fn bad_length(random: &mut Random, scene: &Scene, question: Question) -> Vec<Word> {
+    if question == Question::Fill && random.chance(50) {
+        let room = random.pick(&[0, 1, 168, 335, 335, 337, 337, 672, 1024]);
+        return vec![("room", room.to_string())];
+    }
+    let right = scene.listing.symbols().div_ceil(4);
+    let one_subframe = scene.listing.width().div_ceil(4);
+    let lengths = [right - 1, right + 1, 0, 1024, 2 * right, one_subframe];
+    let length = match random.pick(&lengths) {
+        length if length == right => right + 1,
+        length => length,
+    };
+    let bytes = random.bytes(length as usize);
+    vec![("data", buffer(random, &bytes))]
+}
+
+/// Number 17: two ports, with bits of the length that two ports want.
+fn two_ports(random: &mut Random, scene: &Scene) -> Vec<Word> {
+    let mut cell = scene.cell.clone();
+    cell.nports = 2;
+    let data = data_word(random, &cell, scene.listing.codeword_units);
+    vec![("nports", "2".to_string()), data]
+}

@@ -1,0 +1,183 @@
+//! The table of what a question file asks.
+
+use crate::answer::{Answer, Answerer};
+use crate::fill::Shown;
+use crate::grant::Step;
+use crate::lines::next_line;
+use crate::text::{Fault, Kind};
+use std::io::{self, BufRead, Write};
+
+/// Rows by question and kind.
+const ROWS: [&str; 18] = [
+    "cell",
+    "bitmap",
+    "plan down",
+    "plan control",
+    "plan up",
+    "forward down",
+    "forward control",
+    "forward up",
+    "backward down",
+    "backward control",
+    "backward up",
+    "step down",
+    "step control",
+    "step up",
+    "fill",
+    "element",
+    "picture down",
+    "picture control",
+];
+
+/// What one row counts.
+#[derive(Clone, Copy, Debug, Default, PartialEq, Eq)]
+pub struct Row {
+    pub asked: u64,
+    pub accepted: u64,
+    pub ours: u64,
+    /// Not ours, by kind 0 to 3.
+    pub not_ours: [u64; 4],
+    pub finished: u64,
+    /// By number; place 0 isn't used.
+    pub refused: [u64; 18],
+}
+
+/// The whole table.
+#[derive(Clone, Debug, Default)]
+pub struct Table {
+    pub rows: [Row; 18],
+    pub faults: [u64; 8],
+}
+
+fn kind_number(kind: Kind) -> usize {
+    match kind {
+        Kind::Down => 0,
+        Kind::Control => 1,
+        Kind::Up => 2,
+    }
+}
+
+fn row_number(answer: &Answer) -> Option<usize> {
+    match answer {
+        Answer::Fault(_) => None,
+        Answer::Cell(_) => Some(0),
+        Answer::Bitmap(_) => Some(1),
+        Answer::Plan(kind, _) => Some(2 + kind_number(*kind)),
+        Answer::Forward(kind, _) => Some(5 + kind_number(*kind)),
+        Answer::Backward(kind, _) => Some(8 + kind_number(*kind)),
+        Answer::Step(kind, _, _) => Some(11 + kind_number(*kind)),
+        Answer::Fill(_, _) => Some(14),
+        Answer::Element(_) => Some(15),
+        Answer::Picture(kind, _) => Some(16 + kind_number(*kind)),
+    }
+}
+
+impl Row {
+    fn count(&mut self, answer: &Answer) {
+        self.asked += 1;
+        match answer.number() {
+            Some(0) => self.accepted += 1,
+            Some(no) => self.refused[no as usize] += 1,
+            None => {}
+        }
+        match answer {
+            Answer::Backward(_, Ok(found)) if found.ours => self.ours += 1,
+            Answer::Backward(_, Ok(found)) => self.not_ours[found.kind as usize] += 1,
+            Answer::Element(Ok(Shown::Symbol(_))) => self.ours += 1,
+            Answer::Element(Ok(Shown::Silent)) => self.not_ours[0] += 1,
+            Answer::Element(Ok(Shown::Reference(kind))) => self.not_ours[*kind as usize] += 1,
+            Answer::Step(_, Ok(Step::Finished), _) => self.finished += 1,
+            _ => {}
+        }
+    }
+
+    fn add(&mut self, other: &Row) {
+        self.asked += other.asked;
+        self.accepted += other.accepted;
+        self.ours += other.ours;
+        self.finished += other.finished;
+        for (sum, x) in self.not_ours.iter_mut().zip(other.not_ours) {
+            *sum += x;
+        }
+        for (sum, x) in self.refused.iter_mut().zip(other.refused) {
+            *sum += x;
+        }
+    }
+
+    fn write(&self, out: &mut impl Write, name: &str) -> io::Result<()> {
+        write!(out, "{name:<16} {:>8} {:>8}", self.asked, self.accepted)?;
+        write!(out, " {:>7}", self.ours)?;
+        for x in self.not_ours {
+            write!(out, " {x:>6}")?;
+        }
+        write!(out, " {:>7}", self.finished)?;
+        for x in &self.refused[1..] {
+            write!(out, " {x:>6}")?;
+        }
+        writeln!(out)
+    }
+}
+
+impl Table {
+    pub fn count(&mut self, answer: &Answer) {
+        match answer {
+            Answer::Fault(fault) => self.faults[*fault as usize] += 1,
+            _ => {
+                if let Some(row) = row_number(answer) {
+                    self.rows[row].count(answer);
+                }
+            }
+        }
+    }
+
+    /// All rows in one.
+    pub fn total(&self) -> Row {
+        let mut total = Row::default();
+        for row in &self.rows {
+            total.add(row);
+        }
+        total
+    }
+
+    pub fn write(&self, out: &mut impl Write) -> io::Result<()> {
+        write!(out, "{:<16} {:>8} {:>8}", "question", "asked", "accepted")?;
+        write!(out, " {:>7}", "ours")?;
+        for kind in 0..4 {
+            write!(out, " {:>6}", format!("not{kind}"))?;
+        }
+        write!(out, " {:>7}", "finish")?;
+        for no in 1..18 {
+            write!(out, " {:>6}", format!("no{no}"))?;
+        }
+        writeln!(out)?;
+        for (row, name) in self.rows.iter().zip(ROWS) {
+            row.write(out, name)?;
+        }
+        self.total().write(out, "all")?;
+        self.write_faults(out)
+    }
+
+    fn write_faults(&self, out: &mut impl Write) -> io::Result<()> {
+        write!(out, "error lines:")?;
+        for fault in Fault::ALL {
+            write!(out, " {}={}", fault.word(), self.faults[fault as usize])?;
+        }
+        let faults: u64 = self.faults.iter().sum();
+        let asked = self.total().asked;
+        writeln!(out, " all={faults}")?;
+        writeln!(out, "lines with an answer: {}", asked + faults)
+    }
+}
+
+/// Answers every line of the input and counts.
+pub fn table_of(input: &mut impl BufRead) -> io::Result<Table> {
+    let mut table = Table::default();
+    let mut answerer = Answerer::default();
+    let mut line = Vec::new();
+    while next_line(input, &mut line)? {
+        if let Some(answer) = answerer.line(&line) {
+            table.count(&answer);
+        }
+    }
+    Ok(table)
+}

@@ -1,0 +1,378 @@
+//! The words of a question line and the values kept from line to line.
+
+use crate::cell::Cell;
+use crate::downlink::{Npdcch, Npdsch};
+use crate::elements::Element;
+use crate::grant::Grant;
+use crate::lines::LONGEST_LINE;
+use crate::uplink::Npusch;
+
+/// The kind of grant that a question names.
+#[derive(Clone, Copy, Debug, PartialEq, Eq)]
+pub enum Kind {
+    Down,
+    Control,
+    Up,
+}
+
+/// A question word with its kind.
+#[derive(Clone, Copy, Debug, PartialEq, Eq)]
+pub enum Question {
+    Set,
+    Cell,
+    Bitmap,
+    Plan(Kind),
+    Forward(Kind),
+    Backward(Kind),
+    Step(Kind),
+    Fill,
+    Element,
+    Picture(Kind),
+}
+
+/// Why a line is no question.
+#[derive(Clone, Copy, Debug, PartialEq, Eq)]
+pub enum Fault {
+    Long,
+    Question,
+    Kind,
+    Value,
+    Name,
+    Number,
+    Hex,
+    Size,
+}
+
+impl Fault {
+    pub const ALL: [Fault; 8] = [
+        Fault::Long,
+        Fault::Question,
+        Fault::Kind,
+        Fault::Value,
+        Fault::Name,
+        Fault::Number,
+        Fault::Hex,
+        Fault::Size,
+    ];
+
+    pub fn word(self) -> &'static str {
+        match self {
+            Fault::Long => "long",
+            Fault::Question => "question",
+            Fault::Kind => "kind",
+            Fault::Value => "value",
+            Fault::Name => "name",
+            Fault::Number => "number",
+            Fault::Hex => "hex",
+            Fault::Size => "size",
+        }
+    }
+}
+
+/// All values, kept from line to line.
+#[derive(Clone, Debug)]
+pub struct Values {
+    pub cell: Cell,
+    pub n: u64,
+    pub delay: u64,
+    pub rmax: u64,
+    pub subframes: u64,
+    pub copies: u64,
+    pub r: u64,
+    pub format: u64,
+    pub ncce: u64,
+    pub spacing: u64,
+    pub subcarrier: u64,
+    pub units: u64,
+    pub mcs: u64,
+    pub p: u64,
+    pub t: u64,
+    pub slot: u64,
+    pub l: u64,
+    pub k: u64,
+    pub i: u64,
+    pub room: u64,
+    pub level: u32,
+    pub data: Vec<u8>,
+}
+
+impl Default for Values {
+    fn default() -> Values {
+        Values {
+            cell: Cell::default(),
+            n: 0,
+            delay: 0,
+            rmax: 0,
+            subframes: 0,
+            copies: 0,
+            r: 0,
+            format: 0,
+            ncce: 0,
+            spacing: 0,
+            subcarrier: 0,
+            units: 0,
+            mcs: 0,
+            p: 0,
+            t: 0,
+            slot: 0,
+            l: 0,
+            k: 0,
+            i: 0,
+            room: 336,
+            level: 0,
+            data: Vec::new(),
+        }
+    }
+}
+
+/// Where a name's value is kept.
+enum Kept<'a> {
+    Number(&'a mut u64),
+    Buffer(&'a mut Vec<u8>, usize),
+    Level(&'a mut u32),
+}
+
+impl Values {
+    fn kept(&mut self, name: &[u8]) -> Option<Kept<'_>> {
+        Some(match name {
+            b"anchor" => Kept::Buffer(&mut self.cell.anchor, 64),
+            b"other" => Kept::Buffer(&mut self.cell.other, 64),
+            b"data" => Kept::Buffer(&mut self.data, 1024),
+            b"level" => Kept::Level(&mut self.level),
+            _ => Kept::Number(self.number(name)?),
+        })
+    }
+
+    fn number(&mut self, name: &[u8]) -> Option<&mut u64> {
+        Some(match name {
+            b"mode" => &mut self.cell.mode,
+            b"carrier" => &mut self.cell.carrier,
+            b"identity" => &mut self.cell.identity,
+            b"nports" => &mut self.cell.nports,
+            b"cports" => &mut self.cell.cports,
+            b"control" => &mut self.cell.control,
+            b"sib1" => &mut self.cell.sib1,
+            b"bits" => &mut self.cell.bits,
+            b"n" => &mut self.n,
+            b"delay" => &mut self.delay,
+            b"rmax" => &mut self.rmax,
+            b"subframes" => &mut self.subframes,
+            b"copies" => &mut self.copies,
+            b"r" => &mut self.r,
+            b"format" => &mut self.format,
+            b"ncce" => &mut self.ncce,
+            b"spacing" => &mut self.spacing,
+            b"subcarrier" => &mut self.subcarrier,
+            b"units" => &mut self.units,
+            b"mcs" => &mut self.mcs,
+            b"p" => &mut self.p,
+            b"t" => &mut self.t,
+            b"slot" => &mut self.slot,
+            b"l" => &mut self.l,
+            b"k" => &mut self.k,
+            b"i" => &mut self.i,
+            b"room" => &mut self.room,
+            _ => return None,
+        })
+    }
+
+    /// The grant of a kind, made of the values in force.
+    pub fn grant(&self, kind: Kind) -> Grant {
+        match kind {
+            Kind::Down => Grant::Down(Npdsch {
+                n: self.n,
+                delay: self.delay,
+                rmax: self.rmax,
+                subframes: self.subframes,
+                copies: self.copies,
+            }),
+            Kind::Control => Grant::Control(Npdcch {
+                n: self.n,
+                r: self.r,
+                format: self.format,
+                ncce: self.ncce,
+            }),
+            Kind::Up => Grant::Up(Npusch {
+                n: self.n,
+                spacing: self.spacing,
+                subcarrier: self.subcarrier,
+                units: self.units,
+                copies: self.copies,
+                delay: self.delay,
+                mcs: self.mcs,
+            }),
+        }
+    }
+
+    /// The unit and element asked of a kind: the uplink's unit is the slot.
+    pub fn place(&self, kind: Kind) -> (u64, Element) {
+        let (unit, slot) = match kind {
+            Kind::Up => (self.slot, 0),
+            _ => (self.t, self.slot),
+        };
+        let (l, k) = (self.l, self.k);
+        (unit, Element { slot, l, k })
+    }
+}
+
+/// A decimal digit string up to 2^64 - 1.
+fn decimal(text: &[u8]) -> Result<u64, Fault> {
+    if text.is_empty() {
+        return Err(Fault::Number);
+    }
+    let mut number: u64 = 0;
+    for &b in text {
+        if !b.is_ascii_digit() {
+            return Err(Fault::Number);
+        }
+        number = number
+            .checked_mul(10)
+            .and_then(|x| x.checked_add(u64::from(b - b'0')))
+            .ok_or(Fault::Number)?;
+    }
+    Ok(number)
+}
+
+fn hex_digit(b: u8) -> Result<u8, Fault> {
+    match b {
+        b'0'..=b'9' => Ok(b - b'0'),
+        b'a'..=b'f' => Ok(b - b'a' + 10),
+        b'A'..=b'F' => Ok(b - b'A' + 10),
+        _ => Err(Fault::Hex),
+    }
+}
+
+/// Hex digits, two a byte, at least one byte.
+fn hex(text: &[u8]) -> Result<Vec<u8>, Fault> {
+    if text.is_empty() || text.len() % 2 == 1 {
+        return Err(Fault::Hex);
+    }
+    text.chunks(2)
+        .map(|pair| Ok(hex_digit(pair[0])? * 16 + hex_digit(pair[1])?))
+        .collect()
+}
+
+/// A value read, before it is kept.
+enum Read {
+    Number(u64),
+    Buffer(Vec<u8>),
+    Level(u32),
+}
+
+fn read_buffer(text: &[u8], longest: usize) -> Result<Read, Fault> {
+    let bytes = if text == b"-" { Vec::new() } else { hex(text)? };
+    if bytes.len() > longest {
+        return Err(Fault::Size);
+    }
+    Ok(Read::Buffer(bytes))
+}
+
+fn read_level(text: &[u8]) -> Result<Read, Fault> {
+    let bytes = hex(text)?;
+    let four: [u8; 4] = bytes.try_into().map_err(|_| Fault::Size)?;
+    Ok(Read::Level(u32::from_be_bytes(four)))
+}
+
+fn read_number(name: &[u8], text: &[u8]) -> Result<Read, Fault> {
+    let number = decimal(text)?;
+    if name == b"room" && number > 1024 {
+        return Err(Fault::Size);
+    }
+    Ok(Read::Number(number))
+}
+
+/// One `name=value` word: `value`, `name`, `number`, `hex`, `size` in this order.
+fn read_word<'a>(values: &mut Values, word: &'a [u8]) -> Result<(&'a [u8], Read), Fault> {
+    let odd = word.iter().any(|&b| b == b'\t' || b == b'\r');
+    let equals = word.iter().position(|&b| b == b'=');
+    let Some(at) = equals.filter(|_| !odd) else {
+        return Err(Fault::Value);
+    };
+    let (name, text) = (&word[..at], &word[at + 1..]);
+    let read = match values.kept(name).ok_or(Fault::Name)? {
+        Kept::Number(_) => read_number(name, text)?,
+        Kept::Buffer(_, longest) => read_buffer(text, longest)?,
+        Kept::Level(_) => read_level(text)?,
+    };
+    Ok((name, read))
+}
+
+fn keep(values: &mut Values, name: &[u8], read: Read) {
+    match (values.kept(name), read) {
+        (Some(Kept::Number(kept)), Read::Number(x)) => *kept = x,
+        (Some(Kept::Buffer(kept, _)), Read::Buffer(x)) => *kept = x,
+        (Some(Kept::Level(kept)), Read::Level(x)) => *kept = x,
+        _ => unreachable!("a value is read as its name keeps it"),
+    }
+}
+
+fn read_kind(word: Option<&[u8]>) -> Option<Kind> {
+    match word? {
+        b"down" => Some(Kind::Down),
+        b"control" => Some(Kind::Control),
+        b"up" => Some(Kind::Up),
+        _ => None,
+    }
+}
+
+/// A question that wants no kind.
+fn without_kind(word: &[u8]) -> Option<Question> {
+    match word {
+        b"set" => Some(Question::Set),
+        b"cell" => Some(Question::Cell),
+        b"bitmap" => Some(Question::Bitmap),
+        b"fill" => Some(Question::Fill),
+        b"element" => Some(Question::Element),
+        _ => None,
+    }
+}
+
+/// A question that wants a kind.
+fn with_kind(word: &[u8]) -> Option<fn(Kind) -> Question> {
+    match word {
+        b"plan" => Some(Question::Plan),
+        b"forward" => Some(Question::Forward),
+        b"backward" => Some(Question::Backward),
+        b"step" => Some(Question::Step),
+        b"picture" => Some(Question::Picture),
+        _ => None,
+    }
+}
+
+/// The question of a line and how many words name it.
+fn read_question(words: &[&[u8]]) -> Result<(Question, usize), Fault> {
+    let kind = read_kind(words.get(1).copied());
+    if let Some(question) = without_kind(words[0]) {
+        return match kind {
+            Some(_) => Err(Fault::Kind),
+            None => Ok((question, 1)),
+        };
+    }
+    let make = with_kind(words[0]).ok_or(Fault::Question)?;
+    let question = make(kind.ok_or(Fault::Kind)?);
+    if question == Question::Picture(Kind::Up) {
+        return Err(Fault::Kind);
+    }
+    Ok((question, 2))
+}
+
+/// Reads a line and keeps its values; None for a line that asks nothing and
+/// sets nothing. A line with a fault changes no value.
+pub fn read_line(values: &mut Values, line: &[u8]) -> Result<Option<Question>, Fault> {
+    if line.is_empty() || line[0] == b'#' {
+        return Ok(None);
+    }
+    if line.len() > LONGEST_LINE {
+        return Err(Fault::Long);
+    }
+    let words: Vec<&[u8]> = line.split(|&b| b == b' ').collect();
+    let (question, named) = read_question(&words)?;
+    let mut read = Vec::new();
+    for word in &words[named..] {
+        read.push(read_word(values, word)?);
+    }
+    for (name, value) in read {
+        keep(values, name, value);
+    }
+    Ok(Some(question))
+}

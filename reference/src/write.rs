@@ -1,0 +1,147 @@
+//! The text of the answers, one line each (a picture has several).
+
+use crate::answer::Answer;
+use crate::elements::Element;
+use crate::fill::Shown;
+use crate::grant::{Found, Plan, Step};
+use crate::places::Place;
+use crate::text::Kind;
+use crate::Refusal;
+use std::io::{self, Write};
+
+/// The number and the answer's values, zeros if refused.
+fn split<T: Clone + Default>(answer: &Result<T, Refusal>) -> (u64, T) {
+    match answer {
+        Ok(value) => (0, value.clone()),
+        Err(no) => (*no, T::default()),
+    }
+}
+
+/// Two lower-case hex digits a byte, `-` for no byte.
+pub fn hex_text(bytes: &[u8]) -> String {
+    if bytes.is_empty() {
+        return "-".to_string();
+    }
+    bytes.iter().map(|b| format!("{b:02x}")).collect()
+}
+
+impl Answer {
+    /// The answer's number, 0 if accepted; none for a line that is no question.
+    pub fn number(&self) -> Option<u64> {
+        match self {
+            Answer::Fault(_) => None,
+            Answer::Cell(a) => Some(split(a).0),
+            Answer::Bitmap(a) => Some(split(a).0),
+            Answer::Plan(_, a) => Some(split(a).0),
+            Answer::Forward(_, a) => Some(split(a).0),
+            Answer::Backward(_, a) => Some(split(a).0),
+            Answer::Step(_, a, _) => Some(a.err().unwrap_or(0)),
+            Answer::Fill(a, _) => Some(split(a).0),
+            Answer::Element(a) => Some(a.err().unwrap_or(0)),
+            Answer::Picture(_, a) => Some(split(a).0),
+        }
+    }
+
+    /// Writes the answer's line, or a picture's lines.
+    pub fn write(&self, out: &mut impl Write) -> io::Result<()> {
+        let no = self.number().unwrap_or(0);
+        match self {
+            Answer::Fault(fault) => writeln!(out, "error={}", fault.word()),
+            Answer::Cell(_) => writeln!(out, "no={no}"),
+            Answer::Bitmap(a) => writeln!(out, "no={no} part={}", hex_text(&split(a).1)),
+            Answer::Plan(kind, a) => write_plan(out, *kind, no, split(a).1),
+            Answer::Forward(kind, a) => {
+                write!(out, "no={no}")?;
+                write_place(out, *kind, split(a).1)?;
+                writeln!(out)
+            }
+            Answer::Backward(_, a) => write_found(out, no, split(a).1),
+            Answer::Step(kind, a, p) => write_step(out, *kind, no, a, *p),
+            Answer::Fill(_, numbers) => write_fill(out, no, numbers),
+            Answer::Element(a) => write_element(out, no, a),
+            Answer::Picture(_, a) => write_picture(out, no, a),
+        }
+    }
+}
+
+fn write_plan(out: &mut impl Write, kind: Kind, no: u64, plan: Plan) -> io::Result<()> {
+    write!(out, "no={no} first={} last={}", plan.first, plan.last)?;
+    write!(out, " copies={} places={}", plan.copies, plan.places)?;
+    if kind == Kind::Up {
+        write!(out, " size={} order={}", plan.size, plan.order)?;
+    }
+    writeln!(out)
+}
+
+fn write_place(out: &mut impl Write, kind: Kind, place: Place) -> io::Result<()> {
+    let Element { slot, l, k } = place.element;
+    match kind {
+        Kind::Up => write!(out, " slot={}", place.unit)?,
+        _ => write!(out, " t={} slot={slot}", place.unit)?,
+    }
+    write!(out, " l={l} k={k} symbol={}", place.symbol)
+}
+
+fn write_found(out: &mut impl Write, no: u64, found: Found) -> io::Result<()> {
+    let ours = u64::from(found.ours);
+    write!(out, "no={no} ours={ours} symbol={}", found.symbol)?;
+    writeln!(out, " p={} kind={}", found.p, found.kind)
+}
+
+fn write_step(
+    out: &mut impl Write,
+    kind: Kind,
+    no: u64,
+    step: &Result<Step, Refusal>,
+    p: u64,
+) -> io::Result<()> {
+    let (finished, place) = match step {
+        Ok(Step::At(place)) => (0, *place),
+        Ok(Step::Finished) => (1, Place::default()),
+        Err(_) => (0, Place::default()),
+    };
+    write!(out, "no={no} finished={finished}")?;
+    write_place(out, kind, place)?;
+    writeln!(out, " p={p}")
+}
+
+fn write_fill(out: &mut impl Write, no: u64, numbers: &[f32]) -> io::Result<()> {
+    const DIGITS: &[u8; 16] = b"0123456789abcdef";
+    write!(out, "no={no}")?;
+    for number in numbers {
+        let mut word = *b" 00000000";
+        for (at, digit) in word[1..].iter_mut().enumerate() {
+            let four_bits = (number.to_bits() >> (28 - 4 * at)) & 15;
+            *digit = DIGITS[four_bits as usize];
+        }
+        out.write_all(&word)?;
+    }
+    writeln!(out)
+}
+
+fn write_element(out: &mut impl Write, no: u64, shown: &Result<Shown, Refusal>) -> io::Result<()> {
+    let (case, re, im) = match shown {
+        Ok(Shown::Silent) | Err(_) => (0, 0, 0),
+        Ok(Shown::Reference(kind)) => (*kind, 0, 0),
+        Ok(Shown::Symbol(s)) => (4, s.re.to_bits(), s.im.to_bits()),
+    };
+    writeln!(out, "no={no} case={case} re={re:08x} im={im:08x}")
+}
+
+fn write_picture(
+    out: &mut impl Write,
+    no: u64,
+    rows: &Result<Vec<String>, Refusal>,
+) -> io::Result<()> {
+    writeln!(out, "no={no}")?;
+    if let Ok(rows) = rows {
+        writeln!(
+            out,
+            "o ours, N narrowband reference, C cell reference, # control region, . anything else"
+        )?;
+        for row in rows {
+            writeln!(out, "{row}")?;
+        }
+    }
+    Ok(())
+}

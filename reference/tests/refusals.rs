@@ -1,0 +1,122 @@
+//! Every number 1 to 17, the bounds of the fields, and the generator's shares.
+
+mod common;
+use common::{ask, value};
+use reference::generate::generate;
+use reference::table::table_of;
+
+const CELL: &str = "set mode=3 nports=1 rmax=1 r=1\n";
+
+/// The number of a question in a standalone cell.
+fn no(question: &str) -> u64 {
+    value(&ask(&format!("{CELL}{question}"))[0], "no")
+}
+
+#[test]
+fn cell_numbers() {
+    assert_eq!(no("cell"), 0);
+    assert_eq!(no("cell mode=4"), 1);
+    assert_eq!(no("cell carrier=2"), 1);
+    assert_eq!(no("cell identity=503"), 0);
+    assert_eq!(no("cell identity=504"), 2);
+    assert_eq!(no("cell nports=0"), 3);
+    assert_eq!(no("cell nports=3"), 3);
+    assert_eq!(no("cell cports=1"), 4);
+    assert_eq!(no("cell mode=0 cports=3 control=1"), 4);
+    assert_eq!(no("cell mode=0 cports=4 control=1"), 0);
+    assert_eq!(no("cell mode=0 cports=4 control=0"), 5);
+    assert_eq!(no("cell control=1"), 5);
+    assert_eq!(no("cell sib1=11"), 0);
+    assert_eq!(no("cell sib1=12 carrier=1"), 6);
+    assert_eq!(no("cell bits=11"), 7);
+    assert_eq!(no("cell bits=10 anchor=ff other=ffc0"), 7);
+    assert_eq!(no("cell bits=10 anchor=ffc1"), 7);
+    assert_eq!(no("cell bits=10 anchor=ffc0ff"), 0);
+    assert_eq!(no("cell bits=40 anchor=ffffffff"), 7);
+    assert_eq!(no("cell bits=40 anchor=0000000000ff"), 8);
+}
+
+#[test]
+fn grant_numbers() {
+    for kind in ["down", "control", "up"] {
+        assert_eq!(no(&format!("plan {kind} n=1073741823")), 0);
+        assert_eq!(no(&format!("plan {kind} n=1073741824")), 9);
+    }
+    for word in ["delay=8", "subframes=8", "copies=16"] {
+        assert_eq!(no(&format!("plan down {word}")), 10);
+    }
+    for words in ["format=2", "ncce=2", "format=1 ncce=1"] {
+        assert_eq!(no(&format!("plan control {words}")), 10);
+    }
+    for word in [
+        "spacing=2",
+        "subcarrier=64",
+        "units=8",
+        "copies=8",
+        "delay=4",
+        "mcs=16",
+    ] {
+        assert_eq!(no(&format!("plan up {word}")), 10);
+    }
+    assert_eq!(no("plan up subcarrier=50 mcs=16"), 10);
+    assert_eq!(no("plan up subcarrier=50 mcs=7"), 11);
+    assert_eq!(no("plan up mcs=5"), 13);
+    assert_eq!(no("forward up mcs=15 p=99999"), 13);
+    for power in ["0", "3", "4096", "1099511627776"] {
+        assert_eq!(no(&format!("plan down rmax={power}")), 12);
+        assert_eq!(no(&format!("plan control r={power}")), 12);
+    }
+    assert_eq!(no("plan down rmax=2048 delay=7"), 0);
+    assert_eq!(no("plan up mode=9 nports=9"), 0);
+    assert_eq!(no("plan down n=1073741824 delay=8 bits=11"), 7);
+}
+
+/// Kinds in a sent subframe of an in-band cell, v = 0.
+#[test]
+fn kinds_of_places() {
+    let scene = "set mode=0 identity=6 nports=1 cports=2 control=2 n=11 r=1 format=0 ncce=1\n";
+    let kind = |place: &str| {
+        let answer = &ask(&format!("{scene}backward control {place}"))[0];
+        (value(answer, "ours"), value(answer, "kind"))
+    };
+    assert_eq!(kind("t=11 slot=0 l=2 k=6"), (1, 0));
+    assert_eq!(kind("t=11 slot=0 l=2 k=5"), (0, 0), "the other NCCE's data");
+    assert_eq!(kind("t=11 slot=0 l=0 k=0"), (0, 2), "in the control region");
+    assert_eq!(kind("t=11 slot=0 l=0 k=1"), (0, 0), "control region");
+    assert_eq!(kind("t=11 slot=1 l=4 k=3"), (0, 2));
+    assert_eq!(kind("t=11 slot=1 l=5 k=0"), (0, 1));
+    assert_eq!(kind("t=11 slot=1 l=6 k=9"), (0, 1));
+    assert_eq!(kind("t=11 slot=1 l=6 k=6"), (1, 0), "port 2001 is silent");
+    assert_eq!(kind("t=12 slot=1 l=5 k=0"), (0, 0), "not sent");
+    let up = "set n=0 spacing=1 subcarrier=12\n";
+    let kind = |place: &str| value(&ask(&format!("{up}backward up {place}"))[0], "kind");
+    assert_eq!(kind("slot=18 l=3 k=2"), 1);
+    assert_eq!(kind("slot=18 l=3 k=3"), 0, "a tone not granted");
+    assert_eq!(kind("slot=17 l=3 k=2"), 0, "before the first slot");
+}
+
+#[test]
+fn generated_questions_have_their_shares() {
+    let mut file = Vec::new();
+    generate(7, 20_000, None, &mut file).expect("memory takes all");
+    let table = table_of(&mut &file[..]).expect("memory gives all");
+    let all = table.total();
+    let faults: u64 = table.faults.iter().sum();
+    assert_eq!(all.asked + faults, 20_000);
+    assert!(all.accepted >= 10_000);
+    for no in 1..18 {
+        assert!(all.refused[no] >= 20, "number {no}");
+    }
+    assert!(table.rows.iter().all(|row| row.asked > 0));
+    assert!(table.faults.iter().all(|&count| count > 0));
+}
+
+#[test]
+fn generated_questions_of_one_kind() {
+    let only = reference::text::Question::Forward(reference::text::Kind::Up);
+    let mut file = Vec::new();
+    generate(1, 1000, Some(only), &mut file).expect("memory takes all");
+    let table = table_of(&mut &file[..]).expect("memory gives all");
+    assert_eq!(table.total().asked, 1000);
+    assert_eq!(table.rows[7].asked, 1000);
+}

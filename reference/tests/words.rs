@@ -1,0 +1,185 @@
+//! The text: the worked example, kept values and every `error=` word.
+
+mod common;
+use common::{ask, ask_bytes};
+
+#[test]
+fn worked_example() {
+    let answers = ask("set mode=3 nports=1 n=15 rmax=64 subframes=6
+plan down
+forward down p=60
+backward down t=21 slot=0 l=5 k=1
+");
+    assert_eq!(
+        answers,
+        [
+            "no=0 first=21 last=32 copies=1 places=1280",
+            "no=0 t=21 slot=0 l=5 k=1 symbol=60",
+            "no=0 ours=1 symbol=60 p=60 kind=0",
+        ]
+    );
+}
+
+/// Asks one line and expects one error word.
+fn fault(line: &[u8], word: &str) {
+    let shown = String::from_utf8_lossy(line);
+    assert_eq!(ask_bytes(line), [format!("error={word}")], "{shown}");
+}
+
+#[test]
+fn error_long() {
+    let mut line = b"cell t=".to_vec();
+    line.resize(4096, b'0');
+    assert_eq!(ask_bytes(&line), ["no=3"], "4,096 bytes are read");
+    line.push(b'0');
+    fault(&line, "long");
+    line.push(b'\n');
+    fault(&line, "long");
+    line.pop();
+    line.resize(1_000_000, b'0');
+    line.extend_from_slice(b"\ncell\n");
+    assert_eq!(ask_bytes(&line), ["error=long", "no=3"]);
+}
+
+#[test]
+fn error_question() {
+    for line in [
+        &b"plam down"[..],
+        b" cell",
+        b"Cell",
+        b"cell\r",
+        b"\xff",
+        b"p=1",
+    ] {
+        fault(line, "question");
+    }
+}
+
+#[test]
+fn error_kind() {
+    for line in ["plan", "plan p=1", "plan  down", "plan Down", "picture up"] {
+        fault(line.as_bytes(), "kind");
+    }
+    for line in [
+        "cell down",
+        "set up",
+        "fill down",
+        "element up",
+        "plan down\r",
+    ] {
+        fault(line.as_bytes(), "kind");
+    }
+}
+
+#[test]
+fn error_value() {
+    for line in [
+        "cell mode",
+        "cell  mode=1",
+        "cell ",
+        "cell mode=1\r",
+        "cell t=1\tk=2",
+    ] {
+        fault(line.as_bytes(), "value");
+    }
+    fault(b"plan down down", "value");
+}
+
+#[test]
+fn error_name() {
+    for line in ["cell moed=1", "cell =1", "cell Mode=1", "cell q=x"] {
+        fault(line.as_bytes(), "name");
+    }
+}
+
+#[test]
+fn error_number() {
+    for word in [
+        "p=",
+        "p=-1",
+        "p=+1",
+        "p=0x1",
+        "p=18446744073709551616",
+        "p=1=1",
+    ] {
+        fault(format!("cell {word}").as_bytes(), "number");
+    }
+    let largest = "step up p=18446744073709551615";
+    let answer = "no=14 finished=0 slot=0 l=0 k=0 symbol=0 p=18446744073709551615";
+    assert_eq!(ask(largest), [answer]);
+}
+
+#[test]
+fn error_hex() {
+    for word in [
+        "anchor=abc",
+        "anchor=zz",
+        "other=--",
+        "data=0g",
+        "level=3f80000g",
+    ] {
+        fault(format!("cell {word}").as_bytes(), "hex");
+    }
+}
+
+#[test]
+fn error_size() {
+    for word in ["level=3f8000", "level=3f80000000", "room=1025"] {
+        fault(format!("cell {word}").as_bytes(), "size");
+    }
+    for (name, limit) in [("anchor", 64), ("other", 64), ("data", 1024)] {
+        let full = format!("cell {name}={}", "aB".repeat(limit));
+        assert_eq!(ask(&full), ["no=3"]);
+        fault(format!("{full}00").as_bytes(), "size");
+    }
+}
+
+#[test]
+fn first_fault_from_the_left() {
+    fault(b"cell q=1 mode=x", "name");
+    fault(b"cell mode=x q=1", "number");
+    fault(b"plam sideways q", "question");
+    fault(b"plan sideways q", "kind");
+}
+
+#[test]
+fn values_are_kept_and_faults_change_nothing() {
+    let answers = ask(
+        "set mode=3 nports=1\ncell\ncell mode=4 identity=x\ncell\n\n# cell\n\
+cell mode=4\ncell\ncell mode=3 mode=4 mode=3\nstep up p=95\nstep up\nstep up p=97\nforward up p=0",
+    );
+    let places = "finished=0 slot=20 l=6 k=0 symbol=95 p=96";
+    assert_eq!(
+        answers,
+        [
+            "no=0",
+            "error=number",
+            "no=0",
+            "no=1",
+            "no=1",
+            "no=0",
+            &format!("no=0 {places}"),
+            "no=0 finished=1 slot=0 l=0 k=0 symbol=0 p=96",
+            "no=14 finished=0 slot=0 l=0 k=0 symbol=0 p=97",
+            "no=0 slot=5 l=0 k=0 symbol=0",
+        ]
+    );
+}
+
+#[test]
+fn pictures() {
+    let answers = ask(
+        "set mode=0 identity=1 nports=2 cports=4 control=2 rmax=1 r=1 ncce=1
+picture control
+picture control i=1
+picture down i=0",
+    );
+    assert_eq!(answers[0], "no=0");
+    assert_eq!(answers[2], "##oooooooooooo", "k = 11 has no reference");
+    assert_eq!(answers[3], "CCooCNNCCooCNN", "k = 10: v + 3 = 4");
+    assert_eq!(answers[13], "##............", "k = 0, the other NCCE");
+    assert_eq!(answers[14], "no=14");
+    assert_eq!(answers[15], "no=0");
+    assert_eq!(answers[28], "##oooooooooooo");
+    assert_eq!(answers.len(), 29);
+}
