@@ -1,12 +1,13 @@
 -- Small facts on tests, shared by all crates: order by cases, conjunctions, and tests computed at every number below a bound.
-use mathlib.Core.Bool.{Bool, true, false, not, _&&_, _||_}
-use mathlib.Core.Path.{_≡_, refl, sym, subst}
+use mathlib.Core.Bool.{Bool, true, false, cond, not, _&&_, _||_}
+use mathlib.Core.Path.{_≡_, refl, sym, ap, _∙_, subst}
 use mathlib.Core.Logic.{_⊎_, inl, inr, ⊎-elim}
 use Prim.Native.Nat.{ℕ, zero, suc, _≤_, _<_, _/_}
 use native.Mathlib.Nat.{eq-or-lt-of-le, le-of-suc-le-suc, le-div-iff-mul-le, div-mul-le-self}
 use native.Mathlib.Decide.{decLt}
 use native.Mathlib.Omega.{arith}
-use lib.Dec.{T}
+use lib.Dec.{T, eqb}
+use borrow.Author.Tests.{eq-eqb, ne-eqb}
 use mir.Val.{boolByte}
 
 pub order : (s t : ℕ) → (s < t) ⊎ (t ≤ s)
@@ -51,6 +52,23 @@ not-true-is false h = refl
 pub truth : (b : Bool) → (b ≡ true) ⊎ (b ≡ false)
 truth true = inl refl
 truth false = inr refl
+
+-- ---- chains of refusals: 0 where no test of the chain holds
+
+pub passed : (t : Bool) (k r : ℕ) → 0 < k → cond t k r ≡ 0 → (t ≡ false) × (r ≡ 0)
+passed true k r h e = absurd (omega arith)
+passed false k r h e = (refl, e)
+
+-- the first chain's number, or the next chain's where it is 0
+pub chained : (a r : ℕ) → cond (eqb a 0) r a ≡ 0 → (a ≡ 0) × (r ≡ 0)
+chained a r e = ⊎-elim (λ h. (h, sym (ap (λ (b : Bool). cond b r a) (eq-eqb a 0 h)) ∙ e)) other (zero-or a)
+  where
+    zero-or : (a : ℕ) → (a ≡ 0) ⊎ (0 < a)
+    zero-or zero = inl refl
+    zero-or (suc a) = inr (omega arith)
+
+    other : 0 < a → (a ≡ 0) × (r ≡ 0)
+    other h = absurd (omega (arith, sym (ap (λ (b : Bool). cond b r a) (ne-eqb a 0 (λ z. omega arith))) ∙ e))
 
 -- ---- a test computed at every number below a bound holds at each
 
