@@ -1,6 +1,7 @@
 pub mod Facts
 pub mod Rank
 pub mod Range
+pub mod Rows
 pub mod Select
 pub mod Period
 pub mod Ones

@@ -3,12 +3,12 @@ use mathlib.Core.Bool.{Bool, true, false}
 use mathlib.Core.Path.{_≡_, refl, sym, ap, _∙_}
 use mathlib.Core.Logic.{⊎-elim}
 use Prim.Native.Nat.{ℕ, zero, suc, _+_, _-_, _*_, _/_, _%_, _≤_, _<_}
-use native.Mathlib.Nat.{add-zero, suc-add, zero-add, add-assoc, mod-lt, mod-add-div', zero-mul, suc-mul, mul-le-mul-left}
+use native.Mathlib.Nat.{add-zero, suc-add, zero-add, add-assoc, mod-lt, mod-add-div', zero-mul, suc-mul, mul-le-mul-left, sub-zero}
 use native.Mathlib.Omega.{arith}
 use mir.Val.{boolByte}
 use Rattle.counting.specs.Counting.{rank, count, next, select, amongFirst, Nth, Lists}
 use Rattle.counting.proofs.Facts.{order, byte-some}
-use Rattle.counting.proofs.Rank.{rank-zero, rank-suc, rank-on, rank-yes, rank-count, rank-strict, rank-later, count-between}
+use Rattle.counting.proofs.Rank.{rank-zero, rank-suc, rank-on, rank-yes, rank-count, rank-strict, rank-later, count-between, count-from-zero}
 use Rattle.counting.proofs.Select.{nth-of, nth-unique, next-is, among, among-parts, choice-rank}
 
 module _ (u : ℕ → Bool) (p : ℕ) (repeats : (t : ℕ) → u (t + p) ≡ u t) where
@@ -87,6 +87,19 @@ module _ (u : ℕ → Bool) (p : ℕ) (repeats : (t : ℕ) → u (t + p) ≡ u t
       back = λ t h. select-back f t (among-parts u f K t h .0) (among-parts u f K t h .1);
       rises = λ i j l h. select-rises f i j l;
     }
+
+    -- the first K of all
+    pub lists-from-zero : (K : ℕ) → Lists K (select u p 0) (amongFirst u 0 K) (rank u)
+    lists-from-zero K =
+        let L = lists 0 K in
+        let e : (t : ℕ) → count u 0 (t - 0) ≡ rank u t = λ t. ap (count u 0) (sub-zero t) ∙ count-from-zero u t in
+        record {
+          passes = L .passes;
+          placed = λ i h. sym (e (select u p 0 i)) ∙ L .placed i h;
+          below = λ t h. omega (arith, e t, L .below t h);
+          back = λ t h. ap (select u p 0) (sym (e t)) ∙ L .back t h;
+          rises = L .rises;
+        }
 
     -- counting on from the j-th is counting from f
     pub select-from : (f i j : ℕ) → select u p (select u p f i) j ≡ select u p f (i + j)

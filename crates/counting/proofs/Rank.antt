@@ -1,5 +1,5 @@
 -- Rank: it is linear in ranges, so ranges split by subtraction.
-use mathlib.Core.Bool.{Bool, true, false}
+use mathlib.Core.Bool.{Bool, true, false, not}
 use mathlib.Core.Path.{_≡_, refl, sym, ap, ap₂, _∙_}
 use mathlib.Core.Logic.{⊎-elim}
 use Prim.Native.Nat.{ℕ, zero, suc, _+_, _-_, _≤_, _<_}
@@ -106,3 +106,12 @@ rank-same u v n h =
       count-from-zero v n,
       count-same u v n 0 0 (λ i l. ap u (zero-add i) ∙ h i l ∙ ap v (sym (zero-add i))),
     )
+
+-- what passes and what does not are all
+pub rank-not : (u : ℕ → Bool) (n : ℕ) → rank u n + rank (λ i. not (u i)) n ≡ n
+rank-not u zero = omega (arith, rank-zero u, rank-zero (λ i. not (u i)))
+rank-not u (suc n) = omega (arith, rank-not u n, rank-suc u n, rank-suc (λ i. not (u i)) n, one-of (u n))
+  where
+    one-of : (b : Bool) → boolByte b + boolByte (not b) ≡ 1
+    one-of true = refl
+    one-of false = refl

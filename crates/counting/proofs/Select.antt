@@ -3,14 +3,14 @@ use mathlib.Core.Bool.{Bool, true, false, _&&_}
 use mathlib.Core.Path.{_≡_, refl, sym, ap, _∙_}
 use mathlib.Core.Logic.{⊎-elim}
 use Prim.Native.Nat.{ℕ, zero, suc, _+_, _-_, _≤_, _<_}
-use native.Mathlib.Nat.{add-zero, add-suc, suc-add, zero-add}
+use native.Mathlib.Nat.{add-zero, add-suc, suc-add, zero-add, sub-zero}
 use native.Mathlib.Omega.{arith}
 use lib.Dec.{leb, ltb}
 use mir.Val.{boolByte}
 use borrow.Author.Tests.{le-leb, lt-ltb, leb-true, ltb-true}
 use Rattle.counting.specs.Counting.{rank, count, next, select, amongFirst, Nth, Lists}
 use Rattle.counting.proofs.Facts.{order, byte-some, both, both-parts}
-use Rattle.counting.proofs.Rank.{rank-zero, rank-suc, rank-on, rank-yes, rank-no, rank-mono, rank-strict, rank-later, rank-unique}
+use Rattle.counting.proofs.Rank.{rank-zero, rank-suc, rank-on, rank-yes, rank-no, rank-mono, rank-strict, rank-later, rank-unique, rank-none, count-from-zero}
 
 module _ (u : ℕ → Bool) where
   -- it passes, and has j more before it than f has: then it lies from f on
@@ -36,6 +36,14 @@ module _ (u : ℕ → Bool) where
   unfolding next
   next-is zero f h = absurd (omega (arith, ap (rank u) (add-zero f)))
   next-is (suc d) f h = next-by f d (u f) refl h (next-is d (suc f))
+
+  -- a number that passes, with none before it, is the first
+  pub next-least : (d f t : ℕ) → f ≤ t → t < f + d → u t ≡ true → ((i : ℕ) → f ≤ i → i < t → u i ≡ false) → t ≡ next u d f
+  next-least d f t a b y h =
+      let e : f + (t - f) ≡ t = omega arith in
+      let z : rank u t ≡ rank u f = sym (ap (rank u) e) ∙ rank-none u f (t - f) (λ i p q. h i p (omega arith)) in
+      nth-unique f 0 t (next u d f) (nth-of f 0 t y (omega arith))
+      (next-is d f (omega (arith, rank-strict u t (f + d) y b)))
 
   -- the scan over a stretch of n from f on, as long as so many pass there
   pub select-within : (f n j : ℕ) → rank u f + j < rank u (f + n) → Nth u f j (select u n f j)
@@ -81,12 +89,33 @@ module _ (u : ℕ → Bool) where
       let b = both-parts (u t) (ltb (count u f (t - f)) K) (a .1) in
       (leb-true f t (a .0), b .0, ltb-true (count u f (t - f)) K (b .1))
 
+  -- counted from 0, the count is the rank
+  pub among-from-zero : (K t : ℕ) → amongFirst u 0 K t ≡ (u t && ltb (rank u t) K)
+  unfolding amongFirst
+  among-from-zero K t =
+      rw (le-leb 0 t (omega arith)) (ap (λ (n : ℕ). u t && ltb n K) (ap (count u 0) (sub-zero t) ∙ count-from-zero u t))
+
   -- no rising choice of numbers that pass is ahead of the count
   pub choice-rank : (f K : ℕ) (s : ℕ → ℕ) → f ≤ s 0 → ((i : ℕ) → i < K → u (s i) ≡ true) → ((i : ℕ) → suc i < K → s i < s (suc i))
       → (i : ℕ) → i < K → rank u f + i ≤ rank u (s i)
   choice-rank f K s h y r zero l = omega (arith, rank-mono u f (s 0) h)
   choice-rank f K s h y r (suc i) l =
       omega (arith, choice-rank f K s h y r i (omega arith), rank-strict u (s i) (s (suc i)) (y i (omega arith)) (r i l))
+
+-- a list moved on by s
+pub lists-moved : (s n : ℕ) (item : ℕ → ℕ) (test : ℕ → Bool) (place : ℕ → ℕ) → Lists n item test place
+    → Lists n (λ i. s + item i) (λ t. leb s t && test (t - s)) (λ t. place (t - s))
+lists-moved s n item test place L =
+    let off : (i : ℕ) → s + item i - s ≡ item i = λ i. omega arith in
+    let parts : (t : ℕ) → (leb s t && test (t - s)) ≡ true → (s ≤ t) × (test (t - s) ≡ true) =
+    λ t h. (leb-true s t (both-parts (leb s t) (test (t - s)) h .0), both-parts (leb s t) (test (t - s)) h .1) in
+    record {
+      passes = λ i h. both _ _ (le-leb s (s + item i) (omega arith)) (ap test (off i) ∙ L .passes i h);
+      placed = λ i h. ap place (off i) ∙ L .placed i h;
+      below = λ t h. L .below (t - s) (parts t h .1);
+      back = λ t h. omega (arith, L .back (t - s) (parts t h .1), parts t h .0);
+      rises = λ i j l h. omega (arith, L .rises i j l h);
+    }
 
 -- ---- looking for the e-th below n one number at a time: d is 1 where x passes
 

@@ -49,3 +49,12 @@ uplinkSubcarriers spacing = cond (eqb spacing 0) 48 12
 -- elements of an uplink slot of T subcarriers are numbered by symbol, then subcarrier
 abbrev pub uplinkElementOf : ℕ → ℕ → ℕ → ℕ
 uplinkElementOf T l k = l * T + k
+
+abbrev pub uplinkElements : ℕ → ℕ
+uplinkElements T = symbols * T
+
+abbrev pub uplinkSymbolOf : ℕ → ℕ → ℕ
+uplinkSymbolOf T x = x / T
+
+abbrev pub uplinkSubcarrierOf : ℕ → ℕ → ℕ
+uplinkSubcarrierOf T x = x % T

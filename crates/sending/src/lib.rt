@@ -1,5 +1,7 @@
-// What stands at a place, as backward answers it; the copy order, the abstract sending and demand 3 are in specs/ and proofs/.
+// The copy order, and what stands at a place, as backward answers it; the abstract sending and demand 3 are in specs/ and proofs/.
 ghost use mathlib.Core.Path.{_≡_};
+ghost use Prim.Native.Nat.{_<_};
+ghost use Rattle.sending.specs.CopyOrder.{carried, Grouped};
 ghost use Rattle.sending.specs.Sending.{Content};
 ghost use Rattle.sending.specs.Answer.{backOf, refusedBack};
 
@@ -46,4 +48,13 @@ pub fn refused(no: u64) -> Back
         position: 0,
         kind: 0,
     }
+}
+
+// The codeword unit that transmitted unit i carries.
+pub fn carried(row: u64, group: u64, units: u64, i: u64) -> u64
+    requires { ⌜ Grouped row group units ⌝ }
+    ensures { λ r. ⌜ (r ≡ carried row group units i) × (r < units) ⌝ }
+{
+    let r = i % (row * units);
+    group * (r / (group * row)) + r % group
 }

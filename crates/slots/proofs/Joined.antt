@@ -1,0 +1,103 @@
+-- The parts of an answer, joined: an equation for each number that the code works out, and no path through the code.
+use mathlib.Core.Bool.{Bool, true, false, cond, _&&_}
+use mathlib.Core.Path.{_≡_, refl, sym, ap, ap₂, _∙_}
+use Prim.Native.Nat.{ℕ, _+_, _-_, _*_, _/_, _%_, _^_, _≤_, _<_}
+use native.Mathlib.Nat.{mul-le-mul, mod-lt, div-lt-iff-lt-mul}
+use native.Mathlib.Omega.{arith}
+use lib.Dec.{leb, ltb}
+use mir.Val.{boolByte}
+use borrow.Author.Tests.{le-leb, lt-leb, lt-ltb, le-ltb, leb-true}
+use Rattle.counting.specs.Counting.{rank, amongFirst}
+use Rattle.counting.proofs.Facts.{both-parts}
+use Rattle.counting.proofs.Select.{among-from-zero}
+use Rattle.grid.specs.Grid.{symbols, uplinkElementOf, uplinkSymbolOf, uplinkSubcarrierOf}
+use Rattle.sending.specs.CopyOrder.{carried}
+use Rattle.sending.specs.Sending.{Content, ours, other}
+use Rattle.sending.specs.Answer.{backOf, refusedBack}
+use Rattle.slots.specs.declared.Shape.{Shape}
+use Rattle.slots.specs.declared.UplinkPlace.{UplinkPlace}
+use Rattle.slots.specs.Fits.{Fits}
+use Rattle.slots.specs.Timing.{active, sentSlots, slotAt, isSent, indexOf}
+use Rattle.slots.specs.Elements.{carriesData, carriesReference, slotData, elementAt, numberOf}
+use Rattle.slots.specs.Mapping.{places}
+use Rattle.slots.specs.Answers.{refusedPlace, shapeForward, shapeBackward}
+use Rattle.slots.proofs.Lines.{some-data}
+
+-- ---- slots
+
+pub sent-small : (s : Shape) → Fits s → sentSlots s < 2 ^ 32
+sent-small s f =
+    let a : s .copies ≤ 2 ^ 16 - 1 = omega (arith, f .copiesSmall) in
+    let b : s .codeword ≤ 2 ^ 16 = omega (arith, f .codewordSmall) in
+    omega (arith, mul-le-mul a b)
+
+pub unsent-before : (s : Shape) (slot : ℕ) → slot < s .first → false ≡ isSent s slot
+unfolding isSent
+unsent-before s slot h = rw (lt-leb (s .first) slot h) refl
+
+pub sent-is : (s : Shape) (slot : ℕ) (a : Bool) (n K : ℕ) → s .first ≤ slot → a ≡ active s (slot - s .first)
+    → n ≡ rank (active s) (slot - s .first) → K ≡ sentSlots s → (a && ltb n K) ≡ isSent s slot
+unfolding isSent
+sent-is s slot a n K h ha hn hK =
+    rw (ha, hn, hK, le-leb (s .first) slot h) (sym (among-from-zero (active s) (sentSlots s) (slot - s .first)))
+
+pub sent-late : (s : Shape) (slot : ℕ) → isSent s slot ≡ true → s .first ≤ slot
+unfolding isSent
+sent-late s slot h = leb-true (s .first) slot (both-parts (leb (s .first) slot) _ h .0)
+
+-- ---- forward
+
+module _ (s : Shape) (p : ℕ) where
+  pub forward-refused : places s ≤ p → refusedPlace 14 ≡ shapeForward s p
+  unfolding shapeForward
+  forward-refused h = rw (le-ltb p (places s) h) refl
+
+  module _ (f : Fits s) (w : ℕ) (h : p < places s) (hw : w ≡ slotData s) where
+    pub unit-small : p / w < 2 ^ 32
+    unit-small =
+        let l : p / slotData s < sentSlots s = div-lt-iff-lt-mul (some-data s f) .1 h in
+        omega (arith, ap (λ (y : ℕ). p / y) hw, sent-small s f)
+
+    pub rest-below : p % w < slotData s
+    rest-below = omega (arith, ap (λ (y : ℕ). p % y) hw, mod-lt p (some-data s f))
+
+  pub forward-is : (w slot l k unit symbol : ℕ) → p < places s → w ≡ slotData s → slot ≡ slotAt s (p / w)
+      → l ≡ uplinkSymbolOf (s .subcarriers) (elementAt s (p % w)) → k ≡ uplinkSubcarrierOf (s .subcarriers) (elementAt s (p % w))
+      → unit ≡ carried (s .row) (s .group) (s .codeword) (p / w) → symbol ≡ unit * w + p % w
+      → _≡_ {A = UplinkPlace} (record { no = 0; slot = slot; l = l; k = k; symbol = symbol }) (shapeForward s p)
+  unfolding shapeForward
+  forward-is w slot l k unit symbol h hw hs hl hk hu hy =
+      rw (lt-ltb p (places s) h)
+      (λ i. record {
+        no = 0;
+        slot = (hs ∙ ap (λ (y : ℕ). slotAt s (p / y)) hw) i;
+        l = (hl ∙ ap (λ (y : ℕ). uplinkSymbolOf (s .subcarriers) (elementAt s (p % y))) hw) i;
+        k = (hk ∙ ap (λ (y : ℕ). uplinkSubcarrierOf (s .subcarriers) (elementAt s (p % y))) hw) i;
+        symbol =
+            (hy ∙ ap (λ (y : ℕ). y * w + p % w) hu
+            ∙ ap (λ (y : ℕ). carried (s .row) (s .group) (s .codeword) (p / y) * y + p % y) hw) i;
+      })
+
+-- ---- backward
+
+module _ (s : Shape) (slot l k : ℕ) where
+  pub backward-outside : (ltb l symbols && ltb k (s .subcarriers)) ≡ false → refusedBack 14 ≡ shapeBackward s slot l k
+  unfolding shapeBackward
+  backward-outside h = rw h refl
+
+  module _ (inside : (ltb l symbols && ltb k (s .subcarriers)) ≡ true) where
+    pub backward-unsent : isSent s slot ≡ false → backOf (other 0) ≡ shapeBackward s slot l k
+    unfolding shapeBackward
+    backward-unsent h = rw (inside, h) refl
+
+    pub backward-other : (kind : ℕ) → isSent s slot ≡ true → carriesData s (uplinkElementOf (s .subcarriers) l k) ≡ false
+        → kind ≡ boolByte (carriesReference s (uplinkElementOf (s .subcarriers) l k)) → backOf (other kind) ≡ shapeBackward s slot l k
+    unfolding shapeBackward
+    backward-other kind h n e = rw (inside, h, n, e) refl
+
+    pub backward-ours : (w i e unit symbol p : ℕ) → isSent s slot ≡ true → carriesData s (uplinkElementOf (s .subcarriers) l k) ≡ true
+        → w ≡ slotData s → i ≡ indexOf s slot → e ≡ numberOf s (uplinkElementOf (s .subcarriers) l k)
+        → unit ≡ carried (s .row) (s .group) (s .codeword) i → symbol ≡ unit * w + e → p ≡ i * w + e
+        → backOf (ours symbol p) ≡ shapeBackward s slot l k
+    unfolding shapeBackward
+    backward-ours w i e unit symbol p h d hw hi he hu hs hp = rw (inside, h, d, ← hw, ← hi, ← he, ← hu, ← hs, ← hp) refl

@@ -1,0 +1,65 @@
+-- An uplink sending is lawful, so demand 3 holds of it; and what holds of a place.
+use mathlib.Core.Bool.{Bool, true, false, _&&_}
+use mathlib.Core.Path.{_≡_, refl, sym, ap, _∙_}
+use Prim.Native.Nat.{ℕ, _+_, _*_, _/_, _%_, _≤_, _<_}
+use native.Mathlib.Nat.{mod-lt, mul-pos}
+use native.Mathlib.Omega.{arith}
+use lib.Dec.{ltb}
+use borrow.Author.Tests.{lt-ltb, le-ltb}
+use Rattle.counting.proofs.Facts.{both}
+use Rattle.grid.specs.Grid.{symbols, uplinkElementOf, uplinkSymbolOf, uplinkSubcarrierOf}
+use Rattle.sending.specs.declared.Back.{Back}
+use Rattle.sending.specs.Sending.{Sending, Spot, spotAt, contentAt}
+use Rattle.sending.specs.Answer.{backOf}
+use Rattle.sending.specs.Demand.{Lawful, Sound}
+use Rattle.sending.proofs.CopyOrder.{copied, carried-below}
+use Rattle.sending.proofs.Demand.{sound}
+use Rattle.slots.specs.declared.Shape.{Shape}
+use Rattle.slots.specs.declared.UplinkPlace.{UplinkPlace}
+use Rattle.slots.specs.Fits.{Fits}
+use Rattle.slots.specs.Elements.{isReference, isGranted, isDataSymbol, carriesData, slotData, elementAt}
+use Rattle.slots.specs.Mapping.{sendingOf, places}
+use Rattle.slots.specs.Answers.{placeOf, refusedPlace, shapeForward, shapeBackward}
+use Rattle.slots.proofs.Rounds.{slots-listed}
+use Rattle.slots.proofs.Lines.{some-data, elements-listed, data-parts, data-symbol-parts, granted-parts}
+use Rattle.slots.proofs.Joined.{forward-refused}
+
+module _ (s : Shape) (f : Fits s) where
+  pub lawful : Lawful (sendingOf s) (s .codeword) (s .copies)
+  lawful = record {
+    some = some-data s f;
+    units = slots-listed s (f .block);
+    elements = elements-listed s f;
+    whole = refl;
+    known = λ i h. carried-below (s .row) (s .group) (s .codeword) i (f .row) (f .group) (f .groups) (f .codeword);
+    each = λ w h. copied (s .copies) (s .row) (s .group) (s .codeword) w (f .row) (f .group) (f .passes) (f .groups) h;
+  }
+
+  pub shape-sound : Sound (sendingOf s) (s .codeword) (s .copies)
+  shape-sound = sound (sendingOf s) (s .codeword) (s .copies) lawful
+
+  -- ---- the answers are those of the sending
+
+  pub forward-place : (p : ℕ) → p < places s → shapeForward s p ≡ placeOf (s .subcarriers) (spotAt (sendingOf s) p)
+  unfolding shapeForward
+  forward-place p h = rw (lt-ltb p (places s) h) refl
+
+  pub backward-content : (slot l k : ℕ) → l < symbols → k < s .subcarriers
+      → shapeBackward s slot l k ≡ backOf (contentAt (sendingOf s) slot (uplinkElementOf (s .subcarriers) l k))
+  unfolding shapeBackward
+  backward-content slot l k h g = rw (lt-ltb l symbols h, lt-ltb k (s .subcarriers) g) refl
+
+  -- ---- a place is a data element of the grid: on a granted tone, and on no reference symbol
+
+  place-data : (p : ℕ) → carriesData s (elementAt s (p % slotData s)) ≡ true
+  place-data p = elements-listed s f .passes (p % slotData s) (mod-lt p (some-data s f))
+
+  pub place-symbol : (p : ℕ) → p < places s → (shapeForward s p .l < symbols) × (isReference s (shapeForward s p .l) ≡ false)
+  place-symbol p h = rw (forward-place p h) (data-symbol-parts s f _ (data-parts s f _ (place-data p) .0))
+
+  pub place-granted : (p : ℕ) → p < places s → isGranted s (shapeForward s p .k) ≡ true
+  place-granted p h = rw (forward-place p h) (data-parts s f _ (place-data p) .1)
+
+  pub place-subcarrier : (p : ℕ) → p < places s → shapeForward s p .k < s .subcarriers
+  place-subcarrier p h =
+      rw (forward-place p h) (mod-lt (elementAt s (p % slotData s)) (omega (arith, f .tones, f .withinTones)))

@@ -1,0 +1,4 @@
+pub mod Rounds
+pub mod Lines
+pub mod Joined
+pub mod Lawfulness

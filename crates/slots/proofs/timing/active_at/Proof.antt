@@ -1,0 +1,21 @@
+use Prim.Native.Nat.{_+_, _*_, _/_, _^_, _<_}
+use native.Mathlib.Nat.{div-le-self, mul-le-mul, le-of-lt}
+use native.Mathlib.Omega.{arith}
+use borrow.Author.Needs.{needs}
+use Rattle.slots.proofs.Rounds.{at-index}
+use Rattle.slots.proofs.timing.active_at.Statement.{statement}
+use Rattle.slots.proofs.timing.active_at.Tie as tie
+
+small : (c : tie.Start) → c .args .i + c .args .s .gap * (c .args .i / c .args .s .block) < 2 ^ 49
+small c =
+    let q : c .args .i / c .args .s .block < 2 ^ 32 = omega (arith, div-le-self (c .args .i) (c .args .s .block)) in
+    omega (arith, mul-le-mul (le-of-lt (c .pre .0 .gapSmall)) (le-of-lt q))
+
+pub active-at-spec : {M : Type 1} → statement M
+active-at-spec =
+    tie.close
+    (tie.spec
+    (λ c. search needs)
+    (λ c. omega (arith, small c))
+    (λ c. omega (arith, small c))
+    (λ c. (at-index (c .args .s) (c .pre .0 .block) (c .args .i), small c)))

@@ -1,0 +1,5 @@
+pub mod Timing
+pub mod Elements
+pub mod Mapping
+pub mod Answers
+pub mod Fits

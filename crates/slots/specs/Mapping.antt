@@ -1,0 +1,30 @@
+-- An uplink grant's sending: its slots, their data elements, the copy order, and kind 1 on the reference signal of slots that are sent.
+use mathlib.Core.Bool.{_&&_}
+use Prim.Native.Nat.{ℕ, _*_}
+use mir.Val.{boolByte}
+use Rattle.sending.specs.CopyOrder.{carried}
+use Rattle.sending.specs.Sending.{Sending}
+use Rattle.slots.specs.declared.Shape.{Shape}
+use Rattle.slots.specs.Timing.{sentSlots, slotAt, isSent, indexOf}
+use Rattle.slots.specs.Elements.{carriesData, carriesReference, slotData, elementAt, numberOf}
+
+abbrev pub sendingOf : Shape → Sending
+sendingOf s = record {
+  K = sentSlots s;
+  W = slotData s;
+  time = slotAt s;
+  sent = isSent s;
+  index = indexOf s;
+  elem = elementAt s;
+  used = carriesData s;
+  number = numberOf s;
+  carry = carried (s .row) (s .group) (s .codeword);
+  kind = λ slot x. boolByte (isSent s slot && carriesReference s x);
+}
+
+-- symbols of the codeword, and places: each copy has every symbol once
+abbrev pub codewordSymbols : Shape → ℕ
+codewordSymbols s = s .codeword * slotData s
+
+abbrev pub places : Shape → ℕ
+places s = sentSlots s * slotData s

@@ -1,0 +1,30 @@
+-- When an uplink grant sends: TS 36.211 clause 10.1.3.6; 01 "Uplink grants".
+use mathlib.Core.Bool.{Bool, _&&_}
+use Prim.Native.Nat.{ℕ, _+_, _-_, _*_, _%_}
+use lib.Dec.{leb, ltb}
+use Rattle.counting.specs.Counting.{rank, select, amongFirst}
+use Rattle.slots.specs.declared.Shape.{Shape}
+
+-- 256 ms of sending and the 40 ms that are left empty after them, in slots
+abbrev pub round : Shape → ℕ
+round s = s .block + s .gap
+
+-- slot number x, counted from the slot that the grant first names, may be sent: it lies in 256 ms of sending
+unfoldable pub active : Shape → ℕ → Bool
+active s x = ltb (x % round s) (s .block)
+
+-- how many slots are sent: the codeword's slots, once for each copy
+abbrev pub sentSlots : Shape → ℕ
+sentSlots s = s .copies * s .codeword
+
+-- transmitted slot i
+unfoldable pub slotAt : Shape → ℕ → ℕ
+slotAt s i = s .first + select (active s) (round s) 0 i
+
+-- a slot is sent: it is one of the first so many that may be
+unfoldable pub isSent : Shape → ℕ → Bool
+isSent s slot = leb (s .first) slot && amongFirst (active s) 0 (sentSlots s) (slot - s .first)
+
+-- which transmitted slot it is
+unfoldable pub indexOf : Shape → ℕ → ℕ
+indexOf s slot = rank (active s) (slot - s .first)

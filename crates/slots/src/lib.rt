@@ -1,0 +1,211 @@
+// Uplink questions on a shape: the numbers that place a grant's codeword on uplink slots, whatever kind of grant they are made from.
+ghost use mathlib.Core.Path.{_≡_};
+ghost use mathlib.Core.Bool.{true};
+ghost use Prim.Native.Nat.{_+_, _*_, _^_, _<_};
+ghost use Rattle.sending.specs.CopyOrder.{carried};
+ghost use Rattle.slots.specs.Fits.{Fits};
+ghost use Rattle.slots.specs.Timing.{sentSlots, slotAt, isSent, indexOf};
+ghost use Rattle.slots.specs.Mapping.{places};
+ghost use Rattle.slots.specs.Answers.{refusedPlan, refusedPlace, shapePlan, shapeForward, shapeBackward};
+use grid::UplinkGrid;
+use sending::Back;
+
+mod data;
+mod timing;
+
+// Slots from `first` on, in blocks of sending with a gap after each; `tones` of the grid's `subcarriers` from `tone` on; `codeword` slots,
+// sent `copies` times, each group of `group` slots `row` times in a row; `references` reference symbols from `reference` on; the transport
+// block's size and the modulation order.
+pub struct Shape {
+    pub first: u64,
+    pub subcarriers: u64,
+    pub block: u64,
+    pub gap: u64,
+    pub tone: u64,
+    pub tones: u64,
+    pub codeword: u64,
+    pub copies: u64,
+    pub row: u64,
+    pub group: u64,
+    pub reference: u64,
+    pub references: u64,
+    pub size: u64,
+    pub order: u64,
+}
+
+// Plan's answer: the refusal number; the first and last slot, the copies, the places, the transport block's size and the modulation order.
+pub struct UplinkPlan {
+    pub no: u64,
+    pub first: u64,
+    pub last: u64,
+    pub copies: u64,
+    pub places: u64,
+    pub size: u64,
+    pub order: u64,
+}
+
+// Forward's answer: the refusal number; slot, symbol and subcarrier of the place, and the codeword symbol there.
+pub struct UplinkPlace {
+    pub no: u64,
+    pub slot: u64,
+    pub l: u64,
+    pub k: u64,
+    pub symbol: u64,
+}
+
+pub fn refused_plan(no: u64) -> UplinkPlan
+    ensures { λ r. ⌜ r ≡ refusedPlan no ⌝ }
+{
+    UplinkPlan {
+        no,
+        first: 0,
+        last: 0,
+        copies: 0,
+        places: 0,
+        size: 0,
+        order: 0,
+    }
+}
+
+pub fn refused_place(no: u64) -> UplinkPlace
+    ensures { λ r. ⌜ r ≡ refusedPlace no ⌝ }
+{
+    UplinkPlace {
+        no,
+        slot: 0,
+        l: 0,
+        k: 0,
+        symbol: 0,
+    }
+}
+
+// How many slots are sent.
+fn sent_slots(s: Shape) -> u64
+    requires { ⌜ Fits s ⌝ }
+    ensures { λ r. ⌜ (r ≡ sentSlots s) × (0 < r) × (r < 2 ^ 32) ⌝ }
+{
+    let copies = s.copies;
+    let codeword = s.codeword;
+    copies * codeword
+}
+
+// Transmitted slot i.
+fn slot_at(s: Shape, i: u64) -> u64
+    requires { ⌜ Fits s × (i < 2 ^ 32) ⌝ }
+    ensures { λ r. ⌜ r ≡ slotAt s i ⌝ }
+{
+    let first = s.first;
+    first + timing::active_at(s, i)
+}
+
+// The slot is sent.
+fn is_sent(s: Shape, slot: u64) -> bool
+    requires { ⌜ Fits s ⌝ }
+    ensures { λ r. ⌜ r ≡ isSent s slot ⌝ }
+{
+    let first = s.first;
+    if slot < first {
+        return false;
+    }
+    let x = slot - first;
+    let before = timing::active_before(s, x);
+    timing::is_active(s, x) & (before < sent_slots(s))
+}
+
+// Which transmitted slot it is.
+fn index_of(s: Shape, slot: u64) -> u64
+    requires { ⌜ Fits s × (isSent s slot ≡ true) ⌝ }
+    ensures { λ r. ⌜ (r ≡ indexOf s slot) × (r < 2 ^ 32) ⌝ }
+{
+    let first = s.first;
+    timing::active_before(s, slot - first)
+}
+
+// The codeword slot that transmitted slot i carries.
+fn carried_by(s: Shape, i: u64) -> u64
+    requires { ⌜ Fits s ⌝ }
+    ensures { λ r. ⌜ (r ≡ carried (s .row) (s .group) (s .codeword) i) × (r < 2 ^ 16) ⌝ }
+{
+    sending::carried(s.row, s.group, s.codeword, i)
+}
+
+// How many places there are.
+fn places(s: Shape) -> u64
+    requires { ⌜ Fits s ⌝ }
+    ensures { λ r. ⌜ r ≡ places s ⌝ }
+{
+    sent_slots(s) * data::slot_data(s)
+}
+
+// Item e of row a, in rows of w.
+fn item(a: u64, w: u64, e: u64) -> u64
+    requires { ⌜ (a < 2 ^ 32) × (w < 2 ^ 19) × (e < w) ⌝ }
+    ensures { λ r. ⌜ r ≡ a * w + e ⌝ }
+{
+    a * w + e
+}
+
+// First and last slot, copies, places, size and order.
+pub fn plan(s: Shape) -> UplinkPlan
+    requires { ⌜ Fits s ⌝ }
+    ensures { λ r. ⌜ r ≡ shapePlan s ⌝ }
+{
+    let first = slot_at(s, 0);
+    let last = slot_at(s, sent_slots(s) - 1);
+    UplinkPlan {
+        no: 0,
+        first,
+        last,
+        copies: s.copies,
+        places: places(s),
+        size: s.size,
+        order: s.order,
+    }
+}
+
+// The place of position p, and the symbol there.
+pub fn forward(s: Shape, p: u64) -> UplinkPlace
+    requires { ⌜ Fits s ⌝ }
+    ensures { λ r. ⌜ r ≡ shapeForward s p ⌝ }
+{
+    if p >= places(s) {
+        return refused_place(14);
+    }
+    let w = data::slot_data(s);
+    let i = p / w;
+    let e = p % w;
+    let slot = slot_at(s, i);
+    let l = data::symbol_at(s, e);
+    let k = data::subcarrier_at(s, e);
+    let unit = carried_by(s, i);
+    UplinkPlace {
+        no: 0,
+        slot,
+        l,
+        k,
+        symbol: item(unit, w, e),
+    }
+}
+
+// What stands at symbol l and subcarrier k of a slot.
+pub fn backward(s: Shape, slot: u64, l: u64, k: u64) -> Back
+    requires { ⌜ Fits s ⌝ }
+    ensures { λ r. ⌜ r ≡ shapeBackward s slot l k ⌝ }
+{
+    let subcarriers = s.subcarriers;
+    let inside = (l < UplinkGrid::SYMBOLS) & (k < subcarriers);
+    if !inside {
+        return sending::refused(14);
+    }
+    if !is_sent(s, slot) {
+        return sending::other(0);
+    }
+    if !data::carries_data(s, l, k) {
+        return sending::other(data::reference_kind(s, l, k));
+    }
+    let w = data::slot_data(s);
+    let i = index_of(s, slot);
+    let e = data::number_of(s, l, k);
+    let unit = carried_by(s, i);
+    sending::ours(item(unit, w, e), item(i, w, e))
+}
