@@ -5,13 +5,13 @@ use Prim.Native.Nat.{ℕ, _+_, _*_, _≤_, _<_}
 use native.Mathlib.Omega.{arith}
 use lib.Dec.{eqb, ltb, leb}
 use borrow.Author.Tests.{ltb-true, leb-true, le-leb, lt-ltb}
-use Rattle.counting.specs.Counting.{Lists}
+use Rattle.counting.specs.Counting.{Lists, inRange}
 use Rattle.counting.proofs.Facts.{both-parts, either-parts, not-true-is}
 use Rattle.counting.proofs.Rank.{rank-le, rank-strict}
 use Rattle.counting.proofs.Select.{lists-below}
 use Rattle.grid.specs.Grid.{subcarriers, symbols, elements, elementOf, slotOf, symbolOf, subcarrierOf}
 use Rattle.elements.specs.declared.Layout.{Layout}
-use Rattle.elements.specs.Elements.{nrs, crs, reference, controlRegion, eligible, inPart, used, kindOf, countOf, elementAt, numberOf, ncceWidth, npdcchFrom, npdcchWidth, Part}
+use Rattle.elements.specs.Elements.{nrs, crs, reference, controlRegion, eligible, used, kindOf, countOf, elementAt, numberOf, ncceWidth, npdcchFrom, npdcchWidth, Part}
 use Rattle.elements.proofs.Masks.{and-false}
 use Rattle.elements.proofs.Rows.{row-used}
 
@@ -37,7 +37,7 @@ module _ (g : Layout) (from width : ℕ) where
       let w = crs g (symbolOf x) (subcarrierOf x) in
       let c = controlRegion g (slotOf x) (symbolOf x) in
       let k = subcarrierOf x in
-      let u = both-parts (eligible g x) (inPart from width k) h in
+      let u = both-parts (eligible g x) (inRange from width k) h in
       let i = both-parts (ltb x elements) (not c && not (n || w)) (u .0) in
       let o = both-parts (not c) (not (n || w)) (i .1) in
       let r = either-parts n w (not-true-is (n || w) (o .1)) in

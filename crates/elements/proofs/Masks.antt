@@ -10,8 +10,9 @@ use borrow.Author.Tests.{eqb-true, ne-eqb}
 use Rattle.counting.specs.Bits.{bitAt}
 use Rattle.counting.proofs.Facts.{order, each, each-at, alike, alike-eq}
 use Rattle.grid.specs.Grid.{subcarriers}
+use Rattle.counting.specs.Counting.{inRange}
 use Rattle.elements.specs.declared.Layout.{Layout}
-use Rattle.elements.specs.Elements.{near, far, nrs, crs, reference, inPart, ncceWidth, Part}
+use Rattle.elements.specs.Elements.{near, far, nrs, crs, reference, ncceWidth, Part}
 use Rattle.elements.specs.Quick.{referenceOn, freeOf}
 
 pub and-false : (a : Bool) → (a && false) ≡ false
@@ -82,11 +83,11 @@ parts P a b c from width h = ⊎-elim first second (order from 1)
         subst (λ (x : ℕ). P x width) z (subst (P 6) e c)
 
 abbrev halved : ℕ → ℕ → ℕ → Bool
-halved from width k = alike (inPart from width k) (cond (ltb k 6) (inPart from width 0) (inPart from width 6))
+halved from width k = alike (inRange from width k) (cond (ltb k 6) (inRange from width 0) (inRange from width 6))
 
-pub part-halves : (from width : ℕ) → Part from width → (k : ℕ) → k < subcarriers → inPart from width k ≡ cond (ltb k 6) (inPart from width 0) (inPart from width 6)
+pub part-halves : (from width : ℕ) → Part from width → (k : ℕ) → k < subcarriers → inRange from width k ≡ cond (ltb k 6) (inRange from width 0) (inRange from width 6)
 part-halves from width h k l =
-    alike-eq (inPart from width k) (cond (ltb k 6) (inPart from width 0) (inPart from width 6))
+    alike-eq (inRange from width k) (cond (ltb k 6) (inRange from width 0) (inRange from width 6))
     (each-at subcarriers (halved from width) (parts (λ f w. T (each subcarriers (halved f w))) tt tt tt from width h) k l)
 
 -- ---- the digits that near and far references take

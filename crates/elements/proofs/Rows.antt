@@ -12,8 +12,9 @@ use Rattle.counting.proofs.Rank.{rank-later}
 use Rattle.counting.proofs.Select.{is-select-below}
 use Rattle.counting.proofs.Ones.{span-part, span-whole, ones-low, ones-rank}
 use Rattle.grid.specs.Grid.{subcarriers, symbols, elements, slotOf, symbolOf, subcarrierOf}
+use Rattle.counting.specs.Counting.{inRange}
 use Rattle.elements.specs.declared.Layout.{Layout}
-use Rattle.elements.specs.Elements.{reference, controlRegion, eligible, inPart, used, countOf, elementAt, numberOf, Part}
+use Rattle.elements.specs.Elements.{reference, controlRegion, eligible, used, countOf, elementAt, numberOf, Part}
 use Rattle.elements.specs.Quick.{rows, referenceOn, freeOf, RowMask}
 use Rattle.elements.proofs.Masks.{reference-spread, part-halves, maskOf, mask-small, mask-digit}
 
@@ -22,7 +23,7 @@ use Rattle.elements.proofs.Masks.{reference-spread, part-halves, maskOf
 module _ (g : Layout) (from width row : ℕ) (hr : row < rows) where
   pub row-used : (k : ℕ) → k < subcarriers
       → used g from width (subcarriers * row + k)
-      ≡ ((not (controlRegion g (row / symbols) (row % symbols)) && not (reference g (row % symbols) k)) && inPart from width k)
+      ≡ ((not (controlRegion g (row / symbols) (row % symbols)) && not (reference g (row % symbols) k)) && inRange from width k)
   unfolding used eligible
   row-used k l =
       let s : slotOf (subcarriers * row + k) ≡ row / symbols = omega arith in
@@ -39,20 +40,20 @@ module _ (g : Layout) (from width row : ℕ) (hr : row < rows) where
 
   open-mask : g .v < 6 → Part from width → controlRegion g (row / symbols) (row % symbols) ≡ false
       → RowMask g from width row
-      (maskOf (g .v) (referenceOn g (row % symbols) true false) (referenceOn g (row % symbols) false true) (inPart from width 0) (inPart from width 6))
+      (maskOf (g .v) (referenceOn g (row % symbols) true false) (referenceOn g (row % symbols) false true) (inRange from width 0) (inRange from width 6))
   open-mask h p e =
       let a : Bool = referenceOn g (row % symbols) true false in
       let b : Bool = referenceOn g (row % symbols) false true in
       record {
-        small = mask-small (g .v) a b (inPart from width 0) (inPart from width 6) h;
-        bits = λ k l. mask-digit (g .v) a b (inPart from width 0) (inPart from width 6) h k l
+        small = mask-small (g .v) a b (inRange from width 0) (inRange from width 6) h;
+        bits = λ k l. mask-digit (g .v) a b (inRange from width 0) (inRange from width 6) h k l
             ∙ sym (row-used k l ∙ (rw (e, reference-spread g (row % symbols) k h, part-halves from width p k l) refl));
       }
 
   -- any other: a and b say whether references lie near and far, lower and upper are the part's answers at 0 and 6
   pub row-open : g .v < 6 → Part from width → controlRegion g (row / symbols) (row % symbols) ≡ false → (a b lower upper : Bool) (six x y : ℕ)
       → a ≡ referenceOn g (row % symbols) true false → b ≡ referenceOn g (row % symbols) false true → six ≡ freeOf (g .v) a b
-      → lower ≡ inPart from width 0 → x ≡ boolByte lower → upper ≡ inPart from width 6 → y ≡ boolByte upper
+      → lower ≡ inRange from width 0 → x ≡ boolByte lower → upper ≡ inRange from width 6 → y ≡ boolByte upper
       → RowMask g from width row (six * (x + 64 * y))
   row-open h p e a b lower upper six x y ea eb es el ex eu ey = rw (es, ex, ey, ea, eb, el, eu) (open-mask h p e)
 

@@ -5,7 +5,7 @@ use mathlib.Core.Path.{_≡_}
 use Prim.Native.Nat.{ℕ, _+_, _*_, _%_, _≤_, _<_}
 use lib.Dec.{eqb, ltb, leb}
 use mir.Val.{boolByte}
-use Rattle.counting.specs.Counting.{rank, select}
+use Rattle.counting.specs.Counting.{rank, select, inRange}
 use Rattle.grid.specs.Grid.{subcarriers, elements, slotOf, symbolOf, subcarrierOf}
 use Rattle.elements.specs.declared.Layout.{Layout}
 
@@ -74,12 +74,9 @@ eligible g x =
     ltb x elements
     && (not (controlRegion g (slotOf x) (symbolOf x)) && not (reference g (symbolOf x) (subcarrierOf x)))
 
--- a part of the subcarriers: width of them, from a first one on
-abbrev pub inPart : ℕ → ℕ → ℕ → Bool
-inPart from width k = leb from k && ltb k (from + width)
-
+-- eligible, and in a part of the subcarriers: width of them, from a first one on
 unfoldable pub used : Layout → ℕ → ℕ → ℕ → Bool
-used g from width x = eligible g x && inPart from width (subcarrierOf x)
+used g from width x = eligible g x && inRange from width (subcarrierOf x)
 
 -- E, the e-th used element, and the number of an element: how many used ones come before it, by slot, then l, then k
 abbrev pub countOf : Layout → ℕ → ℕ → ℕ

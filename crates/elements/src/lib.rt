@@ -3,7 +3,8 @@ ghost use mathlib.Core.Path.{_≡_};
 ghost use Prim.Native.Nat.{_*_, _<_, _≤_};
 ghost use mir.Val.{boolByte};
 ghost use Rattle.grid.specs.Grid.{subcarriers, elements};
-ghost use Rattle.elements.specs.Elements.{near, far, nrsOn, crsOn, controlRegion, inPart, used, kindOf, countOf, elementAt, numberOf, npdcchFrom, npdcchWidth, Valid, Part};
+ghost use Rattle.counting.specs.Counting.{inRange};
+ghost use Rattle.elements.specs.Elements.{near, far, nrsOn, crsOn, controlRegion, used, kindOf, countOf, elementAt, numberOf, npdcchFrom, npdcchWidth, Valid, Part};
 ghost use Rattle.elements.specs.Quick.{rows, referenceOn, freeOf, RowMask};
 use grid::Grid;
 
@@ -66,7 +67,7 @@ fn in_control(g: Layout, slot: u64, l: u64) -> bool
 
 fn in_part(from: u64, width: u64, k: u64) -> bool
     requires { ⌜ Part from width ⌝ }
-    ensures { λ r. ⌜ r ≡ inPart from width k ⌝ }
+    ensures { λ r. ⌜ r ≡ inRange from width k ⌝ }
 {
     (from <= k) & (k < from + width)
 }

@@ -1,0 +1,4 @@
+pub mod Fits
+pub mod Mapping
+pub mod Answers
+pub mod Quick
