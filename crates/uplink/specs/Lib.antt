@@ -1,0 +1,5 @@
+pub mod Start
+pub mod Fields
+pub mod Refusals
+pub mod Shaping
+pub mod Questions
