@@ -3,3 +3,4 @@ pub mod Fields
 pub mod Refusals
 pub mod Shaping
 pub mod Questions
+pub mod Cases
