@@ -1,22 +1,22 @@
 -- What acceptance says of a grant's numbers, and that its shape then fits.
-use mathlib.Core.Bool.{Bool, true, false, cond, _||_}
-use mathlib.Core.Path.{_≡_, refl, sym, ap, _∙_}
-use Prim.Native.Nat.{ℕ, _+_, _*_, _^_, _≤_, _<_}
+use mathlib.Core.Path.{_≡_, refl}
+use Prim.Native.Nat.{ℕ, _+_, _^_, _≤_, _<_}
 use native.Mathlib.Nat.{mul-pos, mul-le-mul}
 use native.Mathlib.Omega.{arith}
-use lib.Dec.{eqb, leb, ltb}
+use lib.Dec.{eqb, ltb}
 use borrow.Author.Tests.{ltb-false, leb-false, le-ltb, lt-leb}
 use Rattle.counting.proofs.Facts.{passed, either-parts}
-use Rattle.grid.specs.Grid.{symbols, uplinkSubcarriers}
-use Rattle.grid.specs.Tables.{entry, lengths, uplinkCopies, uplinkDelays}
+use Rattle.grid.specs.Grid.{uplinkSubcarriers}
+use Rattle.grid.specs.Tables.{entry, lengths, uplinkDelays}
 use Rattle.grid.proofs.Rules.{length-bounds, uplink-copies-bounds, uplink-delay-bound}
 use Rattle.slots.specs.Fits.{Fits}
+use Rattle.slots.proofs.Spacing.{first-bound, by-spacing-bounds, block-is, gap-is}
 use Rattle.uplink.specs.declared.UplinkGrant.{UplinkGrant}
-use Rattle.uplink.specs.Start.{bySpacing, slotsIn}
-use Rattle.uplink.specs.Fields.{toneFields, tonesOf, unitSlots, groupOf, referenceOf}
+use Rattle.slots.specs.Numerology.{groupOf}
+use Rattle.uplink.specs.Fields.{toneFields, tonesOf, unitSlots}
 use Rattle.uplink.specs.Refusals.{lastSubframe, aboveLargest, namesNoTone, aboveMcs, refusalWithin, refusal}
 use Rattle.uplink.specs.Shaping.{shapeOf}
-use Rattle.uplink.proofs.Fielded.{ToneField, tone-field, whole-groups, row-splits, row-bounds, first-bound, by-spacing-bounds, block-is, gap-is}
+use Rattle.uplink.proofs.Fielded.{tone-field, whole-groups, row-splits, row-bounds}
 
 -- every number in its range
 pub record Accepted (limit : ℕ) (g : UplinkGrant) : Type 0 where

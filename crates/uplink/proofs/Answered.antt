@@ -1,5 +1,5 @@
 -- The answers of an accepted grant are those of its shape; a refused grant has its number and zeros.
-use mathlib.Core.Path.{_≡_, refl, ap, _∙_}
+use mathlib.Core.Path.{_≡_, refl}
 use Prim.Native.Nat.{ℕ}
 use borrow.Author.Tests.{eq-eqb, ne-eqb}
 use Rattle.sending.specs.Answer.{refusedBack}

@@ -1,28 +1,26 @@
 -- Cases P2 to P6 hold: the numbers that a case leaves open are rewritten away, and the rest computes.
-use mathlib.Core.Bool.{Bool, true, false, _||_}
 use mathlib.Core.List.{List, [], _∷_, _++_, map}
-use mathlib.Core.Path.{_≡_, refl, sym, ap, ap₂, _∙_}
+use mathlib.Core.Path.{_≡_, refl, sym, ap, ap₂}
 use mathlib.Core.Logic.{_⊎_, inl, inr}
-use Prim.Native.Nat.{ℕ, zero, suc, _+_, _-_, _*_, _/_, _≤_, _<_}
+use Prim.Native.Nat.{ℕ, _-_, _*_, _/_, _≤_}
 use native.Mathlib.Omega.{arith}
-use lib.Dec.{leb, ltb}
 use borrow.Author.Tests.{le-ltb, lt-ltb, le-leb}
 use Rattle.counting.specs.Counting.{rank, next, select}
 use Rattle.grid.specs.Grid.{uplinkSubcarriers}
 use Rattle.grid.specs.Tables.{entry, uplinkCopies}
 use Rattle.slots.specs.declared.UplinkPlace.{UplinkPlace}
-use Rattle.slots.specs.Timing.{active, sentSlots, slotAt}
+use Rattle.slots.specs.Timing.{active, slotAt}
 use Rattle.slots.specs.Elements.{carriesData, slotData}
 use Rattle.slots.specs.Mapping.{codewordSymbols}
 use Rattle.slots.specs.Answers.{refusedPlan, shapePlan, shapeForward}
 use Rattle.uplink.specs.declared.UplinkGrant.{UplinkGrant}
-use Rattle.uplink.specs.Start.{firstAfter}
+use Rattle.slots.specs.Numerology.{firstAfter}
 use Rattle.uplink.specs.Fields.{toneFields, tonesOf, firstTone, unitSlots, rowOf}
 use Rattle.uplink.specs.Refusals.{lastSubframe, refusalWithin, refusal}
 use Rattle.uplink.specs.Shaping.{shapeOf}
-use Rattle.uplink.specs.Questions.{planOf, forwardOf}
+use Rattle.uplink.specs.Questions.{planOf}
 use Rattle.uplink.specs.Cases.{grant, Sends, upTo, carriedSlots, firstPass, UplinkCases}
-use Rattle.uplink.proofs.Acceptance.{Accepted, accepts}
+use Rattle.uplink.proofs.Acceptance.{accepts}
 use Rattle.uplink.proofs.Answered.{plan-accepted, forward-accepted, plan-refused}
 
 sends : (g : UplinkGrant) (a b : ℕ) → refusal g ≡ 0 → shapePlan (shapeOf g) .first ≡ a → shapePlan (shapeOf g) .last ≡ b → Sends g a b

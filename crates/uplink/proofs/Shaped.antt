@@ -5,8 +5,8 @@ use Rattle.grid.specs.Grid.{uplinkSubcarriers}
 use Rattle.grid.specs.Tables.{entry, lengths, uplinkDelays}
 use Rattle.slots.specs.declared.Shape.{Shape}
 use Rattle.uplink.specs.declared.UplinkGrant.{UplinkGrant}
-use Rattle.uplink.specs.Start.{slotsIn, firstAfter}
-use Rattle.uplink.specs.Fields.{tonesOf, firstTone, unitSlots, rowOf, groupOf, referenceOf, blockSize, orderOf}
+use Rattle.slots.specs.Numerology.{slotsIn, firstAfter, groupOf}
+use Rattle.uplink.specs.Fields.{firstTone, unitSlots, rowOf, referenceOf, blockSize, orderOf}
 use Rattle.uplink.specs.Shaping.{grantTones, grantCopies, shapeOf}
 
 pub shape-is : (g : UplinkGrant) (first subcarriers block gap tone tones codeword copies row group reference size order : ℕ)

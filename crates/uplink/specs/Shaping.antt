@@ -3,9 +3,9 @@ use Prim.Native.Nat.{ℕ, _+_, _*_}
 use Rattle.grid.specs.Grid.{uplinkSubcarriers}
 use Rattle.grid.specs.Tables.{entry, lengths, uplinkCopies, uplinkDelays}
 use Rattle.slots.specs.declared.Shape.{Shape}
+use Rattle.slots.specs.Numerology.{slotsIn, firstAfter, groupOf}
 use Rattle.uplink.specs.declared.UplinkGrant.{UplinkGrant}
-use Rattle.uplink.specs.Start.{slotsIn, firstAfter}
-use Rattle.uplink.specs.Fields.{tonesOf, firstTone, unitSlots, rowOf, groupOf, referenceOf, blockSize, orderOf}
+use Rattle.uplink.specs.Fields.{tonesOf, firstTone, unitSlots, rowOf, referenceOf, blockSize, orderOf}
 
 -- tones and copies of a grant
 abbrev pub grantTones : UplinkGrant → ℕ

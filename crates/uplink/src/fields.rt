@@ -2,8 +2,8 @@
 ghost use mathlib.Core.Path.{_≡_};
 ghost use Prim.Native.Nat.{_+_, _*_, _^_, _<_, _≤_};
 ghost use Rattle.grid.specs.Tables.{entry, lengths, uplinkDelays};
-ghost use Rattle.uplink.specs.Start.{bySpacing, slotsIn, firstAfter};
-ghost use Rattle.uplink.specs.Fields.{toneFields, tonesOf, firstTone, unitSlots, rowOf, groupOf, referenceOf, blockSize, orderOf};
+ghost use Rattle.slots.specs.Numerology.{firstAfter};
+ghost use Rattle.uplink.specs.Fields.{toneFields, tonesOf, firstTone, unitSlots, rowOf, referenceOf, blockSize, orderOf};
 use grid::UplinkGrid;
 
 const THREE_TONES: u64 = 12;
@@ -12,21 +12,11 @@ const SIX_TONES: u64 = 16;
 
 const ALL_TONES: u64 = 18;
 
-// One number at 3.75 kHz, another at 15 kHz.
-fn by_spacing(spacing: u64, narrow: u64, wide: u64) -> u64
-    ensures { λ r. ⌜ r ≡ bySpacing spacing narrow wide ⌝ }
-{
-    if spacing == 0 {
-        return narrow;
-    }
-    wide
-}
-
 // How many subcarrier fields name tones.
 pub fn tone_fields(spacing: u64) -> u64
     ensures { λ r. ⌜ r ≡ toneFields spacing ⌝ }
 {
-    by_spacing(spacing, UplinkGrid::SUBCARRIERS_3_75, ALL_TONES + 1)
+    slots::by_spacing(spacing, UplinkGrid::SUBCARRIERS_3_75, ALL_TONES + 1)
 }
 
 // How many tones the subcarrier field names, and the first of them.
@@ -61,36 +51,12 @@ pub fn first_tone(spacing: u64, field: u64) -> u64
     0
 }
 
-// The first slot that begins after the end of a subframe.
-fn first_after(spacing: u64, subframe: u64) -> u64
-    requires { ⌜ subframe < 2 ^ 32 ⌝ }
-    ensures { λ r. ⌜ r ≡ firstAfter spacing subframe ⌝ }
-{
-    if spacing == 0 {
-        return (subframe + 2) / 2;
-    }
-    2 * (subframe + 1)
-}
-
 // The slot that a grant first names.
 pub fn start(spacing: u64, n: u64, delay: u64) -> u64
     requires { ⌜ (n < 2 ^ 31) × (delay < 4) ⌝ }
     ensures { λ r. ⌜ r ≡ firstAfter spacing (n + entry uplinkDelays delay) ⌝ }
 {
-    first_after(spacing, n + grid::uplink_delay(delay))
-}
-
-// Slots of 256 ms, and of 40 ms.
-pub fn block(spacing: u64) -> u64
-    ensures { λ r. ⌜ r ≡ slotsIn spacing 256 ⌝ }
-{
-    by_spacing(spacing, 128, 512)
-}
-
-pub fn gap(spacing: u64) -> u64
-    ensures { λ r. ⌜ r ≡ slotsIn spacing 40 ⌝ }
-{
-    by_spacing(spacing, 20, 80)
+    slots::first_after(spacing, n + grid::uplink_delay(delay))
 }
 
 // Slots of a resource unit.
@@ -132,18 +98,11 @@ pub fn row(tones: u64, copies: u64) -> u64
     4
 }
 
-// Slots of a group.
-pub fn group(spacing: u64) -> u64
-    ensures { λ r. ⌜ r ≡ groupOf spacing ⌝ }
-{
-    by_spacing(spacing, 1, 2)
-}
-
 // The reference symbol.
 pub fn reference(spacing: u64) -> u64
     ensures { λ r. ⌜ r ≡ referenceOf spacing ⌝ }
 {
-    by_spacing(spacing, 4, 3)
+    slots::by_spacing(spacing, 4, 3)
 }
 
 // The size of the transport block, and the modulation order.

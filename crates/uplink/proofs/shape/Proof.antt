@@ -1,4 +1,3 @@
-use mathlib.Core.Path.{_≡_}
 use native.Mathlib.Omega.{arith}
 use Rattle.grid.proofs.Rules.{uplink-copies-bounds}
 use Rattle.uplink.specs.Refusals.{lastSubframe}

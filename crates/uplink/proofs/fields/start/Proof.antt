@@ -3,7 +3,7 @@ use Prim.Native.Nat.{ℕ, _+_}
 use native.Mathlib.Omega.{arith}
 use borrow.Author.Needs.{needs}
 use Rattle.grid.proofs.Rules.{uplink-delay-bound}
-use Rattle.uplink.specs.Start.{firstAfter}
+use Rattle.slots.specs.Numerology.{firstAfter}
 use Rattle.uplink.proofs.fields.start.Statement.{statement}
 use Rattle.uplink.proofs.fields.start.Tie as tie
 

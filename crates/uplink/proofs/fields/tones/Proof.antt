@@ -1,4 +1,3 @@
-use borrow.Author.Needs.{needs}
 use borrow.Author.Tests.{lt-ltb, le-ltb}
 use Rattle.uplink.specs.Fields.{tonesOf}
 use Rattle.uplink.proofs.fields.tones.Statement.{statement}

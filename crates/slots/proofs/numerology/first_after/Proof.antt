@@ -1,7 +1,7 @@
 use borrow.Author.Needs.{needs}
-use Rattle.uplink.proofs.Fielded.{first-narrow, first-wide}
-use Rattle.uplink.proofs.fields.first_after.Statement.{statement}
-use Rattle.uplink.proofs.fields.first_after.Tie as tie
+use Rattle.slots.proofs.Spacing.{first-narrow, first-wide}
+use Rattle.slots.proofs.numerology.first_after.Statement.{statement}
+use Rattle.slots.proofs.numerology.first_after.Tie as tie
 
 pub first-after-spec : {M : Type 1} → statement M
 first-after-spec =

@@ -1,4 +1,4 @@
--- Uplink slots in time: 01 "Time and grid" and "Uplink grants"; TS 36.211 clause 10.1.2 and TS 36.213 clause 16.5.1.
+-- Uplink slots by subcarrier spacing: 01 "Time and grid" and "Uplink grants"; TS 36.211 clauses 10.1.2 and 10.1.3.6, TS 36.213 clause 16.5.1.
 use mathlib.Core.Bool.{Bool, cond}
 use Prim.Native.Nat.{ℕ, _+_, _*_, _/_}
 use lib.Dec.{eqb, leb}
@@ -23,3 +23,7 @@ beginsAfter spacing t slot = leb (2 * (t + 1)) (slot * slotHalves spacing)
 -- the first slot that begins after the end of subframe t
 unfoldable pub firstAfter : ℕ → ℕ → ℕ
 firstAfter spacing t = next (beginsAfter spacing t) (2 * (t + 1) + 1) 0
+
+-- slots in a group, which go out together (TS 36.211 clause 10.1.3.6)
+abbrev pub groupOf : ℕ → ℕ
+groupOf spacing = bySpacing spacing 1 2
