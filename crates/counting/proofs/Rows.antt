@@ -2,11 +2,11 @@
 use mathlib.Core.Bool.{Bool, true, false, _&&_}
 use mathlib.Core.Path.{_≡_, refl, sym, ap, _∙_}
 use Prim.Native.Nat.{ℕ, zero, suc, _+_, _*_, _≤_, _<_}
-use native.Mathlib.Nat.{zero-add, zero-mul, one-mul, suc-mul, add-mul, add-zero}
+use native.Mathlib.Nat.{zero-add, zero-mul, one-mul, suc-mul, add-mul}
 use native.Mathlib.Omega.{arith}
 use mir.Val.{boolByte}
 use Rattle.counting.specs.Counting.{rank, count}
-use Rattle.counting.proofs.Rank.{rank-zero, rank-suc, rank-none, rank-count, rank-same, count-same, count-from-zero}
+use Rattle.counting.proofs.Rank.{rank-zero, rank-suc, rank-none, rank-count, count-same, count-from-zero}
 
 -- a test that also asks b
 rank-and : (v : ℕ → Bool) (b : Bool) (k : ℕ) → rank (λ i. b && v i) k ≡ boolByte b * rank v k

@@ -10,9 +10,9 @@ use lib.Count.{ones}
 use lib.Dec.{T, leb, ltb, eqb, leb→le, eqb→eq}
 use lib.ListN.{getD}
 use lib.Pow.{pow-mono}
-use borrow.Author.Tests.{le-leb, lt-leb, ne-eqb}
+use borrow.Author.Tests.{le-leb, lt-leb, ne-eqb, ltb-true}
 use Rattle.counting.proofs.Facts.{order, each, each-at, alike, alike-eq}
-use Rattle.grid.specs.Tables.{entry, lengths, downlinkCopies, shortDelays, longDelays, downlinkDelay, uplinkCopies, uplinkDelays, powerBelow, isRepetition}
+use Rattle.grid.specs.Tables.{entry, lengths, downlinkCopies, shortDelays, longDelays, downlinkDelay, uplinkCopies, uplinkDelays, singleToneRows, powerBelow, isRepetition}
 
 -- a test that holds at each field of a row holds at any field below its length
 row-at : (row : List ℕ) (n : ℕ) (f : ℕ → Bool) → T (each n (λ k. f (entry row k))) → (k : ℕ) → k < n → T (f (entry row k))
@@ -22,7 +22,7 @@ row-at row n f t k h = each-at n (λ k. f (entry row k)) t k h
 abbrev between : ℕ → ℕ → ℕ → Bool
 between a b x = leb a x && leb x b
 
-parts : (a b : Bool) → T (a && b) → T a × T b
+pub parts : (a b : Bool) → T (a && b) → T a × T b
 parts true b t = (tt, t)
 parts false b t = absurd t
 
@@ -49,6 +49,9 @@ uplink-copies-bounds k h = between-is 1 128 (entry uplinkCopies k) (row-at uplin
 pub uplink-delay-bound : (k : ℕ) → k < 4 → entry uplinkDelays k ≤ 64
 uplink-delay-bound k h = between-is 0 64 (entry uplinkDelays k) (row-at uplinkDelays 4 (between 0 64) tt k h) .1
 
+pub single-tone-row-bound : (k : ℕ) → k < 5 → entry singleToneRows k ≤ 4
+single-tone-row-bound k h = between-is 0 4 (entry singleToneRows k) (row-at singleToneRows 5 (between 0 4) tt k h) .1
+
 pub downlink-delay-bound : (rmax k : ℕ) → k < 8 → downlinkDelay rmax k ≤ 1024
 unfolding downlinkDelay
 downlink-delay-bound rmax k h = by (ltb rmax 128)
@@ -74,6 +77,13 @@ halfRowOf R = rowOf ((R + 1) / 2)
 pub uplink-row-splits : (k : ℕ) → k < 8 → entry uplinkCopies k % halfRowOf (entry uplinkCopies k) ≡ 0
 uplink-row-splits k h =
     eqb→eq (entry uplinkCopies k % halfRowOf (entry uplinkCopies k)) 0 (row-at uplinkCopies 8 (splits halfRowOf) tt k h)
+
+pub row-small : (R : ℕ) → rowOf R ≤ 4
+row-small R = by (ltb R 4) refl
+  where
+    by : (b : Bool) → ltb R 4 ≡ b → cond b R 4 ≤ 4
+    by true e = omega (arith, ltb-true R 4 e)
+    by false e = omega arith
 
 pub row-pos : (R : ℕ) → 0 < R → 0 < rowOf R
 row-pos R h = by (ltb R 4)

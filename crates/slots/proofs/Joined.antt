@@ -1,18 +1,18 @@
 -- The parts of an answer, joined: an equation for each number that the code works out, and no path through the code.
-use mathlib.Core.Bool.{Bool, true, false, cond, _&&_}
-use mathlib.Core.Path.{_≡_, refl, sym, ap, ap₂, _∙_}
+use mathlib.Core.Bool.{Bool, true, false, _&&_}
+use mathlib.Core.Path.{_≡_, refl, sym, ap, _∙_}
 use Prim.Native.Nat.{ℕ, _+_, _-_, _*_, _/_, _%_, _^_, _≤_, _<_}
 use native.Mathlib.Nat.{mul-le-mul, mod-lt, div-lt-iff-lt-mul}
 use native.Mathlib.Omega.{arith}
 use lib.Dec.{leb, ltb}
 use mir.Val.{boolByte}
 use borrow.Author.Tests.{le-leb, lt-leb, lt-ltb, le-ltb, leb-true}
-use Rattle.counting.specs.Counting.{rank, amongFirst}
+use Rattle.counting.specs.Counting.{rank}
 use Rattle.counting.proofs.Facts.{both-parts}
 use Rattle.counting.proofs.Select.{among-from-zero}
 use Rattle.grid.specs.Grid.{symbols, uplinkElementOf, uplinkSymbolOf, uplinkSubcarrierOf}
 use Rattle.sending.specs.CopyOrder.{carried}
-use Rattle.sending.specs.Sending.{Content, ours, other}
+use Rattle.sending.specs.Sending.{ours, other}
 use Rattle.sending.specs.Answer.{backOf, refusedBack}
 use Rattle.slots.specs.declared.Shape.{Shape}
 use Rattle.slots.specs.declared.UplinkPlace.{UplinkPlace}

@@ -1,28 +1,23 @@
 -- An uplink sending is lawful, so demand 3 holds of it; and what holds of a place.
-use mathlib.Core.Bool.{Bool, true, false, _&&_}
-use mathlib.Core.Path.{_≡_, refl, sym, ap, _∙_}
-use Prim.Native.Nat.{ℕ, _+_, _*_, _/_, _%_, _≤_, _<_}
-use native.Mathlib.Nat.{mod-lt, mul-pos}
+use mathlib.Core.Bool.{true, false}
+use mathlib.Core.Path.{_≡_, refl}
+use Prim.Native.Nat.{ℕ, _%_, _<_}
+use native.Mathlib.Nat.{mod-lt}
 use native.Mathlib.Omega.{arith}
-use lib.Dec.{ltb}
-use borrow.Author.Tests.{lt-ltb, le-ltb}
-use Rattle.counting.proofs.Facts.{both}
-use Rattle.grid.specs.Grid.{symbols, uplinkElementOf, uplinkSymbolOf, uplinkSubcarrierOf}
-use Rattle.sending.specs.declared.Back.{Back}
-use Rattle.sending.specs.Sending.{Sending, Spot, spotAt, contentAt}
+use borrow.Author.Tests.{lt-ltb}
+use Rattle.grid.specs.Grid.{symbols, uplinkElementOf}
+use Rattle.sending.specs.Sending.{spotAt, contentAt}
 use Rattle.sending.specs.Answer.{backOf}
 use Rattle.sending.specs.Demand.{Lawful, Sound}
 use Rattle.sending.proofs.CopyOrder.{copied, carried-below}
 use Rattle.sending.proofs.Demand.{sound}
 use Rattle.slots.specs.declared.Shape.{Shape}
-use Rattle.slots.specs.declared.UplinkPlace.{UplinkPlace}
 use Rattle.slots.specs.Fits.{Fits}
-use Rattle.slots.specs.Elements.{isReference, isGranted, isDataSymbol, carriesData, slotData, elementAt}
+use Rattle.slots.specs.Elements.{isReference, isGranted, carriesData, slotData, elementAt}
 use Rattle.slots.specs.Mapping.{sendingOf, places}
-use Rattle.slots.specs.Answers.{placeOf, refusedPlace, shapeForward, shapeBackward}
+use Rattle.slots.specs.Answers.{placeOf, shapeForward, shapeBackward}
 use Rattle.slots.proofs.Rounds.{slots-listed}
-use Rattle.slots.proofs.Lines.{some-data, elements-listed, data-parts, data-symbol-parts, granted-parts}
-use Rattle.slots.proofs.Joined.{forward-refused}
+use Rattle.slots.proofs.Lines.{some-data, elements-listed, data-parts, data-symbol-parts}
 
 module _ (s : Shape) (f : Fits s) where
   pub lawful : Lawful (sendingOf s) (s .codeword) (s .copies)

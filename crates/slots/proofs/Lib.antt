@@ -1,3 +1,4 @@
+pub mod Spacing
 pub mod Rounds
 pub mod Lines
 pub mod Joined

@@ -3,19 +3,19 @@ use mathlib.Core.Bool.{Bool, true, false, not, _&&_}
 use mathlib.Core.Path.{_≡_, refl, sym, ap, ap₂, _∙_}
 use mathlib.Core.Logic.{⊎-elim}
 use Prim.Native.Nat.{ℕ, _+_, _-_, _*_, _/_, _%_, _^_, _≤_, _<_}
-use native.Mathlib.Nat.{add-zero, one-mul, zero-mul, mod-lt, div-add-mod', div-lt-iff-lt-mul, mul-le-mul, mul-pos, le-of-lt}
+use native.Mathlib.Nat.{add-zero, mod-lt, div-add-mod', div-lt-iff-lt-mul, mul-le-mul, mul-pos}
 use native.Mathlib.Omega.{arith}
 use lib.Dec.{ltb}
 use mir.Val.{boolByte}
 use borrow.Author.Tests.{lt-ltb, ltb-true, leb-true}
-use Rattle.counting.specs.Counting.{rank, select, inRange, Lists}
+use Rattle.counting.specs.Counting.{rank, Lists}
 use Rattle.counting.proofs.Facts.{order, both, both-parts, not-true-is}
 use Rattle.counting.proofs.Rank.{rank-zero, rank-same, rank-not}
 use Rattle.counting.proofs.Range.{in-range, below-range, above-range, rank-before, rank-inside, rank-after}
 use Rattle.counting.proofs.Rows.{rank-rows}
 use Rattle.counting.proofs.Select.{is-select-below, lists-below}
 use Rattle.grid.specs.Grid.{symbols, uplinkElements, uplinkElementOf, uplinkSymbolOf, uplinkSubcarrierOf}
-use Rattle.grid.proofs.Numbering.{uplink-symbol-of, uplink-subcarrier-of, uplink-of-parts, uplink-element-below}
+use Rattle.grid.proofs.Numbering.{uplink-symbol-of, uplink-subcarrier-of}
 use Rattle.slots.specs.declared.Shape.{Shape}
 use Rattle.slots.specs.Fits.{Fits}
 use Rattle.slots.specs.Elements.{isReference, isGranted, isDataSymbol, carriesData, carriesReference, slotData, elementAt, numberOf}

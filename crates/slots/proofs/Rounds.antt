@@ -1,13 +1,13 @@
 -- The slots that may be sent, in closed form: blocks of sending with a gap after each.
-use mathlib.Core.Bool.{Bool, true, false, _&&_}
-use mathlib.Core.Path.{_≡_, refl, sym, ap, ap₂, _∙_}
+use mathlib.Core.Bool.{false}
+use mathlib.Core.Path.{_≡_, sym, ap, ap₂, _∙_}
 use Prim.Native.Nat.{ℕ, _+_, _-_, _*_, _/_, _%_, _≤_, _<_}
 use native.Mathlib.Nat.{zero-add, mod-lt, mod-le, mod-eq-of-lt, add-mod-right, div-add-mod', mul-add, mul-comm, mul-le-mul-left}
 use native.Mathlib.Omega.{arith}
 use lib.Dec.{ltb}
 use lib.Arith.{digits-div, digits-mod}
 use borrow.Author.Tests.{lt-ltb, le-ltb}
-use Rattle.counting.specs.Counting.{rank, select, Nth, Lists}
+use Rattle.counting.specs.Counting.{rank, select, Lists}
 use Rattle.counting.proofs.Rank.{rank-zero, rank-none}
 use Rattle.counting.proofs.Range.{rank-all}
 use Rattle.counting.proofs.Select.{nth-of, lists-moved}

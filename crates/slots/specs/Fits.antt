@@ -1,6 +1,6 @@
 -- The bounds of a shape that the questions on it require; whoever makes shapes shows them.
 use mathlib.Core.Path.{_≡_}
-use Prim.Native.Nat.{ℕ, _+_, _%_, _^_, _≤_, _<_}
+use Prim.Native.Nat.{_+_, _%_, _^_, _≤_, _<_}
 use Rattle.grid.specs.Grid.{symbols}
 use Rattle.slots.specs.declared.Shape.{Shape}
 

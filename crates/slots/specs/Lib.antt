@@ -1,3 +1,4 @@
+pub mod Numerology
 pub mod Timing
 pub mod Elements
 pub mod Mapping

@@ -1,5 +1,4 @@
 use native.Mathlib.Omega.{arith}
-use borrow.Author.Needs.{needs}
 use Rattle.slots.specs.Timing.{indexOf}
 use Rattle.slots.proofs.Rounds.{slots-listed}
 use Rattle.slots.proofs.Joined.{sent-late, sent-small}

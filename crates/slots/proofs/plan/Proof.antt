@@ -1,7 +1,4 @@
-use mathlib.Core.Path.{ap, _∙_}
-use Prim.Native.Nat.{ℕ, _-_}
 use borrow.Author.Needs.{needs}
-use Rattle.slots.specs.Timing.{slotAt}
 use Rattle.slots.specs.Answers.{shapePlan}
 use Rattle.slots.proofs.plan.Statement.{statement}
 use Rattle.slots.proofs.plan.Tie as tie

@@ -1,5 +1,5 @@
 use mathlib.Core.Bool.{Bool, _&&_}
-use mathlib.Core.Path.{_≡_, refl, sym, ap, ap₂, _∙_}
+use mathlib.Core.Path.{sym, ap, ap₂, _∙_}
 use borrow.Author.Needs.{needs}
 use mir.Val.{boolByte}
 use Rattle.slots.proofs.Lines.{reference-at}

@@ -1,0 +1,36 @@
+-- The answers of an accepted grant are those of its shape; a refused grant has its number and zeros.
+use mathlib.Core.Path.{_≡_, refl}
+use Prim.Native.Nat.{ℕ}
+use borrow.Author.Tests.{eq-eqb, ne-eqb}
+use Rattle.sending.specs.Answer.{refusedBack}
+use Rattle.slots.specs.Answers.{refusedPlan, refusedPlace, shapePlan, shapeForward, shapeBackward}
+use Rattle.uplink.specs.declared.UplinkGrant.{UplinkGrant}
+use Rattle.uplink.specs.Refusals.{refusal}
+use Rattle.uplink.specs.Shaping.{shapeOf}
+use Rattle.uplink.specs.Questions.{planOf, forwardOf, backwardOf}
+
+module _ (g : UplinkGrant) (e : refusal g ≡ 0) where
+  pub plan-accepted : shapePlan (shapeOf g) ≡ planOf g
+  unfolding planOf
+  plan-accepted = rw (eq-eqb (refusal g) 0 e) refl
+
+  pub forward-accepted : (p : ℕ) → shapeForward (shapeOf g) p ≡ forwardOf g p
+  unfolding forwardOf
+  forward-accepted p = rw (eq-eqb (refusal g) 0 e) refl
+
+  pub backward-accepted : (slot l k : ℕ) → shapeBackward (shapeOf g) slot l k ≡ backwardOf g slot l k
+  unfolding backwardOf
+  backward-accepted slot l k = rw (eq-eqb (refusal g) 0 e) refl
+
+module _ (g : UplinkGrant) (n : ℕ) (e : n ≡ refusal g) (h : n ≡ 0 → ⊥) where
+  pub plan-refused : refusedPlan n ≡ planOf g
+  unfolding planOf
+  plan-refused = rw (← e, ne-eqb n 0 h) refl
+
+  pub forward-refused : (p : ℕ) → refusedPlace n ≡ forwardOf g p
+  unfolding forwardOf
+  forward-refused p = rw (← e, ne-eqb n 0 h) refl
+
+  pub backward-refused : (slot l k : ℕ) → refusedBack n ≡ backwardOf g slot l k
+  unfolding backwardOf
+  backward-refused slot l k = rw (← e, ne-eqb n 0 h) refl

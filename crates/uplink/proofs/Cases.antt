@@ -1,0 +1,93 @@
+-- Cases P2 to P6 hold: the numbers that a case leaves open are rewritten away, and the rest computes.
+use mathlib.Core.List.{List, [], _∷_, _++_, map}
+use mathlib.Core.Path.{_≡_, refl, sym, ap, ap₂}
+use mathlib.Core.Logic.{_⊎_, inl, inr}
+use Prim.Native.Nat.{ℕ, _-_, _*_, _/_, _≤_}
+use native.Mathlib.Omega.{arith}
+use borrow.Author.Tests.{le-ltb, lt-ltb, le-leb}
+use Rattle.counting.specs.Counting.{rank, next, select}
+use Rattle.grid.specs.Grid.{uplinkSubcarriers}
+use Rattle.grid.specs.Tables.{entry, uplinkCopies}
+use Rattle.slots.specs.declared.UplinkPlace.{UplinkPlace}
+use Rattle.slots.specs.Timing.{active, slotAt}
+use Rattle.slots.specs.Elements.{carriesData, slotData}
+use Rattle.slots.specs.Mapping.{codewordSymbols}
+use Rattle.slots.specs.Answers.{refusedPlan, shapePlan, shapeForward}
+use Rattle.uplink.specs.declared.UplinkGrant.{UplinkGrant}
+use Rattle.slots.specs.Numerology.{firstAfter}
+use Rattle.uplink.specs.Fields.{toneFields, tonesOf, firstTone, unitSlots, rowOf}
+use Rattle.uplink.specs.Refusals.{lastSubframe, refusalWithin, refusal}
+use Rattle.uplink.specs.Shaping.{shapeOf}
+use Rattle.uplink.specs.Questions.{planOf}
+use Rattle.uplink.specs.Cases.{grant, Sends, upTo, carriedSlots, firstPass, UplinkCases}
+use Rattle.uplink.proofs.Acceptance.{accepts}
+use Rattle.uplink.proofs.Answered.{plan-accepted, forward-accepted, plan-refused}
+
+sends : (g : UplinkGrant) (a b : ℕ) → refusal g ≡ 0 → shapePlan (shapeOf g) .first ≡ a → shapePlan (shapeOf g) .last ≡ b → Sends g a b
+unfolding shapePlan
+sends g a b e x y =
+    let q = plan-accepted g e in
+    record { no = rw (← q) refl; first = rw (← q) x; last = rw (← q) y }
+
+case2 : (mcs : ℕ) → mcs ≤ 4 → Sends (grant 100 1 18 0 3 0 mcs) 218 233 × (codewordSymbols (shapeOf (grant 100 1 18 0 3 0 mcs)) ≡ 144)
+unfolding shapePlan shapeOf slotAt select next active firstAfter tonesOf firstTone unitSlots slotData rank carriesData
+case2 mcs h = (sends (grant 100 1 18 0 3 0 mcs) 218 233 (accepts lastSubframe (grant 100 1 18 0 3 0 mcs) (omega arith)) refl refl, refl)
+
+case3 : (n mcs : ℕ) → (n ≡ 100) ⊎ (n ≡ 101) → mcs ≤ 4 → Sends (grant n 0 47 0 0 0 mcs) 55 70
+unfolding shapePlan shapeOf slotAt select next active firstAfter tonesOf unitSlots
+case3 n mcs (inl e) h = rw e (sends (grant 100 0 47 0 0 0 mcs) 55 70 (accepts lastSubframe (grant 100 0 47 0 0 0 mcs) (omega arith)) refl refl)
+case3 n mcs (inr e) h = rw e (sends (grant 101 0 47 0 0 0 mcs) 55 70 (accepts lastSubframe (grant 101 0 47 0 0 0 mcs) (omega arith)) refl refl)
+
+-- the chain passes 9 and 10, and stops at 11
+case4 : (n spacing subcarrier units copies delay mcs : ℕ) → n ≤ lastSubframe → spacing ≤ 1 → toneFields spacing ≤ subcarrier → subcarrier ≤ 63
+    → units ≤ 7 → copies ≤ 7 → delay ≤ 3 → mcs ≤ 15 → planOf (grant n spacing subcarrier units copies delay mcs) ≡ refusedPlan 11
+unfolding refusalWithin
+case4 n spacing subcarrier units copies delay mcs a b c d e f g h =
+    sym (plan-refused (grant n spacing subcarrier units copies delay mcs) 11
+    (rw (
+      le-ltb lastSubframe n a,
+      le-ltb 1 spacing b,
+      le-ltb 63 subcarrier d,
+      le-ltb 7 units e,
+      le-ltb 7 copies f,
+      le-ltb 3 delay g,
+      le-ltb 15 mcs h,
+      le-leb (toneFields spacing) subcarrier c,
+    ) refl) (λ z. omega arith))
+
+map-same : (f h : ℕ → ℕ) → ((i : ℕ) → f i ≡ h i) → (l : List ℕ) → map f l ≡ map h l
+map-same f h e [] = refl
+map-same f h e (x ∷ l) = ap₂ _∷_ (e x) (map-same f h e l)
+
+case5 : (n delay mcs : ℕ) → n ≤ lastSubframe → delay ≤ 3 → mcs ≤ 4 → carriedSlots (grant n 1 12 0 2 delay mcs) 32 ≡ firstPass ++ firstPass
+unfolding shapeForward shapeOf tonesOf firstTone unitSlots rowOf slotData rank carriesData
+case5 n delay mcs a b c =
+    let g : UplinkGrant = grant n 1 12 0 2 delay mcs in
+    let e : refusal g ≡ 0 = accepts lastSubframe g (omega arith) in
+    map-same _ (λ i. shapeForward (shapeOf g) (i * 18) .symbol / 18)
+    (λ i. ap (λ (x : UplinkPlace). x .symbol / 18) (sym (forward-accepted g e (i * 18)))) (upTo 32)
+
+case6 : (n tone copies delay mcs : ℕ) → n ≤ lastSubframe → tone ≤ 47 → copies ≤ 7 → delay ≤ 3 → mcs ≤ 4
+    → (planOf (grant n 0 tone 0 copies delay mcs) .first ≡ shapeOf (grant n 0 tone 0 copies delay mcs) .first)
+    × (planOf (grant n 0 tone 0 copies delay mcs) .last ≡ slotAt (shapeOf (grant n 0 tone 0 copies delay mcs)) (entry uplinkCopies copies * 16 - 1))
+unfolding shapePlan shapeOf slotAt select next active tonesOf unitSlots
+case6 n tone copies delay mcs a b c d f =
+    let g : UplinkGrant = grant n 0 tone 0 copies delay mcs in
+    let e : refusal g ≡ 0 = accepts lastSubframe g (omega arith) in
+    (rw (← plan-accepted g e) (omega arith), rw (← plan-accepted g e, lt-ltb tone (uplinkSubcarriers 0) (omega arith)) refl)
+
+pub uplink-cases : UplinkCases
+unfolding shapeOf slotAt select next active
+uplink-cases = record {
+  p2 = case2;
+  p3 = λ mcs h. (case3 100 mcs (inl refl) h, case3 101 mcs (inr refl) h);
+  p4 = λ n units copies delay mcs a b c d e. (
+    case4 n 0 48 units copies delay mcs a (omega arith) (omega arith) (omega arith) b c d e,
+    case4 n 1 19 units copies delay mcs a (omega arith) (omega arith) (omega arith) b c d e,
+  );
+  p5 = case5;
+  p6 = λ n tone delay mcs a b c d.
+      let x = case6 n tone 3 delay mcs a b (omega arith) c d in
+      let y = case6 n tone 4 delay mcs a b (omega arith) c d in
+      (rw (x .0, x .1) refl, rw (y .0, y .1) refl);
+}

@@ -1,0 +1,5 @@
+pub mod Fielded
+pub mod Acceptance
+pub mod Shaped
+pub mod Answered
+pub mod Cases

@@ -1,0 +1,52 @@
+-- The numbers of a grant's shape, joined.
+use mathlib.Core.Path.{_≡_, ap, ap₂, _∙_}
+use Prim.Native.Nat.{ℕ, _+_, _*_}
+use Rattle.grid.specs.Grid.{uplinkSubcarriers}
+use Rattle.grid.specs.Tables.{entry, lengths, uplinkDelays}
+use Rattle.slots.specs.declared.Shape.{Shape}
+use Rattle.uplink.specs.declared.UplinkGrant.{UplinkGrant}
+use Rattle.slots.specs.Numerology.{slotsIn, firstAfter, groupOf}
+use Rattle.uplink.specs.Fields.{firstTone, unitSlots, rowOf, referenceOf, blockSize, orderOf}
+use Rattle.uplink.specs.Shaping.{grantTones, grantCopies, shapeOf}
+
+pub shape-is : (g : UplinkGrant) (first subcarriers block gap tone tones codeword copies row group reference size order : ℕ)
+    → tones ≡ grantTones g → copies ≡ grantCopies g → first ≡ firstAfter (g .spacing) (g .n + entry uplinkDelays (g .delay))
+    → subcarriers ≡ uplinkSubcarriers (g .spacing) → block ≡ slotsIn (g .spacing) 256 → gap ≡ slotsIn (g .spacing) 40
+    → tone ≡ firstTone (g .spacing) (g .subcarrier) → codeword ≡ entry lengths (g .units) * unitSlots tones → row ≡ rowOf tones copies
+    → group ≡ groupOf (g .spacing) → reference ≡ referenceOf (g .spacing) → size ≡ blockSize tones (g .mcs) (g .units) → order ≡ orderOf tones (g .mcs)
+    → _≡_ {A = Shape}
+    (record {
+      first = first;
+      subcarriers = subcarriers;
+      block = block;
+      gap = gap;
+      tone = tone;
+      tones = tones;
+      codeword = codeword;
+      copies = copies;
+      row = row;
+      group = group;
+      reference = reference;
+      references = 1;
+      size = size;
+      order = order;
+    })
+    (shapeOf g)
+unfolding shapeOf
+shape-is g _ _ _ _ _ _ _ _ _ _ _ _ _ ht hc hf hs hb hg hk hw hr hq hl hz ho =
+    λ i. record {
+      first = hf i;
+      subcarriers = hs i;
+      block = hb i;
+      gap = hg i;
+      tone = hk i;
+      tones = ht i;
+      codeword = (hw ∙ ap (λ (n : ℕ). entry lengths (g .units) * unitSlots n) ht) i;
+      copies = hc i;
+      row = (hr ∙ ap₂ rowOf ht hc) i;
+      group = hq i;
+      reference = hl i;
+      references = 1;
+      size = (hz ∙ ap (λ (n : ℕ). blockSize n (g .mcs) (g .units)) ht) i;
+      order = (ho ∙ ap (λ (n : ℕ). orderOf n (g .mcs)) ht) i;
+    }

@@ -1,0 +1,27 @@
+use mathlib.Core.Path.{sym, ap, _∙_}
+use Rattle.slots.specs.declared.Shape.{Shape}
+use Rattle.slots.specs.Answers.{shapeBackward}
+use Rattle.uplink.proofs.Acceptance.{fits}
+use Rattle.uplink.proofs.Answered.{backward-accepted, backward-refused}
+use Rattle.uplink.proofs.backward.Statement.{statement}
+use Rattle.uplink.proofs.backward.Tie as tie
+
+pub backward-spec : {M : Type 1} → statement M
+backward-spec =
+    tie.close
+    (tie.spec
+    (λ c κs. tt)
+    (λ c κs. tt)
+    (λ c.
+    let j = c .before .before in
+    let a = j .before .args in
+    c .refused .ensures ∙ backward-refused (a .g) _ (j .judge .ensures) (c .before .if1 .taken) (a .slot) (a .l) (a .k))
+    (λ c κs. sym (c .before .judge .ensures) ∙ c .if1 .left)
+    (λ c κs.
+    let j = c .before .before in
+    rw (c .shape .ensures) (fits (j .before .args .g) (sym (j .judge .ensures) ∙ c .before .if1 .left)))
+    (λ c.
+    let j = c .before .before .before in
+    let a = j .before .args in
+    c .backward .ensures ∙ ap (λ (s : Shape). shapeBackward s (a .slot) (a .l) (a .k)) (c .before .shape .ensures)
+    ∙ backward-accepted (a .g) (sym (j .judge .ensures) ∙ c .before .before .if1 .left) (a .slot) (a .l) (a .k)))

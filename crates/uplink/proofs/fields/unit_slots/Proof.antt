@@ -1,0 +1,15 @@
+use native.Mathlib.Omega.{arith}
+use borrow.Author.Tests.{eq-eqb, ne-eqb}
+use Rattle.uplink.specs.Fields.{unitSlots}
+use Rattle.uplink.proofs.fields.unit_slots.Statement.{statement}
+use Rattle.uplink.proofs.fields.unit_slots.Tie as tie
+
+pub unit-slots-spec : {M : Type 1} → statement M
+unfolding unitSlots
+unit-slots-spec =
+    tie.close
+    (tie.spec
+    (λ c. (simp (eq-eqb _ _ (c .if1 .taken)), omega arith))
+    (λ c. (simp (eq-eqb _ _ (c .if2 .taken), ne-eqb _ _ (c .before .if1 .left)), omega arith))
+    (λ c. (simp (eq-eqb _ _ (c .if3 .taken), ne-eqb _ _ (c .before .if2 .left), ne-eqb _ _ (c .before .before .if1 .left)), omega arith))
+    (λ c. (simp (ne-eqb _ _ (c .if3 .left), ne-eqb _ _ (c .before .if2 .left), ne-eqb _ _ (c .before .before .if1 .left)), omega arith)))

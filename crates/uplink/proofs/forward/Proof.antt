@@ -1,0 +1,25 @@
+use mathlib.Core.Path.{sym, ap, _∙_}
+use Rattle.slots.specs.declared.Shape.{Shape}
+use Rattle.slots.specs.Answers.{shapeForward}
+use Rattle.uplink.proofs.Acceptance.{fits}
+use Rattle.uplink.proofs.Answered.{forward-accepted, forward-refused}
+use Rattle.uplink.proofs.forward.Statement.{statement}
+use Rattle.uplink.proofs.forward.Tie as tie
+
+pub forward-spec : {M : Type 1} → statement M
+forward-spec =
+    tie.close
+    (tie.spec
+    (λ c κs. tt)
+    (λ c κs. tt)
+    (λ c.
+    let j = c .before .before in
+    c .refused-place .ensures ∙ forward-refused (j .before .args .g) _ (j .judge .ensures) (c .before .if1 .taken) (j .before .args .p))
+    (λ c κs. sym (c .before .judge .ensures) ∙ c .if1 .left)
+    (λ c κs.
+    let j = c .before .before in
+    rw (c .shape .ensures) (fits (j .before .args .g) (sym (j .judge .ensures) ∙ c .before .if1 .left)))
+    (λ c.
+    let j = c .before .before .before in
+    c .forward .ensures ∙ ap (λ (s : Shape). shapeForward s (j .before .args .p)) (c .before .shape .ensures)
+    ∙ forward-accepted (j .before .args .g) (sym (j .judge .ensures) ∙ c .before .before .if1 .left) (j .before .args .p)))

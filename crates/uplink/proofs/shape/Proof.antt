@@ -1,0 +1,43 @@
+use native.Mathlib.Omega.{arith}
+use Rattle.grid.proofs.Rules.{uplink-copies-bounds}
+use Rattle.uplink.specs.Refusals.{lastSubframe}
+use Rattle.uplink.proofs.Acceptance.{Accepted, accepted}
+use Rattle.uplink.proofs.Shaped.{shape-is}
+use Rattle.uplink.proofs.shape.Statement.{statement}
+use Rattle.uplink.proofs.shape.Tie as tie
+
+in-range : (c : tie.Start) → Accepted lastSubframe (c .args .g)
+in-range c = accepted lastSubframe (c .args .g) (c .pre)
+
+pub shape-spec : {M : Type 1} → statement M
+shape-spec =
+    tie.close
+    (tie.spec
+    (λ c κs. tt)
+    (λ c κs. omega (arith, in-range (c .before) .copies))
+    (λ c κs. (omega (arith, in-range (c .before .before) .early), omega (arith, in-range (c .before .before) .delay)))
+    (λ c κs. tt)
+    (λ c κs. tt)
+    (λ c κs. tt)
+    (λ c κs. tt)
+    (λ c κs. omega (arith, in-range (c .before .before .before .before .before .before .before) .units))
+    (λ c κs.
+    let n = c .before .before .before .before .before .before in
+    omega (
+      arith,
+      n .uplink-copies .ensures,
+      uplink-copies-bounds (n .before .before .args .g .copies) (omega (arith, in-range (n .before .before) .copies)) .1,
+    ))
+    (λ c κs. tt)
+    (λ c κs. tt)
+    (λ c κs.
+    let a = in-range (c .before .before .before .before .before .before .before .before .before .before .before) in
+    (omega (arith, a .mcs), omega (arith, a .units)))
+    (λ c κs. omega (arith, in-range (c .before .before .before .before .before .before .before .before .before .before .before .before) .mcs))
+    (λ c.
+    let k = c .before .before .before .before .before .before in
+    let n = k .before .before .before .before .before in
+    shape-is (n .before .before .args .g) _ _ _ _ _ _ _ _ _ _ _ _ _ (n .before .tones .ensures) (n .uplink-copies .ensures)
+    (k .before .before .before .before .start .ensures) (k .before .before .before .subcarriers .ensures .0) (k .before .before .block .ensures) (k .before .gap .ensures) (k .first-tone .ensures)
+    (c .before .before .before .before .before .codeword .ensures) (c .before .before .before .before .row .ensures) (c .before .before .before .group .ensures) (c .before .before .reference .ensures)
+    (c .before .block-size .ensures) (c .order .ensures)))

@@ -1,0 +1,127 @@
+// What an uplink grant's fields name.
+ghost use mathlib.Core.Path.{_≡_};
+ghost use Prim.Native.Nat.{_+_, _*_, _^_, _<_, _≤_};
+ghost use Rattle.grid.specs.Tables.{entry, lengths, uplinkDelays};
+ghost use Rattle.slots.specs.Numerology.{firstAfter};
+ghost use Rattle.uplink.specs.Fields.{toneFields, tonesOf, firstTone, unitSlots, rowOf, referenceOf, blockSize, orderOf};
+use grid::UplinkGrid;
+
+const THREE_TONES: u64 = 12;
+
+const SIX_TONES: u64 = 16;
+
+const ALL_TONES: u64 = 18;
+
+// How many subcarrier fields name tones.
+pub fn tone_fields(spacing: u64) -> u64
+    ensures { λ r. ⌜ r ≡ toneFields spacing ⌝ }
+{
+    slots::by_spacing(spacing, UplinkGrid::SUBCARRIERS_3_75, ALL_TONES + 1)
+}
+
+// How many tones the subcarrier field names, and the first of them.
+pub fn tones(spacing: u64, field: u64) -> u64
+    ensures { λ r. ⌜ r ≡ tonesOf spacing field ⌝ }
+{
+    let subcarriers = UplinkGrid::subcarriers(spacing);
+    if field < subcarriers {
+        return 1;
+    }
+    if field < SIX_TONES {
+        return 3;
+    }
+    if field < ALL_TONES {
+        return 6;
+    }
+    subcarriers
+}
+
+pub fn first_tone(spacing: u64, field: u64) -> u64
+    ensures { λ r. ⌜ r ≡ firstTone spacing field ⌝ }
+{
+    if field < UplinkGrid::subcarriers(spacing) {
+        return field;
+    }
+    if field < SIX_TONES {
+        return 3 * (field - THREE_TONES);
+    }
+    if field < ALL_TONES {
+        return 6 * (field - SIX_TONES);
+    }
+    0
+}
+
+// The slot that a grant first names.
+pub fn start(spacing: u64, n: u64, delay: u64) -> u64
+    requires { ⌜ (n < 2 ^ 31) × (delay < 4) ⌝ }
+    ensures { λ r. ⌜ r ≡ firstAfter spacing (n + entry uplinkDelays delay) ⌝ }
+{
+    slots::first_after(spacing, n + grid::uplink_delay(delay))
+}
+
+// Slots of a resource unit.
+fn unit_slots(tones: u64) -> u64
+    ensures { λ r. ⌜ (r ≡ unitSlots tones) × (r ≤ 16) ⌝ }
+{
+    if tones == 1 {
+        return 16;
+    }
+    if tones == 3 {
+        return 8;
+    }
+    if tones == 6 {
+        return 4;
+    }
+    2
+}
+
+// Slots of the codeword.
+pub fn codeword(tones: u64, units: u64) -> u64
+    requires { ⌜ units < 8 ⌝ }
+    ensures { λ r. ⌜ r ≡ entry lengths units * unitSlots tones ⌝ }
+{
+    grid::length(units) * unit_slots(tones)
+}
+
+// How often a group of slots goes out in a row.
+pub fn row(tones: u64, copies: u64) -> u64
+    requires { ⌜ copies < 2 ^ 16 ⌝ }
+    ensures { λ r. ⌜ r ≡ rowOf tones copies ⌝ }
+{
+    if tones == 1 {
+        return 1;
+    }
+    let half = (copies + 1) / 2;
+    if half < 4 {
+        return half;
+    }
+    4
+}
+
+// The reference symbol.
+pub fn reference(spacing: u64) -> u64
+    ensures { λ r. ⌜ r ≡ referenceOf spacing ⌝ }
+{
+    slots::by_spacing(spacing, 4, 3)
+}
+
+// The size of the transport block, and the modulation order.
+pub fn block_size(tones: u64, mcs: u64, units: u64) -> u64
+    requires { ⌜ (mcs < 5) × (units < 8) ⌝ }
+    ensures { λ r. ⌜ r ≡ blockSize tones mcs units ⌝ }
+{
+    if tones == 1 {
+        return grid::size(grid::single_tone_row(mcs), units);
+    }
+    grid::size(mcs, units)
+}
+
+pub fn order(tones: u64, mcs: u64) -> u64
+    requires { ⌜ mcs < 5 ⌝ }
+    ensures { λ r. ⌜ r ≡ orderOf tones mcs ⌝ }
+{
+    if tones == 1 {
+        return grid::single_tone_order(mcs);
+    }
+    2
+}
