@@ -1,2 +1,3 @@
 pub mod Joined
 pub mod Lawfulness
+pub mod Cells

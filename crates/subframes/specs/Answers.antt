@@ -1,7 +1,7 @@
 -- What plan, forward and backward answer for a burst: 01 "Questions". A refused question has its number and zeros.
 use mathlib.Core.Bool.{Bool, cond, _&&_}
 use Prim.Native.Nat.{ℕ, _-_}
-use lib.Dec.{ltb}
+use lib.Dec.{eqb, ltb}
 use Rattle.counting.specs.Counting.{select}
 use Rattle.grid.specs.Grid.{subcarriers, symbols, slots, elementOf, slotOf, symbolOf, subcarrierOf}
 use Rattle.sending.specs.declared.Back.{Back}
@@ -49,3 +49,14 @@ insideGrid slot l k = ltb slot slots && (ltb l symbols && ltb k subcarriers)
 unfoldable pub burstBackward : (ℕ → Bool) → ℕ → Burst → ℕ → ℕ → ℕ → ℕ → Back
 burstBackward u P b t slot l k =
     cond (insideGrid slot l k) (backOf (contentAt (sendingOf u P b) t (elementOf slot l k))) (refusedBack 14)
+
+-- ---- the answers of a question with its refusals: the first number that applies, with zeros, or the burst's answer
+
+unfoldable pub planAnswer : ℕ → (ℕ → Bool) → ℕ → Burst → DownlinkPlan
+planAnswer refusal u P b = cond (eqb refusal 0) (burstPlan u P b) (refusedPlan refusal)
+
+unfoldable pub forwardAnswer : ℕ → (ℕ → Bool) → ℕ → Burst → ℕ → DownlinkPlace
+forwardAnswer refusal u P b p = cond (eqb refusal 0) (burstForward u P b p) (refusedPlace refusal)
+
+unfoldable pub backwardAnswer : ℕ → (ℕ → Bool) → ℕ → Burst → ℕ → ℕ → ℕ → ℕ → Back
+backwardAnswer refusal u P b t slot l k = cond (eqb refusal 0) (burstBackward u P b t slot l k) (refusedBack refusal)

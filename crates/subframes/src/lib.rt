@@ -8,9 +8,11 @@ ghost use Rattle.grid.specs.Grid.{elements};
 ghost use Rattle.sending.specs.CopyOrder.{carried};
 ghost use Rattle.sending.specs.Answer.{backOf};
 ghost use Rattle.subframes.specs.Fits.{Fits, Going};
-ghost use Rattle.subframes.specs.Quick.{standsIn};
+ghost use Rattle.subframes.specs.Quick.{standsIn, Answerable};
+ghost use Rattle.subframes.specs.Cells.{layoutOf};
 ghost use Rattle.subframes.specs.Mapping.{sentSubframes};
-ghost use Rattle.subframes.specs.Answers.{refusedPlan, refusedPlace, placeOf, burstPlan, burstForward, burstBackward};
+ghost use Rattle.subframes.specs.Answers.{refusedPlan, refusedPlace, placeOf, burstPlan, burstForward, burstBackward, planAnswer, forwardAnswer, backwardAnswer};
+use cell::Cell;
 use elements::Layout;
 use grid::Grid;
 use sending::Back;
@@ -28,6 +30,13 @@ pub struct Burst {
     pub codeword: u64,
     pub copies: u64,
     pub row: u64,
+}
+
+// A question on a burst, judged: the refusal number, and for an accepted one the usable subframes and the burst.
+pub struct Ready {
+    pub no: u64,
+    pub pattern: Pattern,
+    pub burst: Burst,
 }
 
 // Plan's answer: the refusal number; the first and last subframe, the copies and the places.
@@ -49,7 +58,7 @@ pub struct DownlinkPlace {
     pub symbol: u64,
 }
 
-pub fn refused_plan(no: u64) -> DownlinkPlan
+fn refused_plan(no: u64) -> DownlinkPlan
     ensures { λ r. ⌜ r ≡ refusedPlan no ⌝ }
 {
     DownlinkPlan {
@@ -61,7 +70,7 @@ pub fn refused_plan(no: u64) -> DownlinkPlan
     }
 }
 
-pub fn refused_place(no: u64) -> DownlinkPlace
+fn refused_place(no: u64) -> DownlinkPlace
     ensures { λ r. ⌜ r ≡ refusedPlace no ⌝ }
 {
     DownlinkPlace {
@@ -133,7 +142,7 @@ fn place(t: u64, x: u64, symbol: u64) -> DownlinkPlace
 }
 
 // First and last subframe, copies and places.
-pub fn plan(p: Pattern, b: Burst) -> DownlinkPlan
+fn burst_plan(p: Pattern, b: Burst) -> DownlinkPlan
     requires { ⌜ Going p × Fits b ⌝ }
     ensures { λ r. ⌜ r ≡ burstPlan (allows p) (periodOf p) b ⌝ }
 {
@@ -151,7 +160,7 @@ pub fn plan(p: Pattern, b: Burst) -> DownlinkPlan
 }
 
 // The place of a position, and the symbol there.
-pub fn forward(p: Pattern, b: Burst, position: u64) -> DownlinkPlace
+fn burst_forward(p: Pattern, b: Burst, position: u64) -> DownlinkPlace
     requires { ⌜ Going p × Fits b ⌝ }
     ensures { λ r. ⌜ r ≡ burstForward (allows p) (periodOf p) b position ⌝ }
 {
@@ -182,7 +191,7 @@ fn in_sent(b: Burst, i: u64, x: u64) -> Back
 }
 
 // What stands at an element of subframe t.
-pub fn backward(p: Pattern, b: Burst, t: u64, slot: u64, l: u64, k: u64) -> Back
+fn burst_backward(p: Pattern, b: Burst, t: u64, slot: u64, l: u64, k: u64) -> Back
     requires { ⌜ Going p × Fits b ⌝ }
     ensures { λ r. ⌜ r ≡ burstBackward (allows p) (periodOf p) b t slot l k ⌝ }
 {
@@ -195,4 +204,74 @@ pub fn backward(p: Pattern, b: Burst, t: u64, slot: u64, l: u64, k: u64) -> Back
         Found::At(i) => in_sent(b, i, Grid::element(slot, l, k)),
         Found::Nothing => sending::other(0),
     }
+}
+
+// The layout of a subframe of a cell.
+pub fn layout(c: Cell) -> Layout
+    ensures { λ r. ⌜ r ≡ layoutOf c ⌝ }
+{
+    Layout {
+        v: c.identity % 6,
+        nports: c.nports,
+        cports: c.cports,
+        control: c.control,
+    }
+}
+
+// A refused question.
+pub fn not_ready(no: u64, pattern: Pattern) -> Ready
+    ensures { λ r. ⌜ r .no ≡ no ⌝ }
+{
+    Ready {
+        no,
+        pattern,
+        burst: Burst {
+            layout: Layout {
+                v: 0,
+                nports: 0,
+                cports: 0,
+                control: 0,
+            },
+            low: 0,
+            width: 0,
+            from: 0,
+            skip: 0,
+            codeword: 0,
+            copies: 0,
+            row: 0,
+        },
+    }
+}
+
+// Plan: the refusal, or first, last, copies and places.
+pub fn plan(q: Ready) -> DownlinkPlan
+    requires { ⌜ Answerable q ⌝ }
+    ensures { λ r. ⌜ r ≡ planAnswer (q .no) (allows (q .pattern)) (periodOf (q .pattern)) (q .burst) ⌝ }
+{
+    if q.no != 0 {
+        return refused_plan(q.no);
+    }
+    burst_plan(q.pattern, q.burst)
+}
+
+// Forward: the refusal, or the place of a position and the symbol there.
+pub fn forward(q: Ready, position: u64) -> DownlinkPlace
+    requires { ⌜ Answerable q ⌝ }
+    ensures { λ r. ⌜ r ≡ forwardAnswer (q .no) (allows (q .pattern)) (periodOf (q .pattern)) (q .burst) position ⌝ }
+{
+    if q.no != 0 {
+        return refused_place(q.no);
+    }
+    burst_forward(q.pattern, q.burst, position)
+}
+
+// Backward: the refusal, or what stands at an element of subframe t.
+pub fn backward(q: Ready, t: u64, slot: u64, l: u64, k: u64) -> Back
+    requires { ⌜ Answerable q ⌝ }
+    ensures { λ r. ⌜ r ≡ backwardAnswer (q .no) (allows (q .pattern)) (periodOf (q .pattern)) (q .burst) t slot l k ⌝ }
+{
+    if q.no != 0 {
+        return sending::refused(q.no);
+    }
+    burst_backward(q.pattern, q.burst, t, slot, l, k)
 }

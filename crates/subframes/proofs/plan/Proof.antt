@@ -1,31 +1,20 @@
-use mathlib.Core.Path.{_≡_, refl, ap, ap₂, _∙_}
-use Prim.Native.Nat.{ℕ, _-_, _*_}
-use native.Mathlib.Omega.{arith}
 use borrow.Author.Needs.{needs}
-use Rattle.counting.specs.Counting.{select}
-use Rattle.spans.specs.Pattern.{allows, periodOf}
-use Rattle.subframes.specs.Mapping.{firstOf}
-use Rattle.subframes.specs.Answers.{burstPlan}
-use Rattle.subframes.proofs.Joined.{places-small}
+use borrow.Author.Tests.{eq-eqb, ne-eqb}
+use Rattle.subframes.specs.Answers.{planAnswer}
 use Rattle.subframes.proofs.plan.Statement.{statement}
 use Rattle.subframes.proofs.plan.Tie as tie
 
 returns : tie.Need-returns
-unfolding burstPlan
-returns c =
-    let s = c .before .before .before in
-    simp (c .subframe-at2 .ensures, c .before .subframe-at .ensures, s .sent-subframes .ensures .0, c .before .before .used-elements .ensures .0)
+unfolding planAnswer
+returns c = simp (c .refused-plan .ensures, ne-eqb _ _ (c .before .if1 .taken))
+
+returns-2 : tie.Need-returns-2
+unfolding planAnswer
+returns-2 c = simp (c .burst-plan .ensures, eq-eqb _ _ (c .before .if1 .left))
 
 pub plan-spec : {M : Type 1} → statement M
 plan-spec =
     tie.close
-    (tie.spec
-    (λ c κs. search needs)
-    (λ c κs. search needs)
-    (λ c κs. search needs)
-    (λ c. search needs)
-    (λ c κs. search needs)
-    (λ c.
-    let s = c .before .before .before in
-    omega (arith, places-small (s .sent-subframes .result) (c .before .before .used-elements .result) (s .sent-subframes .ensures .2) (c .before .before .used-elements .ensures .2)))
-    returns)
+    (tie.spec (λ c κs. tt) returns
+    (λ c κs. let a = c .before .before in (a .pre .going (c .if1 .left), a .pre .fits (c .if1 .left)))
+    returns-2)
