@@ -151,7 +151,10 @@ fn read_word(line: &[u8], start: usize, end: usize) -> Word
     requires { ⌜ (start ≤ end) × (end ≤ length (now line)) ⌝ }
 {
     let equals = find(line, start, end, b'=');
-    if (equals == end) | is_odd(line, start, end) {
+    if is_odd(line, start, end) {
+        return Word::Wrong(Fault::Value);
+    }
+    if equals == end {
         return Word::Wrong(Fault::Value);
     }
     let name = text::row_of(&NAMES, &line[start..equals]);

@@ -157,7 +157,7 @@ pub fn uplink_grant(v: &Values) -> UplinkGrant {
 pub fn front(buffer: &[u8], count: u64) -> &[u8] {
     let n = count as usize;
     if n <= buffer.len() {
-        return &buffer[..n];
+        return &buffer[0..n];
     }
     buffer
 }
