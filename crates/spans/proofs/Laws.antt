@@ -15,6 +15,7 @@ use Rattle.counting.proofs.Facts.{order}
 use Rattle.counting.proofs.Rank.{rank-zero, rank-suc, rank-le, rank-mono, rank-strict, rank-later, rank-same, count-between}
 use Rattle.counting.proofs.Range.{in-range, below-range, above-range, and-none, rank-before, rank-inside, rank-after}
 use Rattle.counting.proofs.Ones.{ones-low, span-part, span-whole, one-below}
+use Rattle.counting.proofs.Select.{among-parts}
 use Rattle.counting.proofs.Period.{rank-split, select-is, select-jump}
 use Rattle.spans.specs.declared.Pattern.{Pattern}
 use Rattle.spans.specs.declared.Found.{Found}
@@ -282,3 +283,25 @@ module _ (p : Pattern) (ok : Regular p) where
         pub past : K ≤ a - b - skip → Nothing ≡ foundAt p start K t
         unfolding foundAt amongFirst
         past w = simp (le-leb start t reached, y, ← index, le-ltb (a - b - skip) K w)
+
+-- ---- what an index found says, and one not found
+
+module _ (p : Pattern) (f K t : ℕ) where
+  at-by : (b : Bool) (n i : ℕ) → cond b (At n) Nothing ≡ At i → (b ≡ true) × (n ≡ i)
+  at-by true n i h = (refl, cc)
+  at-by false n i h = let z : _≡_ {A = ℕ} 0 1 = cc in absurd (omega arith)
+
+  nothing-by : (b : Bool) (n : ℕ) → cond b (At n) Nothing ≡ Nothing → b ≡ false
+  nothing-by true n h = let z : _≡_ {A = ℕ} 0 1 = cc in absurd (omega arith)
+  nothing-by false n h = refl
+
+  pub at-index : (i : ℕ) → foundAt p f K t ≡ At i → (amongFirst (allows p) f K t ≡ true) × (count (allows p) f (t - f) ≡ i)
+  unfolding foundAt
+  at-index i h = at-by (amongFirst (allows p) f K t) (count (allows p) f (t - f)) i h
+
+  pub at-below : (i : ℕ) → foundAt p f K t ≡ At i → i < K
+  at-below i h = omega (arith, at-index i h .1, among-parts (allows p) f K t (at-index i h .0) .2)
+
+  pub at-nothing : foundAt p f K t ≡ Nothing → amongFirst (allows p) f K t ≡ false
+  unfolding foundAt
+  at-nothing h = nothing-by (amongFirst (allows p) f K t) (count (allows p) f (t - f)) h

@@ -1,0 +1,6 @@
+pub mod Forty
+pub mod Taken
+pub mod Accepted
+pub mod Showing
+pub mod Judging
+pub mod Cases

@@ -1,0 +1,137 @@
+-- The pattern of a well-formed cell allows exactly its usable subframes, and what is said of the one holds of the other.
+use mathlib.Core.Bool.{Bool, true, false, cond, not, _&&_}
+use mathlib.Core.List.{List}
+use mathlib.Core.Path.{_≡_, refl, sym, ap, ap₂, _∙_, subst, fun-ext}
+use mathlib.Core.Logic.{_⊎_, inl, inr, ⊎-elim}
+use Prim.Native.Nat.{ℕ, zero, suc, _+_, _*_, _/_, _%_, _^_, _≤_, _<_}
+use native.Mathlib.Nat.{mul-pos, zero-mul, mul-zero}
+use native.Mathlib.Omega.{arith}
+use lib.Bits.{bitAnd, and-le-l}
+use lib.Dec.{eqb}
+use lib.ListN.{take}
+use borrow.Author.Tests.{eq-eqb, ne-eqb}
+use Rattle.counting.specs.Counting.{rank, count, select}
+use Rattle.counting.specs.Bits.{bitAt}
+use Rattle.counting.proofs.Facts.{order}
+use Rattle.counting.proofs.Ones.{and-bits}
+use Rattle.counting.proofs.Period.{rank-whole, repeats-times, select-same}
+use Rattle.spans.specs.declared.Pattern.{Pattern}
+use Rattle.spans.specs.Pattern.{span, withSib1, maskAt, allows, periodOf, Regular}
+use Rattle.spans.proofs.Laws.{repeats}
+use Rattle.cell.specs.declared.Cell.{Cell}
+use Rattle.cell.specs.Bitmap.{bytesOf, listedLength, allowed, bitmapIn}
+use Rattle.cell.specs.Usable.{period, isAnchor, usable}
+use Rattle.cell.specs.Judge.{formRefusal, cellRefusal}
+use Rattle.cell.specs.Quick.{Loaded, BitmapFits, anchorPattern, Shows}
+use Rattle.cell.proofs.Forty.{allowed-forty, allowed-front}
+use Rattle.cell.proofs.Taken.{taken, usable-is, anchor-regular, anchorTurns, anchor-whole, anchor-allows}
+
+and-true : (b : Bool) → (b && true) ≡ b
+and-true true = refl
+and-true false = refl
+
+module _ (c : Cell) (own : List ℕ) (m : ℕ) (fits : BitmapFits (c .bits) own) (l : Loaded own (c .bits) m) where
+  -- a digit of the bitmap allows its subframe
+  digit-allows : (t : ℕ) → bitAt m (t % span) ≡ allowed (bitmapIn c own) (c .bits) t
+  digit-allows t =
+      l .digits (t % span) (omega arith) ∙ allowed-forty own (c .bits) t (fits .listed) ∙ sym (allowed-front own (c .bits) t (fits .listed))
+
+  usable-by : (t : ℕ) (b : Bool) → isAnchor c ≡ b → usable c (bitmapIn c own) t ≡ (allowed (bitmapIn c own) (c .bits) t && not (b && taken (c .identity) (c .sib1) t))
+  usable-by t b e = usable-is c (bitmapIn c own) t ∙ ap (λ (x : Bool). allowed (bitmapIn c own) (c .bits) t && not (x && taken (c .identity) (c .sib1) t)) e
+
+  -- ---- on the anchor: what both the bitmap and the anchor leave
+
+  abbrev left : Pattern
+  left = record {
+    spans = anchorPattern (c .identity) (c .sib1) .spans;
+    first = anchorPattern (c .identity) (c .sib1) .first;
+    plain = bitAnd m (anchorPattern (c .identity) (c .sib1) .plain);
+    sib1 = bitAnd m (anchorPattern (c .identity) (c .sib1) .sib1);
+  }
+
+  both-masks : (b : Bool) (x y : ℕ) → cond b (bitAnd m x) (bitAnd m y) ≡ bitAnd m (cond b x y)
+  both-masks true x y = refl
+  both-masks false x y = refl
+
+  left-allows : (t : ℕ) → allows left t ≡ (bitAt m (t % span) && allows (anchorPattern (c .identity) (c .sib1)) t)
+  unfolding allows
+  left-allows t =
+      let p = anchorPattern (c .identity) (c .sib1) in
+      ap (λ (x : ℕ). bitAt x (t % span)) (both-masks (withSib1 p (t / span)) (p .sib1) (p .plain)) ∙ and-bits m (maskAt p (t / span)) (t % span)
+
+  pub shows-anchor : isAnchor c ≡ true → Shows c (bitmapIn c own) left
+  shows-anchor e =
+      let p = anchorPattern (c .identity) (c .sib1) in
+      let ok = anchor-regular (c .identity) (c .sib1) in
+      record {
+        regular = record {
+          fits = ok .fits;
+          few = ok .few;
+          plain-small = omega (arith, and-le-l m (p .plain), l .small);
+          sib1-small = omega (arith, and-le-l m (p .sib1), l .small);
+        };
+        turns = anchorTurns (c .sib1);
+        whole = anchor-whole (c .identity) (c .sib1);
+        same = λ t.
+            left-allows t ∙ ap₂ (λ (x y : Bool). x && y) (digit-allows t) (anchor-allows (c .identity) (c .sib1) t) ∙ sym (usable-by t true e);
+      }
+
+  -- ---- on a non-anchor the bitmap alone decides
+
+  abbrev alone : Pattern
+  alone = record { spans = 4; first = 0; plain = m; sib1 = m }
+
+  one-mask : (b : Bool) → cond b m m ≡ m
+  one-mask true = refl
+  one-mask false = refl
+
+  alone-allows : (t : ℕ) → allows alone t ≡ bitAt m (t % span)
+  unfolding allows
+  alone-allows t = ap (λ (x : ℕ). bitAt x (t % span)) (one-mask (withSib1 alone (t / span)))
+
+  pub shows-other : isAnchor c ≡ false → Shows c (bitmapIn c own) alone
+  shows-other e = record {
+    regular = record { fits = omega arith; few = omega arith; plain-small = l .small; sib1-small = l .small };
+    turns = 16;
+    whole = refl;
+    same = λ t. alone-allows t ∙ digit-allows t ∙ sym (and-true (allowed (bitmapIn c own) (c .bits) t)) ∙ sym (usable-by t false e);
+  }
+
+-- ---- from the pattern to the usable subframes
+
+module _ (c : Cell) (b : List ℕ) (p : Pattern) (s : Shows c b p) where
+  pub same-test : allows p ≡ usable c b
+  same-test = fun-ext (s .same)
+
+  period-rank : rank (usable c b) period ≡ s .turns * rank (allows p) (periodOf p)
+  period-rank =
+      ap (λ (u : ℕ → Bool). rank u period) (sym same-test) ∙ ap (rank (allows p)) (sym (s .whole))
+      ∙ rank-whole (allows p) (periodOf p) (repeats p (s .regular)) (s .turns)
+
+  some-turns : 0 < s .turns
+  some-turns = ⊎-elim (λ h. h) (λ h. absurd (none h)) (order 0 (s .turns))
+    where
+      none : s .turns ≤ 0 → ⊥
+      none h =
+          let z : s .turns ≡ 0 = omega arith in
+          omega (arith, sym (s .whole) ∙ ap (λ (x : ℕ). x * periodOf p) z ∙ zero-mul (periodOf p))
+
+  -- refusal 8, either way
+  pub some-usable : 0 < rank (allows p) (periodOf p) → 0 < rank (usable c b) period
+  some-usable h = omega (arith, period-rank, mul-pos some-turns h)
+
+  pub none-usable : rank (allows p) (periodOf p) ≡ 0 → rank (usable c b) period ≡ 0
+  none-usable h = period-rank ∙ ap (λ (x : ℕ). s .turns * x) h ∙ mul-zero (s .turns)
+
+  pub usable-repeats : (t : ℕ) → usable c b (t + period) ≡ usable c b t
+  usable-repeats t =
+      sym (s .same (t + period)) ∙ ap (λ (x : ℕ). allows p (t + x)) (sym (s .whole))
+      ∙ repeats-times (allows p) (periodOf p) (repeats p (s .regular)) (s .turns) t ∙ s .same t
+
+  pub select-usable : 0 < rank (allows p) (periodOf p) → (f j : ℕ) → select (allows p) (periodOf p) f j ≡ select (usable c b) period f j
+  select-usable some f j =
+      let again : (t : ℕ) → allows p (t + period) ≡ allows p t =
+      λ t. s .same (t + period) ∙ usable-repeats t ∙ sym (s .same t) in
+      let positive : 0 < rank (allows p) period = subst (λ (u : ℕ → Bool). 0 < rank u period) (sym same-test) (some-usable some) in
+      select-same (allows p) (periodOf p) period (repeats p (s .regular)) again some positive f j
+      ∙ ap (λ (u : ℕ → Bool). select u period f j) same-test

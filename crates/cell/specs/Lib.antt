@@ -1,0 +1,4 @@
+pub mod Bitmap
+pub mod Usable
+pub mod Judge
+pub mod Quick

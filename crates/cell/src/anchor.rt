@@ -1,0 +1,39 @@
+// What the anchor leaves of its subframes.
+ghost use mathlib.Core.Path.{_≡_};
+ghost use Rattle.cell.specs.Quick.{anchorPattern};
+use spans::Pattern;
+
+// The forty subframes of a span without NPBCH, NPSS and NSSS; and without SIB1 in the even frames, or in the odd ones.
+const PLAIN: u64 = 0xf7_9def_79de;
+
+const NOT_EVEN: u64 = 0xf7_9cef_79ce;
+
+const NOT_ODD: u64 = 0xf3_9def_39de;
+
+fn four(spans: u64, first: u64, sib1: u64) -> Pattern
+    ensures { λ r. ⌜ r ≡ record { spans = spans; first = first; plain = 0xf7_9def_79de; sib1 = sib1 } ⌝ }
+{
+    Pattern {
+        spans,
+        first,
+        plain: PLAIN,
+        sib1,
+    }
+}
+
+// The pattern of an anchor whose bitmap allows all.
+pub fn pattern(identity: u64, schedule: u64) -> Pattern
+    ensures { λ r. ⌜ r ≡ anchorPattern identity schedule ⌝ }
+{
+    let k = schedule % 3;
+    if k == 0 {
+        return four(16, 4 * (identity % 4), NOT_EVEN);
+    }
+    if k == 1 {
+        return four(8, 4 * (identity % 2), NOT_EVEN);
+    }
+    if identity % 2 == 0 {
+        return four(4, 0, NOT_EVEN);
+    }
+    four(4, 0, NOT_ODD)
+}

@@ -1,0 +1,185 @@
+// A cell: its refusals, its bitmap in force, and its usable subframes as a pattern of spans.
+ghost use mathlib.Core.Path.{_≡_};
+ghost use mathlib.Core.Bool.{cond, _&&_, _||_};
+ghost use lib.Bits.{bitAnd};
+ghost use lib.Dec.{eqb, leb};
+ghost use Rattle.cell.specs.Bitmap.{ownBuffer, bitmapIn};
+ghost use Rattle.cell.specs.Judge.{numbersRefusal, formRefusal, judgeOf, inForceOf};
+ghost use Rattle.cell.specs.Quick.{Shows, VerdictOn};
+use spans::Pattern;
+
+mod anchor;
+mod bitmap;
+
+pub struct Cell {
+    pub mode: u64,
+    pub carrier: u64,
+    pub identity: u64,
+    pub nports: u64,
+    pub cports: u64,
+    pub control: u64,
+    pub sib1: u64,
+    pub bits: u64,
+}
+
+// Why a subframe is not usable.
+pub enum Cause {
+    None,
+    Npbch,
+    Npss,
+    Nsss,
+    Sib1,
+    Bitmap,
+}
+
+// The refusal number, and for an accepted cell the pattern of its usable subframes.
+pub struct Verdict {
+    pub no: u64,
+    pub pattern: Pattern,
+}
+
+// Refusals 1 to 6.
+fn numbers_refusal(c: Cell) -> u64
+    ensures { λ r. ⌜ r ≡ numbersRefusal c ⌝ }
+{
+    let in_band = c.mode < 2;
+    if (c.mode > 3) | (c.carrier > 1) {
+        return 1;
+    }
+    if c.identity > 503 {
+        return 2;
+    }
+    if !((c.nports == 1) | (c.nports == 2)) {
+        return 3;
+    }
+    if !listed_ports(in_band, c.cports) {
+        return 4;
+    }
+    if !listed_control(in_band, c.control) {
+        return 5;
+    }
+    if c.sib1 > 11 {
+        return 6;
+    }
+    0
+}
+
+// Cell reference ports 1, 2 or 4 in-band, else 0.
+fn listed_ports(in_band: bool, cports: u64) -> bool
+    ensures { λ r. ⌜ r ≡ cond in_band (eqb cports 1 || (eqb cports 2 || eqb cports 4)) (eqb cports 0) ⌝ }
+{
+    if in_band {
+        return (cports == 1) | ((cports == 2) | (cports == 4));
+    }
+    cports == 0
+}
+
+// Control region 1 to 3 in-band, else 0.
+fn listed_control(in_band: bool, control: u64) -> bool
+    ensures { λ r. ⌜ r ≡ cond in_band (leb 1 control && leb control 3) (eqb control 0) ⌝ }
+{
+    if in_band {
+        return (1 <= control) & (control <= 3);
+    }
+    control == 0
+}
+
+// Refusals 1 to 7.
+fn form_refusal(c: Cell, own: &[u8]) -> u64
+    ensures { λ r. ⌜ r ≡ formRefusal c (now (own .entry)) ⌝ }
+{
+    let no = numbers_refusal(c);
+    if no != 0 {
+        return no;
+    }
+    if bitmap::is_bad(c.bits, own) {
+        return 7;
+    }
+    0
+}
+
+// What a pattern and a mask of forty both allow.
+fn withheld(p: Pattern, m: u64) -> Pattern
+    ensures { λ r. ⌜ r ≡ record { spans = p .spans; first = p .first; plain = bitAnd m (p .plain); sib1 = bitAnd m (p .sib1) } ⌝ }
+{
+    Pattern {
+        spans: p.spans,
+        first: p.first,
+        plain: m & p.plain,
+        sib1: m & p.sib1,
+    }
+}
+
+// The usable subframes of a well-formed cell.
+fn pattern(c: Cell, own: &[u8]) -> Pattern
+    requires { ⌜ formRefusal c (now own) ≡ 0 ⌝ }
+    ensures { λ r. ⌜ Shows c (bitmapIn c (now (own .entry))) r ⌝ }
+{
+    let m = bitmap::load(c.bits, own);
+    if c.carrier == 0 {
+        return withheld(anchor::pattern(c.identity, c.sib1), m);
+    }
+    Pattern {
+        spans: 4,
+        first: 0,
+        plain: m,
+        sib1: m,
+    }
+}
+
+fn refused(no: u64) -> Verdict
+    ensures { λ r. ⌜ r .no ≡ no ⌝ }
+{
+    Verdict {
+        no,
+        pattern: Pattern {
+            spans: 4,
+            first: 0,
+            plain: 0,
+            sib1: 0,
+        },
+    }
+}
+
+fn judged_own(c: Cell, own: &[u8]) -> Verdict
+    ensures { λ r. ⌜ VerdictOn c (now (own .entry)) r ⌝ }
+{
+    let no = form_refusal(c, own);
+    if no != 0 {
+        return refused(no);
+    }
+    let p = pattern(c, own);
+    if spans::in_period(p) == 0 {
+        return refused(8);
+    }
+    Verdict { no: 0, pattern: p }
+}
+
+// A cell's refusal number, and the pattern of an accepted one.
+pub fn judged(c: Cell, anchor: &[u8], other: &[u8]) -> Verdict
+    ensures { λ r. ⌜ VerdictOn c (ownBuffer c (now (anchor .entry)) (now (other .entry))) r ⌝ }
+{
+    if c.carrier == 0 {
+        return judged_own(c, anchor);
+    }
+    judged_own(c, other)
+}
+
+// Judge a cell: its refusal number, or 0.
+pub fn judge(c: Cell, anchor: &[u8], other: &[u8]) -> u64
+    ensures { λ r. ⌜ r ≡ judgeOf c (now (anchor .entry)) (now (other .entry)) ⌝ }
+{
+    judged(c, anchor, other).no
+}
+
+// The bitmap in force: the first 0, 2 or 5 bytes of the carrier's own buffer; an empty part for a refused cell.
+pub fn in_force<'a>(c: Cell, anchor: &'a [u8], other: &'a [u8]) -> &'a [u8]
+    ensures { λ r. ⌜ now r ≡ inForceOf c (now (anchor .entry)) (now (other .entry)) ⌝ }
+{
+    let own = bitmap::own(c.carrier, anchor, other);
+    if judge(c, anchor, other) == 0 {
+        let n = bitmap::bytes(c.bits);
+        return &own[0..n];
+    }
+    &own[0..0]
+}

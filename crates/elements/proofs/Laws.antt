@@ -1,0 +1,90 @@
+-- What callers know of the used elements.
+use mathlib.Core.Bool.{Bool, true, false, not, cond, _&&_, _||_}
+use mathlib.Core.Path.{_≡_, refl, _∙_}
+use Prim.Native.Nat.{ℕ, _+_, _*_, _≤_, _<_}
+use native.Mathlib.Omega.{arith}
+use lib.Dec.{eqb, ltb, leb}
+use borrow.Author.Tests.{ltb-true, leb-true, le-leb, lt-ltb}
+use Rattle.counting.specs.Counting.{Lists, inRange}
+use Rattle.counting.proofs.Facts.{both-parts, either-parts, not-true-is}
+use Rattle.counting.proofs.Rank.{rank-le, rank-strict}
+use Rattle.counting.proofs.Select.{lists-below}
+use Rattle.grid.specs.Grid.{subcarriers, symbols, elements, elementOf, slotOf, symbolOf, subcarrierOf}
+use Rattle.elements.specs.declared.Layout.{Layout}
+use Rattle.elements.specs.Elements.{nrs, crs, reference, controlRegion, eligible, used, kindOf, countOf, elementAt, numberOf, ncceWidth, npdcchFrom, npdcchWidth, Part}
+use Rattle.elements.proofs.Masks.{and-false}
+use Rattle.elements.proofs.Rows.{row-used}
+
+-- x lies in the grid and in the part, and carries no reference and no control
+pub record Clear (g : Layout) (from width x : ℕ) : Type 0 where
+  pub inside : x < elements
+  pub noNrs : nrs g (symbolOf x) (subcarrierOf x) ≡ false
+  pub noCrs : crs g (symbolOf x) (subcarrierOf x) ≡ false
+  pub noControl : controlRegion g (slotOf x) (symbolOf x) ≡ false
+  pub first : from ≤ subcarrierOf x
+  pub last : subcarrierOf x < from + width
+
+-- the fourth symbol has no reference
+quiet : (g : Layout) (k : ℕ) → reference g 3 k ≡ false
+unfolding nrs crs
+quiet g k = simp and-false
+
+module _ (g : Layout) (from width : ℕ) where
+  pub used-clear : (x : ℕ) → used g from width x ≡ true → Clear g from width x
+  unfolding used eligible
+  used-clear x h =
+      let n = nrs g (symbolOf x) (subcarrierOf x) in
+      let w = crs g (symbolOf x) (subcarrierOf x) in
+      let c = controlRegion g (slotOf x) (symbolOf x) in
+      let k = subcarrierOf x in
+      let u = both-parts (eligible g x) (inRange from width k) h in
+      let i = both-parts (ltb x elements) (not c && not (n || w)) (u .0) in
+      let o = both-parts (not c) (not (n || w)) (i .1) in
+      let r = either-parts n w (not-true-is (n || w) (o .1)) in
+      let p = both-parts (leb from k) (ltb k (from + width)) (u .1) in
+      record {
+        inside = ltb-true x elements (i .0);
+        noNrs = r .0;
+        noCrs = r .1;
+        noControl = not-true-is c (o .0);
+        first = leb-true from k (p .0);
+        last = ltb-true k (from + width) (p .1);
+      }
+
+  pub used-below : (x : ℕ) → used g from width x ≡ true → x < elements
+  used-below x h = used-clear x h .inside
+
+  -- a used element is plain
+  pub used-plain : (x : ℕ) → used g from width x ≡ true → kindOf g x ≡ 0
+  unfolding kindOf
+  used-plain x h = rw (used-clear x h .noNrs, used-clear x h .noCrs) refl
+
+  pub used-listed : Lists (countOf g from width) (elementAt g from width) (used g from width) (numberOf g from width)
+  used-listed = lists-below (used g from width) elements used-below
+
+  pub element-below : (e : ℕ) → e < countOf g from width → elementAt g from width e < elements
+  element-below e h = used-below (elementAt g from width e) (used-listed .passes e h)
+
+  pub count-le : countOf g from width ≤ elements
+  count-le = rank-le (used g from width) elements
+
+  -- the fourth symbol of the second slot is used at the part's first subcarrier
+  fourth-used : Part from width → used g from width (elementOf 1 3 from) ≡ true
+  fourth-used p =
+      row-used g from width (1 * symbols + 3) (omega arith) from (omega (arith, p))
+      ∙ (rw (quiet g from, le-leb from from (omega arith), lt-ltb from (from + width) (omega (arith, p))) refl)
+
+  pub count-some : Part from width → 0 < countOf g from width
+  count-some p = omega (arith, rank-strict (used g from width) (elementOf 1 3 from) elements (fourth-used p) (omega (arith, p)))
+
+-- ---- the parts that grants use
+
+pub whole-part : Part 0 subcarriers
+whole-part = record { starts = refl; whole = refl; some = omega arith; inside = omega arith }
+
+pub npdcch-part : (format ncce : ℕ) → ncce ≤ 1 → Part (npdcchFrom format ncce) (npdcchWidth format)
+npdcch-part format ncce h = by (eqb format 0)
+  where
+    by : (b : Bool) → Part (cond b (ncceWidth * ncce) 0) (cond b ncceWidth subcarriers)
+    by true = record { starts = omega arith; whole = refl; some = omega arith; inside = omega arith }
+    by false = whole-part

@@ -1,0 +1,197 @@
+// Which elements of a downlink subframe carry data, counted row by row.
+ghost use mathlib.Core.Path.{_≡_};
+ghost use Prim.Native.Nat.{_*_, _<_, _≤_};
+ghost use mir.Val.{boolByte};
+ghost use Rattle.grid.specs.Grid.{subcarriers, elements};
+ghost use Rattle.counting.specs.Counting.{inRange};
+ghost use Rattle.elements.specs.Elements.{near, far, nrsOn, crsOn, controlRegion, used, kindOf, countOf, elementAt, numberOf, npdcchFrom, npdcchWidth, Valid, Part};
+ghost use Rattle.elements.specs.Quick.{rows, referenceOn, freeOf, RowMask};
+use grid::Grid;
+
+// The layout of a subframe, apart from the cell: identity mod 6, narrowband and cell reference ports, control region.
+pub struct Layout {
+    pub v: u64,
+    pub nports: u64,
+    pub cports: u64,
+    pub control: u64,
+}
+
+// A symbol of a slot is a row of the grid.
+const ROWS: u64 = Grid::SLOTS * Grid::SYMBOLS;
+
+const NCCE_WIDTH: u64 = 6;
+
+fn is_near(g: Layout, k: u64) -> bool
+    ensures { λ r. ⌜ r ≡ near g k ⌝ }
+{
+    k % 6 == g.v
+}
+
+fn is_far(g: Layout, k: u64) -> bool
+    requires { ⌜ g .v < 6 ⌝ }
+    ensures { λ r. ⌜ r ≡ far g k ⌝ }
+{
+    k % 6 == (g.v + 3) % 6
+}
+
+// A narrowband reference lies on symbol l, near or far.
+fn nrs_on(g: Layout, l: u64, near: bool, far: bool) -> bool
+    ensures { λ r. ⌜ r ≡ nrsOn g l near far ⌝ }
+{
+    let first = ((l == 5) & near) | ((l == 6) & far);
+    let second = ((l == 5) & far) | ((l == 6) & near);
+    first | ((2 <= g.nports) & second)
+}
+
+// A cell reference lies on symbol l, near or far.
+fn crs_on(g: Layout, l: u64, near: bool, far: bool) -> bool
+    ensures { λ r. ⌜ r ≡ crsOn g l near far ⌝ }
+{
+    let first = ((l == 0) & near) | ((l == 4) & far);
+    let second = ((l == 0) & far) | ((l == 4) & near);
+    let others = (l == 1) & (near | far);
+    ((1 <= g.cports) & first) | (((2 <= g.cports) & second) | ((4 <= g.cports) & others))
+}
+
+fn reference_on(g: Layout, l: u64, near: bool, far: bool) -> bool
+    ensures { λ r. ⌜ r ≡ referenceOn g l near far ⌝ }
+{
+    nrs_on(g, l, near, far) | crs_on(g, l, near, far)
+}
+
+fn in_control(g: Layout, slot: u64, l: u64) -> bool
+    ensures { λ r. ⌜ r ≡ controlRegion g slot l ⌝ }
+{
+    (slot == 0) & (l < g.control)
+}
+
+fn in_part(from: u64, width: u64, k: u64) -> bool
+    requires { ⌜ Part from width ⌝ }
+    ensures { λ r. ⌜ r ≡ inRange from width k ⌝ }
+{
+    (from <= k) & (k < from + width)
+}
+
+// 1 for true, 0 for false.
+fn one(b: bool) -> u64
+    ensures { λ r. ⌜ (r ≡ boolByte b) × (r ≤ 1) ⌝ }
+{
+    b as u64
+}
+
+// Six subcarriers by binary digits, 1 where no reference lies: near ones take digit v, far ones (v + 3) mod 6.
+fn free(v: u64, near: bool, far: bool) -> u64
+    requires { ⌜ v < 6 ⌝ }
+    ensures { λ r. ⌜ r ≡ freeOf v near far ⌝ }
+{
+    63 - (one(near) << v) - (one(far) << ((v + 3) % 6))
+}
+
+// The used subcarriers of a row, by binary digits: its two halves are alike.
+fn row_mask(g: Layout, from: u64, width: u64, row: u64) -> u64
+    requires { ⌜ Valid g × Part from width × (row < rows) ⌝ }
+    ensures { λ r. ⌜ RowMask g from width row r ⌝ }
+{
+    let v = g.v;
+    let l = row % Grid::SYMBOLS;
+    if in_control(g, row / Grid::SYMBOLS, l) {
+        return 0;
+    }
+    let near = reference_on(g, l, true, false);
+    let far = reference_on(g, l, false, true);
+    let six = free(v, near, far);
+    let lower = one(in_part(from, width, 0));
+    let upper = one(in_part(from, width, NCCE_WIDTH));
+    six * (lower + 64 * upper)
+}
+
+// How many elements of the first rows are used.
+fn before(g: Layout, from: u64, width: u64, n: u64) -> u64
+    requires { ⌜ Valid g × Part from width × (n ≤ rows) ⌝ }
+    ensures { λ r. ⌜ r ≡ numberOf g from width (subcarriers * n) ⌝ }
+{
+    let mut sum: u64 = 0;
+    let mut row: u64 = 0;
+    while row < n {
+        sum += counting::ones_of(row_mask(g, from, width, row));
+        row += 1;
+    }
+    sum
+}
+
+// E: how many elements are used.
+pub fn count(g: Layout, from: u64, width: u64) -> u64
+    requires { ⌜ Valid g × Part from width ⌝ }
+    ensures { λ r. ⌜ r ≡ countOf g from width ⌝ }
+{
+    before(g, from, width, ROWS)
+}
+
+// The number of an element: how many before it are used.
+pub fn number(g: Layout, from: u64, width: u64, x: u64) -> u64
+    requires { ⌜ Valid g × Part from width × (x < elements) ⌝ }
+    ensures { λ r. ⌜ r ≡ numberOf g from width x ⌝ }
+{
+    let row = x / Grid::SUBCARRIERS;
+    let mask = row_mask(g, from, width, row);
+    before(g, from, width, row) + counting::ones_of(counting::low(mask, x % Grid::SUBCARRIERS))
+}
+
+// The e-th used element.
+pub fn element_at(g: Layout, from: u64, width: u64, e: u64) -> u64
+    requires { ⌜ Valid g × Part from width × (e < countOf g from width) ⌝ }
+    ensures { λ r. ⌜ r ≡ elementAt g from width e ⌝ }
+{
+    let mut left = e;
+    let mut row: u64 = 0;
+    while row < ROWS {
+        let mask = row_mask(g, from, width, row);
+        let n = counting::ones_of(mask);
+        if left < n {
+            return Grid::SUBCARRIERS * row + counting::nth_one(mask, left);
+        }
+        left -= n;
+        row += 1;
+    }
+    0
+}
+
+pub fn is_used(g: Layout, from: u64, width: u64, x: u64) -> bool
+    requires { ⌜ Valid g × Part from width × (x < elements) ⌝ }
+    ensures { λ r. ⌜ r ≡ used g from width x ⌝ }
+{
+    let mask = row_mask(g, from, width, x / Grid::SUBCARRIERS);
+    (mask >> (x % Grid::SUBCARRIERS)) % 2 == 1
+}
+
+// 0 plain, 1 narrowband reference, 2 cell reference, 3 both.
+pub fn kind(g: Layout, x: u64) -> u64
+    requires { ⌜ Valid g ⌝ }
+    ensures { λ r. ⌜ r ≡ kindOf g x ⌝ }
+{
+    let l = Grid::symbol(x);
+    let k = Grid::subcarrier(x);
+    let near = is_near(g, k);
+    let far = is_far(g, k);
+    one(nrs_on(g, l, near, far)) + 2 * one(crs_on(g, l, near, far))
+}
+
+// NPDCCH format 0 uses one NCCE, format 1 both: the first subcarrier, and how many.
+pub fn npdcch_from(format: u64, ncce: u64) -> u64
+    requires { ⌜ ncce ≤ 1 ⌝ }
+    ensures { λ r. ⌜ r ≡ npdcchFrom format ncce ⌝ }
+{
+    if format == 0 {
+        return NCCE_WIDTH * ncce;
+    }
+    0
+}
+
+pub fn npdcch_width(format: u64) -> u64
+    ensures { λ r. ⌜ r ≡ npdcchWidth format ⌝ }
+{
+    if format == 0 {
+        return NCCE_WIDTH;
+    }
+    Grid::SUBCARRIERS
+}

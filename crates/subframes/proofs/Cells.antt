@@ -1,0 +1,97 @@
+-- What an accepted cell gives to its bursts, and that an answer over the cell's pattern is the answer over its usable subframes.
+use mathlib.Core.Bool.{Bool, true, false, cond}
+use mathlib.Core.List.{List}
+use mathlib.Core.Path.{_≡_, refl, sym, ap, ap₂, _∙_, subst}
+use mathlib.Core.Logic.{_⊎_, inl, inr, ⊎-elim}
+use Prim.Native.Nat.{ℕ, zero, suc, _+_, _%_, _≤_, _<_}
+use native.Mathlib.Omega.{arith}
+use native.Mathlib.Decide.{ℕ-discrete}
+use lib.Dec.{eqb}
+use borrow.Author.Tests.{eq-eqb, ne-eqb}
+use Rattle.counting.specs.Counting.{rank, select}
+use Rattle.cell.specs.declared.Cell.{Cell}
+use Rattle.cell.specs.Usable.{period, usable}
+use Rattle.cell.specs.Quick.{Shows}
+use Rattle.cell.proofs.Accepted.{WellFormed}
+use Rattle.cell.proofs.Showing.{same-test, select-usable}
+use Rattle.elements.specs.Elements.{Valid}
+use Rattle.spans.specs.declared.Pattern.{Pattern}
+use Rattle.spans.specs.Pattern.{allows, periodOf}
+use Rattle.subframes.specs.declared.Burst.{Burst}
+use Rattle.subframes.specs.declared.Ready.{Ready}
+use Rattle.subframes.specs.Answers.{refusedPlan, refusedPlace, burstPlan, burstForward, burstBackward, planAnswer, forwardAnswer, backwardAnswer}
+use Rattle.subframes.specs.Quick.{ReadyFor}
+use Rattle.subframes.specs.Cells.{layoutOf}
+
+pub layout-valid : (c : Cell) → WellFormed c → Valid (layoutOf c)
+layout-valid c w = record {
+  shift = omega arith;
+  narrowband = ⊎-elim (λ e. (omega arith, omega arith)) (λ e. (omega arith, omega arith)) (w .nports);
+  cell =
+      ⊎-elim (λ e. (omega arith, λ z. omega arith))
+      (λ r. ⊎-elim (λ e. (omega arith, λ z. omega arith)) (λ s. ⊎-elim (λ e. (omega arith, λ z. omega arith)) (λ e. (omega arith, λ z. omega arith)) s) r)
+      (w .cports);
+  region = w .control;
+}
+
+-- ---- an answer reads the period only through select, and a refused one reads nothing but its number
+
+abbrev Same : (ℕ → Bool) → ℕ → ℕ → Type 0
+Same u P Q = (x j : ℕ) → select u P x j ≡ select u Q x j
+
+plan-free : (b : Burst) (u : ℕ → Bool) (P Q : ℕ) → Same u P Q → planAnswer 0 u P b ≡ planAnswer 0 u Q b
+unfolding planAnswer burstPlan
+plan-free b u P Q e = simp e
+
+plan-refused : (n : ℕ) → (n ≡ 0 → ⊥) → (u v : ℕ → Bool) (P Q : ℕ) (a d : Burst) → planAnswer n u P a ≡ planAnswer n v Q d
+unfolding planAnswer
+plan-refused n h u v P Q a d = simp (ne-eqb n 0 h)
+
+forward-free : (p : ℕ) (b : Burst) (u : ℕ → Bool) (P Q : ℕ) → Same u P Q → forwardAnswer 0 u P b p ≡ forwardAnswer 0 u Q b p
+unfolding forwardAnswer burstForward
+forward-free p b u P Q e = simp e
+
+forward-refused : (p n : ℕ) → (n ≡ 0 → ⊥) → (u v : ℕ → Bool) (P Q : ℕ) (a d : Burst) → forwardAnswer n u P a p ≡ forwardAnswer n v Q d p
+unfolding forwardAnswer
+forward-refused p n h u v P Q a d = simp (ne-eqb n 0 h)
+
+backward-free : (t slot l k : ℕ) (b : Burst) (u : ℕ → Bool) (P Q : ℕ) → Same u P Q → backwardAnswer 0 u P b t slot l k ≡ backwardAnswer 0 u Q b t slot l k
+unfolding backwardAnswer burstBackward
+backward-free t slot l k b u P Q e = simp e
+
+backward-refused : (t slot l k n : ℕ) → (n ≡ 0 → ⊥) → (u v : ℕ → Bool) (P Q : ℕ) (a d : Burst)
+    → backwardAnswer n u P a t slot l k ≡ backwardAnswer n v Q d t slot l k
+unfolding backwardAnswer
+backward-refused t slot l k n h u v P Q a d = simp (ne-eqb n 0 h)
+
+module _ (c : Cell) (m : List ℕ) (refusal : ℕ) (b : Burst) (q : Ready) (r : ReadyFor c m refusal b q) where
+  -- an answer that reads the test and its select alone: f over a refusal, a test, a period and a burst
+  module _ {A : Type 0} (f : ℕ → (ℕ → Bool) → ℕ → Burst → A)
+      (period-free : (u : ℕ → Bool) (P Q : ℕ) → ((x j : ℕ) → select u P x j ≡ select u Q x j) → f 0 u P b ≡ f 0 u Q b)
+      (refused-free : (n : ℕ) → (n ≡ 0 → ⊥) → (u v : ℕ → Bool) (P Q : ℕ) (a d : Burst) → f n u P a ≡ f n v Q d) where
+    pub answer-same : f (q .no) (allows (q .pattern)) (periodOf (q .pattern)) (q .burst) ≡ f refusal (usable c m) period b
+    answer-same = by (ℕ-discrete (q .no) 0)
+      where
+        by : Dec (q .no ≡ 0) → f (q .no) (allows (q .pattern)) (periodOf (q .pattern)) (q .burst) ≡ f refusal (usable c m) period b
+        by (yes e) =
+            let p = q .pattern in
+            let s = r .shows e in
+            ap₂ (λ (n : ℕ) (d : Burst). f n (allows p) (periodOf p) d) e (r .burst e)
+            ∙ ap (λ (u : ℕ → Bool). f 0 u (periodOf p) b) (same-test c m p s)
+            ∙ period-free (usable c m) (periodOf p) period
+            (λ x j. ap (λ (u : ℕ → Bool). select u (periodOf p) x j) (sym (same-test c m p s)) ∙ select-usable c m p s (r .answerable .going e .some) x j)
+            ∙ ap (λ (n : ℕ). f n (usable c m) period b) (sym e ∙ r .number)
+        by (no n) =
+            refused-free (q .no) n (allows (q .pattern)) (usable c m) (periodOf (q .pattern)) period (q .burst) b
+            ∙ ap (λ (x : ℕ). f x (usable c m) period b) (r .number)
+
+  pub plan-ready : planAnswer (q .no) (allows (q .pattern)) (periodOf (q .pattern)) (q .burst) ≡ planAnswer refusal (usable c m) period b
+  plan-ready = answer-same planAnswer (plan-free b) plan-refused
+
+  pub forward-ready : (p : ℕ) → forwardAnswer (q .no) (allows (q .pattern)) (periodOf (q .pattern)) (q .burst) p ≡ forwardAnswer refusal (usable c m) period b p
+  forward-ready p = answer-same (λ n u P d. forwardAnswer n u P d p) (forward-free p b) (forward-refused p)
+
+  pub backward-ready : (t slot l k : ℕ) → backwardAnswer (q .no) (allows (q .pattern)) (periodOf (q .pattern)) (q .burst) t slot l k
+      ≡ backwardAnswer refusal (usable c m) period b t slot l k
+  backward-ready t slot l k =
+      answer-same (λ n u P d. backwardAnswer n u P d t slot l k) (backward-free t slot l k b) (backward-refused t slot l k)

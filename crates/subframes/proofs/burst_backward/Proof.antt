@@ -1,0 +1,73 @@
+use mathlib.Core.Bool.{true, _&&_}
+use mathlib.Core.Path.{_≡_, sym, ap, _∙_}
+use Prim.Native.Nat.{ℕ, _≤_, _<_, _^_}
+use native.Mathlib.Omega.{arith}
+use lib.Dec.{ltb}
+use borrow.Author.Needs.{needs}
+use borrow.Author.Tests.{ltb-true, not-true, not-false}
+use Rattle.counting.specs.Counting.{select}
+use Rattle.counting.proofs.Facts.{both-parts}
+use Rattle.grid.specs.Grid.{slots, symbols, subcarriers}
+use Rattle.spans.specs.declared.Found.{Found}
+use Rattle.spans.specs.declared.Found.the-variants.{At, Nothing}
+use Rattle.spans.specs.Pattern.{allows, periodOf, foundAt}
+use Rattle.spans.proofs.Laws.{at-index, at-below, at-nothing}
+use Rattle.subframes.specs.Mapping.{sentSubframes, firstOf}
+use Rattle.subframes.specs.Answers.{insideGrid}
+use Rattle.subframes.proofs.Joined.{backward-outside, backward-unsent, backward-sent}
+use Rattle.subframes.proofs.burst_backward.Statement.{statement}
+use Rattle.subframes.proofs.burst_backward.Tie as tie
+
+-- inside the grid
+module _ (c : tie.Else1) where
+  inside : insideGrid (c .before .args .slot) (c .before .args .l) (c .before .args .k) ≡ true
+  inside = not-false _ (c .if1 .left)
+
+  parts : (c .before .args .slot < slots) × (c .before .args .l < symbols) × (c .before .args .k < subcarriers)
+  parts =
+      let a = both-parts (ltb (c .before .args .slot) slots) (ltb (c .before .args .l) symbols && ltb (c .before .args .k) subcarriers) inside in
+      let b = both-parts (ltb (c .before .args .l) symbols) (ltb (c .before .args .k) subcarriers) (a .1) in
+      (ltb-true _ _ (a .0), ltb-true _ _ (b .0), ltb-true _ _ (b .1))
+
+-- what the search found, in terms of the burst
+module _ (c : tie.After-locate) where
+  searched : c .locate .result ≡ foundAt (c .before .before .before .args .p) (firstOf (allows (c .before .before .before .args .p)) (periodOf (c .before .before .before .args .p)) (c .before .before .before .args .b)) (sentSubframes (c .before .before .before .args .b)) (c .before .before .before .args .t)
+  searched =
+      let a = c .before .before .before .args in
+      c .locate .ensures ∙ ap (λ (n : ℕ). foundAt (a .p) (firstOf (allows (a .p)) (periodOf (a .p)) (a .b)) n (a .t)) (c .before .sent-subframes .ensures .0)
+
+-- at index i
+at : (c : tie.After-found) → foundAt (c .before .before .before .before .before .args .p) (firstOf (allows (c .before .before .before .before .before .args .p)) (periodOf (c .before .before .before .before .before .args .p)) (c .before .before .before .before .before .args .b)) (sentSubframes (c .before .before .before .before .before .args .b)) (c .before .before .before .before .before .args .t) ≡ At (c .found .given .0 .0)
+at c = sym (searched (c .before .before)) ∙ c .found .given .1
+
+pub burst-backward-spec : {M : Type 1} → statement M
+burst-backward-spec =
+    tie.close
+    (tie.spec
+    (λ c κs. tt)
+    (λ c.
+    let a = c .before .before .args in
+    c .refused .ensures ∙ backward-outside _ _ (a .b) (a .t) (a .slot) (a .l) (a .k) (not-true _ (c .before .if1 .taken)))
+    (λ c κs. search needs)
+    (λ c κs. search needs)
+    (λ c. search needs)
+    (λ c κs. parts (c .before .before .before .before .before))
+    (λ c κs.
+    let f = c .before .before in
+    let s = f .before .before .before in
+    let a = s .before .before in
+    (a .pre .1, omega (arith, at-below _ _ _ _ _ (at f), s .sent-subframes .ensures .0, s .sent-subframes .ensures .2), c .element .ensures .1))
+    (λ c. search needs)
+    (λ c κs. tt)
+    (λ c.
+    let f = c .before .before .before in
+    let e = f .before .before .before .before in
+    let a = e .before .args in
+    c .in-sent .ensures
+    ∙ backward-sent _ _ (a .b) (a .t) (a .slot) (a .l) (a .k) (inside e) _ _ (at-index _ _ _ _ _ (at f) .0) (at-index _ _ _ _ _ (at f) .1) (c .before .element .ensures .0))
+    (λ c.
+    let l = c .before .before .before in
+    let e = l .before .before in
+    let a = e .before .args in
+    c .other .ensures
+    ∙ backward-unsent _ _ (a .b) (a .t) (a .slot) (a .l) (a .k) (inside e) (at-nothing _ _ _ _ (sym (searched l) ∙ c .before .enum-told .given .1))))

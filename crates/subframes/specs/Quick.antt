@@ -1,0 +1,33 @@
+-- What the code works out once it knows that a subframe is sent. No definition of 01 cites this file.
+use mathlib.Core.Bool.{cond}
+use mathlib.Core.List.{List}
+use mathlib.Core.Path.{_≡_}
+use Prim.Native.Nat.{ℕ, _+_, _*_}
+use Rattle.sending.specs.CopyOrder.{carried}
+use Rattle.sending.specs.Sending.{Content, ours, other}
+use Rattle.elements.specs.Elements.{kindOf, used, countOf, numberOf}
+use Rattle.cell.specs.declared.Cell.{Cell}
+use Rattle.cell.specs.Quick.{Shows}
+use Rattle.subframes.specs.declared.Burst.{Burst}
+use Rattle.subframes.specs.declared.Ready.{Ready}
+use Rattle.subframes.specs.Fits.{Fits, Going}
+
+-- what stands at element x of the i-th subframe that is sent
+unfoldable pub standsIn : Burst → ℕ → ℕ → Content
+standsIn b i x =
+    cond (used (b .layout) (b .low) (b .width) x)
+    (ours (carried (b .row) 1 (b .codeword) i * countOf (b .layout) (b .low) (b .width) + numberOf (b .layout) (b .low) (b .width) x)
+    (i * countOf (b .layout) (b .low) (b .width) + numberOf (b .layout) (b .low) (b .width) x))
+    (other (kindOf (b .layout) x))
+
+-- an accepted question has what its answer needs
+pub record Answerable (q : Ready) : Type 0 where
+  pub going : q .no ≡ 0 → Going (q .pattern)
+  pub fits : q .no ≡ 0 → Fits (q .burst)
+
+-- a question on cell c with bitmap m, judged: its refusal, and for an accepted one the cell's usable subframes and burst b
+pub record ReadyFor (c : Cell) (m : List ℕ) (refusal : ℕ) (b : Burst) (q : Ready) : Type 0 where
+  pub number : q .no ≡ refusal
+  pub answerable : Answerable q
+  pub shows : q .no ≡ 0 → Shows c m (q .pattern)
+  pub burst : q .no ≡ 0 → q .burst ≡ b

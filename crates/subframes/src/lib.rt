@@ -1,0 +1,277 @@
+// Downlink questions on a burst: the numbers that place a grant's codeword on usable subframes, whatever kind of grant they are made from.
+ghost use mathlib.Core.Path.{_≡_};
+ghost use Prim.Native.Nat.{_+_, _*_, _^_, _≤_, _<_};
+ghost use Rattle.counting.specs.Counting.{select};
+ghost use Rattle.spans.specs.Pattern.{allows, periodOf};
+ghost use Rattle.elements.specs.Elements.{countOf};
+ghost use Rattle.grid.specs.Grid.{elements};
+ghost use Rattle.sending.specs.CopyOrder.{carried};
+ghost use Rattle.sending.specs.Answer.{backOf};
+ghost use Rattle.subframes.specs.Fits.{Fits, Going};
+ghost use Rattle.subframes.specs.Quick.{standsIn, Answerable};
+ghost use Rattle.subframes.specs.Cells.{layoutOf};
+ghost use Rattle.subframes.specs.Mapping.{sentSubframes};
+ghost use Rattle.subframes.specs.Answers.{refusedPlan, refusedPlace, placeOf, burstPlan, burstForward, burstBackward, planAnswer, forwardAnswer, backwardAnswer};
+use cell::Cell;
+use elements::Layout;
+use grid::Grid;
+use sending::Back;
+use spans::Found;
+use spans::Pattern;
+
+// From subframe `from` on, after `skip` usable ones: `codeword` subframes, sent `copies` times, each `row` times in a row, on `width`
+// subcarriers from `low` on of a layout.
+pub struct Burst {
+    pub layout: Layout,
+    pub low: u64,
+    pub width: u64,
+    pub from: u64,
+    pub skip: u64,
+    pub codeword: u64,
+    pub copies: u64,
+    pub row: u64,
+}
+
+// A question on a burst, judged: the refusal number, and for an accepted one the usable subframes and the burst.
+pub struct Ready {
+    pub no: u64,
+    pub pattern: Pattern,
+    pub burst: Burst,
+}
+
+// Plan's answer: the refusal number; the first and last subframe, the copies and the places.
+pub struct DownlinkPlan {
+    pub no: u64,
+    pub first: u64,
+    pub last: u64,
+    pub copies: u64,
+    pub places: u64,
+}
+
+// Forward's answer: the refusal number; subframe, slot, symbol and subcarrier of the place, and the codeword symbol there.
+pub struct DownlinkPlace {
+    pub no: u64,
+    pub t: u64,
+    pub slot: u64,
+    pub l: u64,
+    pub k: u64,
+    pub symbol: u64,
+}
+
+fn refused_plan(no: u64) -> DownlinkPlan
+    ensures { λ r. ⌜ r ≡ refusedPlan no ⌝ }
+{
+    DownlinkPlan {
+        no,
+        first: 0,
+        last: 0,
+        copies: 0,
+        places: 0,
+    }
+}
+
+fn refused_place(no: u64) -> DownlinkPlace
+    ensures { λ r. ⌜ r ≡ refusedPlace no ⌝ }
+{
+    DownlinkPlace {
+        no,
+        t: 0,
+        slot: 0,
+        l: 0,
+        k: 0,
+        symbol: 0,
+    }
+}
+
+// How many subframes are sent.
+fn sent_subframes(b: Burst) -> u64
+    requires { ⌜ Fits b ⌝ }
+    ensures { λ r. ⌜ (r ≡ sentSubframes b) × (0 < r) × (r ≤ 2 ^ 20) ⌝ }
+{
+    let copies = b.copies;
+    let codeword = b.codeword;
+    copies * codeword
+}
+
+// Used elements of a subframe.
+fn used_elements(b: Burst) -> u64
+    requires { ⌜ Fits b ⌝ }
+    ensures { λ r. ⌜ (r ≡ countOf (b .layout) (b .low) (b .width)) × (0 < r) × (r ≤ elements) ⌝ }
+{
+    let layout = b.layout;
+    elements::count(layout, b.low, b.width)
+}
+
+// Transmitted subframe i.
+fn subframe_at(p: Pattern, b: Burst, i: u64) -> u64
+    requires { ⌜ Going p × Fits b × (i ≤ 2 ^ 20) ⌝ }
+    ensures { λ r. ⌜ r ≡ select (allows p) (periodOf p) (select (allows p) (periodOf p) (b .from) (b .skip)) i ⌝ }
+{
+    let skip = b.skip;
+    spans::nth(p, b.from, skip + i)
+}
+
+// The codeword subframe that transmitted subframe i carries.
+fn carried_by(b: Burst, i: u64) -> u64
+    requires { ⌜ Fits b ⌝ }
+    ensures { λ r. ⌜ (r ≡ carried (b .row) 1 (b .codeword) i) × (r ≤ 2 ^ 8) ⌝ }
+{
+    sending::carried(b.row, 1, b.codeword, i)
+}
+
+// Item e of row a, in rows of w.
+fn item(a: u64, w: u64, e: u64) -> u64
+    requires { ⌜ (a ≤ 2 ^ 20) × (w ≤ elements) × (e < w) ⌝ }
+    ensures { λ r. ⌜ r ≡ a * w + e ⌝ }
+{
+    a * w + e
+}
+
+// Element x of subframe t, with its symbol.
+fn place(t: u64, x: u64, symbol: u64) -> DownlinkPlace
+    ensures { λ r. ⌜ r ≡ placeOf (record { time = t; element = x; symbol = symbol }) ⌝ }
+{
+    DownlinkPlace {
+        no: 0,
+        t,
+        slot: Grid::slot(x),
+        l: Grid::symbol(x),
+        k: Grid::subcarrier(x),
+        symbol,
+    }
+}
+
+// First and last subframe, copies and places.
+fn burst_plan(p: Pattern, b: Burst) -> DownlinkPlan
+    requires { ⌜ Going p × Fits b ⌝ }
+    ensures { λ r. ⌜ r ≡ burstPlan (allows p) (periodOf p) b ⌝ }
+{
+    let sent = sent_subframes(b);
+    let w = used_elements(b);
+    let first = subframe_at(p, b, 0);
+    let last = subframe_at(p, b, sent - 1);
+    DownlinkPlan {
+        no: 0,
+        first,
+        last,
+        copies: b.copies,
+        places: sent * w,
+    }
+}
+
+// The place of a position, and the symbol there.
+fn burst_forward(p: Pattern, b: Burst, position: u64) -> DownlinkPlace
+    requires { ⌜ Going p × Fits b ⌝ }
+    ensures { λ r. ⌜ r ≡ burstForward (allows p) (periodOf p) b position ⌝ }
+{
+    let w = used_elements(b);
+    if position >= sent_subframes(b) * w {
+        return refused_place(14);
+    }
+    let i = position / w;
+    let e = position % w;
+    let t = subframe_at(p, b, i);
+    let x = elements::element_at(b.layout, b.low, b.width, e);
+    let unit = carried_by(b, i);
+    place(t, x, item(unit, w, e))
+}
+
+// What stands at an element of subframe t, the i-th that is sent.
+fn in_sent(b: Burst, i: u64, x: u64) -> Back
+    requires { ⌜ Fits b × (i ≤ 2 ^ 20) × (x < elements) ⌝ }
+    ensures { λ r. ⌜ r ≡ backOf (standsIn b i x) ⌝ }
+{
+    if elements::is_used(b.layout, b.low, b.width, x) {
+        let w = used_elements(b);
+        let e = elements::number(b.layout, b.low, b.width, x);
+        let unit = carried_by(b, i);
+        return sending::ours(item(unit, w, e), item(i, w, e));
+    }
+    sending::other(elements::kind(b.layout, x))
+}
+
+// What stands at an element of subframe t.
+fn burst_backward(p: Pattern, b: Burst, t: u64, slot: u64, l: u64, k: u64) -> Back
+    requires { ⌜ Going p × Fits b ⌝ }
+    ensures { λ r. ⌜ r ≡ burstBackward (allows p) (periodOf p) b t slot l k ⌝ }
+{
+    let inside = (slot < Grid::SLOTS) & ((l < Grid::SYMBOLS) & (k < Grid::SUBCARRIERS));
+    if !inside {
+        return sending::refused(14);
+    }
+    let found = spans::locate(p, b.from, b.skip, sent_subframes(b), t);
+    match found {
+        Found::At(i) => in_sent(b, i, Grid::element(slot, l, k)),
+        Found::Nothing => sending::other(0),
+    }
+}
+
+// The layout of a subframe of a cell.
+pub fn layout(c: Cell) -> Layout
+    ensures { λ r. ⌜ r ≡ layoutOf c ⌝ }
+{
+    Layout {
+        v: c.identity % 6,
+        nports: c.nports,
+        cports: c.cports,
+        control: c.control,
+    }
+}
+
+// A refused question.
+pub fn not_ready(no: u64, pattern: Pattern) -> Ready
+    ensures { λ r. ⌜ r .no ≡ no ⌝ }
+{
+    Ready {
+        no,
+        pattern,
+        burst: Burst {
+            layout: Layout {
+                v: 0,
+                nports: 0,
+                cports: 0,
+                control: 0,
+            },
+            low: 0,
+            width: 0,
+            from: 0,
+            skip: 0,
+            codeword: 0,
+            copies: 0,
+            row: 0,
+        },
+    }
+}
+
+// Plan: the refusal, or first, last, copies and places.
+pub fn plan(q: Ready) -> DownlinkPlan
+    requires { ⌜ Answerable q ⌝ }
+    ensures { λ r. ⌜ r ≡ planAnswer (q .no) (allows (q .pattern)) (periodOf (q .pattern)) (q .burst) ⌝ }
+{
+    if q.no != 0 {
+        return refused_plan(q.no);
+    }
+    burst_plan(q.pattern, q.burst)
+}
+
+// Forward: the refusal, or the place of a position and the symbol there.
+pub fn forward(q: Ready, position: u64) -> DownlinkPlace
+    requires { ⌜ Answerable q ⌝ }
+    ensures { λ r. ⌜ r ≡ forwardAnswer (q .no) (allows (q .pattern)) (periodOf (q .pattern)) (q .burst) position ⌝ }
+{
+    if q.no != 0 {
+        return refused_place(q.no);
+    }
+    burst_forward(q.pattern, q.burst, position)
+}
+
+// Backward: the refusal, or what stands at an element of subframe t.
+pub fn backward(q: Ready, t: u64, slot: u64, l: u64, k: u64) -> Back
+    requires { ⌜ Answerable q ⌝ }
+    ensures { λ r. ⌜ r ≡ backwardAnswer (q .no) (allows (q .pattern)) (periodOf (q .pattern)) (q .burst) t slot l k ⌝ }
+{
+    if q.no != 0 {
+        return sending::refused(q.no);
+    }
+    burst_backward(q.pattern, q.burst, t, slot, l, k)
+}
