@@ -9,9 +9,9 @@ use native.Mathlib.Omega.{arith}
 use lib.Count.{ones}
 use lib.Dec.{T, leb, ltb, eqb, leb→le, eqb→eq}
 use lib.ListN.{getD}
-use lib.Pow.{pow-mono}
-use borrow.Author.Tests.{le-leb, lt-leb, ne-eqb, ltb-true}
-use Rattle.counting.proofs.Facts.{order, each, each-at, alike, alike-eq}
+use lib.Pow.{pow-mono, pow-pos}
+use borrow.Author.Tests.{le-leb, lt-leb, ne-eqb, ltb-true, eqb-true}
+use Rattle.counting.proofs.Facts.{order, each, each-at, alike, alike-eq, either-case}
 use Rattle.grid.specs.Tables.{entry, lengths, downlinkCopies, shortDelays, longDelays, downlinkDelay, uplinkCopies, uplinkDelays, singleToneRows, powerBelow, isRepetition}
 
 -- a test that holds at each field of a row holds at any field below its length
@@ -112,3 +112,21 @@ one-digit x = ⊎-elim above below (order 2048 x)
 
     below : x ≤ 2048 → (leb x 2048 && eqb (ones x) 1) ≡ powerBelow 12 x
     below h = rw (le-leb x 2048 h) (alike-eq (eqb (ones x) 1) (powerBelow 12 x) (each-at 2049 (λ x. alike (eqb (ones x) 1) (powerBelow 12 x)) one-digit-table x (omega arith)))
+
+power-bounds : (n x : ℕ) → powerBelow n x ≡ true → (1 ≤ x) × (2 * x ≤ 2 ^ n)
+power-bounds zero x h = let z : _≡_ {A = ℕ} 0 1 = cc in absurd (omega arith)
+power-bounds (suc n) x h =
+    ⊎-elim
+    (λ e.
+    let f = eqb-true x (2 ^ n) e in
+    (omega (arith, pow-pos n), omega (arith, pow-succ' 2 n)))
+    (λ r.
+    let b = power-bounds n x r in
+    (b .0, omega (arith, b .1, pow-succ' 2 n)))
+    (either-case (eqb x (2 ^ n)) (powerBelow n x) h)
+
+pub repetition-bounds : (x : ℕ) → isRepetition x ≡ true → (1 ≤ x) × (x ≤ 2048)
+unfolding isRepetition
+repetition-bounds x h =
+    let b = power-bounds 12 x h in
+    (b .0, omega (arith, b .1))

@@ -1,3 +1,4 @@
 pub mod Joined
 pub mod Lawfulness
 pub mod Cells
+pub mod Judging
