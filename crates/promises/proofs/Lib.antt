@@ -1,2 +1,3 @@
 pub mod Bridge
 pub mod Slotted
+pub mod Repeating
