@@ -1,7 +1,6 @@
 -- DEMAND 3 from a sound sending: for answers that read it, and a grid whose places and element numbers go into each other.
-use mathlib.Core.Bool.{Bool}
 use mathlib.Core.Path.{_≡_, refl, sym, ap, ap₂, _∙_, subst}
-use mathlib.Core.Logic.{_⊎_, inl, inr, ⊎-elim}
+use mathlib.Core.Logic.{_⊎_, ⊎-elim}
 use Prim.Native.Nat.{ℕ, _*_, _≤_, _<_}
 use native.Mathlib.Omega.{arith}
 use lib.Dec.{eqb}
@@ -12,10 +11,10 @@ use Rattle.sending.specs.declared.Back.{Back}
 use Rattle.sending.specs.Sending.{Sending, Spot, spotAt, Content, ours, other, contentAt}
 use Rattle.sending.specs.Answer.{backOf}
 use Rattle.sending.specs.Demand.{Sound}
-use Rattle.promises.specs.Demand.{Forward, found, Answers, Places, Granted, placeOf, symbolOf, Demand}
+use Rattle.promises.specs.Demand.{Forward, found, Answers, Grid, Granted, placeOf, Demand}
 
 -- a place has a time and an element, and is the only one that has both
-pub record Numbered {Place : Type 0} (grid : Places Place) : Type 0 where
+pub record Numbered {Place : Type 0} (grid : Grid Place) : Type 0 where
   pub time : Place → ℕ
   pub element : Place → ℕ
   pub timed : (t x : ℕ) → time (grid .at t x) ≡ t
@@ -26,7 +25,7 @@ pub record Numbered {Place : Type 0} (grid : Places Place) : Type 0 where
   pub further : (t x x' : ℕ) → x < x' → grid .Before (grid .at t x) (grid .at t x')
 
 -- the answers read the sending
-pub record Read {Place : Type 0} (grid : Places Place) (n : Numbered grid) (S : Sending) (a : Answers Place) : Type 0 where
+pub record Read {Place : Type 0} (grid : Grid Place) (n : Numbered grid) (S : Sending) (a : Answers Place) : Type 0 where
   pub places : a .places ≡ S .K * S .W
   pub some : 0 < S .K * S .W
   pub forward : (p : ℕ) → p < S .K * S .W → a .forward p ≡ found (grid .at (spotAt S p .time) (spotAt S p .element)) (spotAt S p .symbol)
@@ -39,7 +38,7 @@ ours-back : (c : Content) (s p : ℕ) → backOf c ≡ backOf (ours s p) → c �
 ours-back (ours s' p') s p e = ap₂ ours (ap (λ (b : Back). b .symbol) e) (ap (λ (b : Back). b .position) e)
 ours-back (other k) s p e = absurd (omega (arith, ap (λ (b : Back). b .ours) e))
 
-module _ {Place : Type 0} (grid : Places Place) (n : Numbered grid) (g : Granted) (a : Answers Place) (r : Read grid n (g .sending) a)
+module _ {Place : Type 0} (grid : Grid Place) (n : Numbered grid) (g : Granted) (a : Answers Place) (r : Read grid n (g .sending) a)
     (N R : ℕ) (d : Sound (g .sending) N R) (copies : g .copies ≡ R) (symbols : g .symbols ≡ N * g .sending .W) where
   abbrev S : Sending
   S = g .sending

@@ -1,3 +1,5 @@
 pub mod Bridge
 pub mod Slotted
 pub mod Repeating
+pub mod Framed
+pub mod Kept

@@ -1,34 +1,31 @@
 -- DEMAND 3 of every accepted NPUSCH grant.
-use mathlib.Core.Path.{_≡_, refl, sym, ap, ap₂, _∙_, subst}
+use mathlib.Core.Path.{_≡_, refl, sym, ap, _∙_, subst}
 use mathlib.Core.Logic.{_⊎_, inl, inr, ⊎-elim}
-use Prim.Native.Nat.{ℕ, _+_, _-_, _*_, _/_, _%_, _≤_, _<_}
-use native.Mathlib.Nat.{mul-pos, mul-comm, mul-assoc, mod-lt, div-add-mod'}
+use Prim.Native.Nat.{ℕ, _-_, _*_, _/_, _%_, _≤_, _<_}
+use native.Mathlib.Nat.{mul-pos, mul-comm, div-add-mod'}
 use native.Mathlib.Decide.{ℕ-discrete}
 use native.Mathlib.Omega.{arith}
 use Rattle.counting.proofs.Facts.{order, div-mono}
-use Rattle.grid.specs.Grid.{symbols, uplinkSubcarriers, uplinkElementOf, uplinkSymbolOf, uplinkSubcarrierOf}
-use Rattle.grid.specs.Tables.{entry, lengths}
+use Rattle.grid.specs.Grid.{uplinkSubcarriers, uplinkElementOf}
 use Rattle.grid.proofs.Numbering.{uplink-of-parts, uplink-symbol-of, uplink-subcarrier-of}
-use Rattle.sending.specs.Sending.{Spot, spotAt, contentAt}
-use Rattle.sending.specs.Answer.{backOf}
 use Rattle.slots.specs.declared.Shape.{Shape}
 use Rattle.slots.specs.declared.UplinkPlan.{UplinkPlan}
 use Rattle.slots.specs.Fits.{Fits}
 use Rattle.slots.specs.Elements.{slotData}
 use Rattle.slots.specs.Mapping.{sendingOf, places}
-use Rattle.slots.specs.Answers.{refusedPlace, placeOf, shapePlan, shapeForward, shapeBackward}
+use Rattle.slots.specs.Answers.{shapePlan, shapeForward, shapeBackward}
 use Rattle.slots.proofs.Joined.{forward-refused}
 use Rattle.slots.proofs.Lines.{slot-data, some-data}
 use Rattle.slots.proofs.Lawfulness.{shape-sound, forward-place, backward-content, place-symbol, place-subcarrier}
 use Rattle.uplink.specs.declared.UplinkGrant.{UplinkGrant}
-use Rattle.uplink.specs.Fields.{tonesOf, unitSlots}
 use Rattle.uplink.specs.Refusals.{refusal}
-use Rattle.uplink.specs.Shaping.{shapeOf}
+use Rattle.uplink.specs.Shaping.{grantTones, shapeOf}
 use Rattle.uplink.specs.Questions.{planOf, forwardOf, backwardOf}
 use Rattle.uplink.proofs.Acceptance.{fits}
 use Rattle.uplink.proofs.Answered.{plan-accepted, forward-accepted, backward-accepted, plan-refused}
-use Rattle.promises.specs.Demand.{Answers, Places, Demand, firstBy}
-use Rattle.promises.specs.Uplink.{SlotPlace, uplinkPlaces, uplinkColumns, uplinkGranted, uplinkAnswers, UplinkDemand}
+use Rattle.promises.specs.Demand.{Answers, Demand, firstBy}
+use Rattle.promises.specs.Grids.{SlotPlace, uplinkGrid, uplinkColumns, uplinkAnswers}
+use Rattle.promises.specs.Promises.{dataSymbols, uplinkGranted}
 use Rattle.promises.proofs.Bridge.{Numbered, Read, demand}
 
 -- ---- the grid
@@ -42,7 +39,7 @@ slot-further T x y h l = ⊎-elim inl same (order (x / T) (y / T))
         let e : x / T ≡ y / T = omega (arith, div-mono x y T h (omega arith)) in
         inr (e, omega (arith, ap (λ (q : ℕ). q * T) e, div-add-mod' x T, div-add-mod' y T))
 
-uplink-numbered : (T : ℕ) → 0 < T → Numbered (uplinkPlaces T)
+uplink-numbered : (T : ℕ) → 0 < T → Numbered (uplinkGrid T)
 uplink-numbered T h = record {
   time = λ x. x .slot;
   element = λ x. uplinkElementOf T (x .l) (x .k);
@@ -55,19 +52,15 @@ uplink-numbered T h = record {
 
 -- ---- a shape: any kind of uplink grant
 
-shapeAnswers : Shape → Answers SlotPlace
-shapeAnswers s = record {
-  places = shapePlan s .places;
-  forward = λ p. uplinkColumns (shapeForward s p);
-  backward = λ x. shapeBackward s (x .slot) (x .l) (x .k);
-}
+abbrev shapeAnswers : Shape → Answers SlotPlace
+shapeAnswers s = uplinkAnswers (shapePlan s) (shapeForward s) (shapeBackward s)
 
 module _ (s : Shape) (f : Fits s) where
   some-tones : 0 < s .subcarriers
   some-tones = omega (arith, f .tones, f .withinTones)
 
-  shape-read : Read (uplinkPlaces (s .subcarriers)) (uplink-numbered (s .subcarriers) some-tones) (sendingOf s) (shapeAnswers s)
-  unfolding uplink-numbered shapeAnswers shapePlan
+  shape-read : Read (uplinkGrid (s .subcarriers)) (uplink-numbered (s .subcarriers) some-tones) (sendingOf s) (shapeAnswers s)
+  unfolding uplink-numbered shapePlan
   shape-read = record {
     places = refl;
     some = mul-pos (mul-pos (f .copies) (f .codeword)) (some-data s f);
@@ -86,25 +79,22 @@ accepted g e = by (ℕ-discrete (refusal g) 0)
     by (yes z) = z
     by (no h) = ap (λ (r : UplinkPlan). r .no) (plan-refused g (refusal g) refl h) ∙ e
 
-answers-are : (g : UplinkGrant) → refusal g ≡ 0 → shapeAnswers (shapeOf g) ≡ uplinkAnswers g
-unfolding shapeAnswers
-answers-are g e = λ i. record {
-  places = plan-accepted g e i .places;
-  forward = λ p. uplinkColumns (forward-accepted g e p i);
-  backward = λ x. backward-accepted g e (x .slot) (x .l) (x .k) i;
-}
+answers-are : (g : UplinkGrant) → refusal g ≡ 0 → shapeAnswers (shapeOf g) ≡ uplinkAnswers (planOf g) (forwardOf g) (backwardOf g)
+answers-are g e =
+    λ i. uplinkAnswers (plan-accepted g e i) (λ p. forward-accepted g e p i) (λ slot l k. backward-accepted g e slot l k i)
 
 -- six data symbols on each tone
-six-each : (g : UplinkGrant) → refusal g ≡ 0 → slotData (shapeOf g) ≡ tonesOf (g .spacing) (g .subcarrier) * 6
+six-each : (g : UplinkGrant) → refusal g ≡ 0 → grantTones g * dataSymbols ≡ slotData (shapeOf g)
 unfolding shapeOf
-six-each g e = sym (slot-data (shapeOf g) (fits g e)) ∙ mul-comm 6 (tonesOf (g .spacing) (g .subcarrier))
+six-each g e = mul-comm (grantTones g) dataSymbols ∙ slot-data (shapeOf g) (fits g e)
 
-pub uplink-demand : UplinkDemand
+pub uplink-demand : (g : UplinkGrant) → planOf g .no ≡ 0
+    → Demand (uplinkGrid (uplinkSubcarriers (g .spacing))) (uplinkGranted g) (uplinkAnswers (planOf g) (forwardOf g) (backwardOf g))
 unfolding shapeOf
 uplink-demand g h =
     let e : refusal g ≡ 0 = accepted g h in
-    let f : Fits (shapeOf g) = fits g e in
     let s : Shape = shapeOf g in
-    subst (λ (a : Answers SlotPlace). Demand (uplinkPlaces (uplinkSubcarriers (g .spacing))) (uplinkGranted g) a) (answers-are g e)
-    (demand (uplinkPlaces (s .subcarriers)) (uplink-numbered (s .subcarriers) (some-tones s f)) (uplinkGranted g) (shapeAnswers s)
-    (shape-read s f) (s .codeword) (s .copies) (shape-sound s f) refl (ap (λ (w : ℕ). s .codeword * w) (sym (six-each g e))))
+    let f : Fits s = fits g e in
+    subst (Demand (uplinkGrid (s .subcarriers)) (uplinkGranted g)) (answers-are g e)
+    (demand (uplinkGrid (s .subcarriers)) (uplink-numbered (s .subcarriers) (some-tones s f)) (uplinkGranted g) (shapeAnswers s)
+    (shape-read s f) (s .codeword) (s .copies) (shape-sound s f) refl (ap (λ (w : ℕ). s .codeword * w) (six-each g e)))

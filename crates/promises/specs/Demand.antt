@@ -6,7 +6,7 @@ use Prim.Native.Nat.{ℕ, _*_, _≤_, _<_}
 use lib.Dec.{eqb}
 use Rattle.counting.specs.Counting.{rank}
 use Rattle.sending.specs.declared.Back.{Back}
-use Rattle.sending.specs.Sending.{Sending, Spot, spotAt, ours, other}
+use Rattle.sending.specs.Sending.{Sending, spotAt, ours, other}
 use Rattle.sending.specs.Answer.{backOf}
 
 -- a column decides, or where it is the same the rest does
@@ -33,7 +33,7 @@ pub record Answers (Place : Type 0) : Type 0 where
 
 -- ---- what 01 says of the grid and of the grant, none of it read from an answer
 
-pub record Places (Place : Type 0) : Type 1 where
+pub record Grid (Place : Type 0) : Type 1 where
   -- element x of subframe (uplink: slot) t; elements are numbered by slot, then l, then k
   pub at : ℕ → ℕ → Place
   -- l, k and a downlink slot keep to the sizes of the grid, whatever the subframe or uplink slot
@@ -51,7 +51,7 @@ pub record Granted : Type 0 where
   pub sending : Sending
 
 -- the place that a position has, and the symbol that stands there
-abbrev pub placeOf : {Place : Type 0} → Places Place → Granted → ℕ → Place
+abbrev pub placeOf : {Place : Type 0} → Grid Place → Granted → ℕ → Place
 placeOf grid g p = grid .at (spotAt (g .sending) p .time) (spotAt (g .sending) p .element)
 
 abbrev pub symbolOf : Granted → ℕ → ℕ
@@ -59,7 +59,7 @@ symbolOf g p = spotAt (g .sending) p .symbol
 
 -- ---- the demand
 
-pub record Demand {Place : Type 0} (grid : Places Place) (g : Granted) (a : Answers Place) : Type 0 where
+pub record Demand {Place : Type 0} (grid : Grid Place) (g : Granted) (a : Answers Place) : Type 0 where
   -- 1. There are R times as many places as the codeword has symbols.
   pub total : a .places ≡ g .copies * g .symbols
   -- 2. At every position below them forward answers, with no refusal, the place of that position and the symbol that stands there.

@@ -1,3 +1,3 @@
 pub mod Demand
-pub mod Uplink
-pub mod Downlink
+pub mod Grids
+pub mod Promises
