@@ -1,9 +1,12 @@
 -- DEMAND 3 from a sound sending: for answers that read it, and a grid whose places and element numbers go into each other.
+use mathlib.Core.Bool.{cond}
 use mathlib.Core.Path.{_≡_, refl, sym, ap, ap₂, _∙_, subst}
 use mathlib.Core.Logic.{_⊎_, ⊎-elim}
 use Prim.Native.Nat.{ℕ, _*_, _≤_, _<_}
+use native.Mathlib.Decide.{ℕ-discrete}
 use native.Mathlib.Omega.{arith}
 use lib.Dec.{eqb}
+use borrow.Author.Tests.{ne-eqb}
 use Rattle.counting.specs.Counting.{rank}
 use Rattle.counting.proofs.Facts.{order}
 use Rattle.counting.proofs.Rank.{rank-same}
@@ -11,7 +14,16 @@ use Rattle.sending.specs.declared.Back.{Back}
 use Rattle.sending.specs.Sending.{Sending, Spot, spotAt, Content, ours, other, contentAt}
 use Rattle.sending.specs.Answer.{backOf}
 use Rattle.sending.specs.Demand.{Sound}
-use Rattle.promises.specs.Demand.{Forward, found, Answers, Grid, Granted, placeOf, Demand}
+use Rattle.promises.specs.Demand.{Forward, found, Answers, Grid, Granted, placeAt, Demand}
+
+-- an answer without a refusal is that of a question that is not refused
+pub not-refused : {A : Type 0} (number : A → ℕ) (refusal : ℕ) (answer refused : A) → number refused ≡ refusal
+    → number (cond (eqb refusal 0) answer refused) ≡ 0 → refusal ≡ 0
+not-refused number refusal answer refused r e = by (ℕ-discrete refusal 0)
+  where
+    by : Dec (refusal ≡ 0) → refusal ≡ 0
+    by (yes z) = z
+    by (no h) = sym r ∙ (rw (ne-eqb refusal 0 h) at e)
 
 -- a place has a time and an element, and is the only one that has both
 pub record Numbered {Place : Type 0} (grid : Grid Place) : Type 0 where
@@ -49,13 +61,13 @@ module _ {Place : Type 0} (grid : Grid Place) (n : Numbered grid) (g : Granted) 
   symbol-is : (p : ℕ) → p < a .places → a .forward p .symbol ≡ spotAt S p .symbol
   symbol-is p h = ap (λ (f : Forward Place). f .symbol) (r .forward p (below p h))
 
-  place-is : (p : ℕ) → p < a .places → a .forward p .place ≡ placeOf grid g p
+  place-is : (p : ℕ) → p < a .places → a .forward p .place ≡ placeAt grid g p
   place-is p h = ap (λ (f : Forward Place). f .place) (r .forward p (below p h))
 
   -- a place that two positions have has one time and one element
   one-place : (p q : ℕ) → p < a .places → q < a .places → a .forward p .place ≡ a .forward q .place → p ≡ q
   one-place p q hp hq e =
-      let f : placeOf grid g p ≡ placeOf grid g q = sym (place-is p hp) ∙ e ∙ place-is q hq in
+      let f : placeAt grid g p ≡ placeAt grid g q = sym (place-is p hp) ∙ e ∙ place-is q hq in
       d .apart p q (below p hp) (below q hq) (sym (n .timed _ _) ∙ ap (n .time) f ∙ n .timed _ _)
       (sym (n .numbered _ _) ∙ ap (n .element) f ∙ n .numbered _ _)
 
@@ -76,7 +88,7 @@ module _ {Place : Type 0} (grid : Grid Place) (n : Numbered grid) (g : Granted) 
   goes : (x : Place) → grid .Inside x → (s p : ℕ) → a .forward p ≡ found x s → a .backward x ≡ backOf (ours s p)
   goes x h s p e =
       let l = answered p s x e in
-      let f : placeOf grid g p ≡ x = sym (place-is p l) ∙ ap (λ (y : Forward Place). y .place) e in
+      let f : placeAt grid g p ≡ x = sym (place-is p l) ∙ ap (λ (y : Forward Place). y .place) e in
       let v : spotAt S p .symbol ≡ s = sym (symbol-is p l) ∙ ap (λ (y : Forward Place). y .symbol) e in
       r .backward x h
       ∙ ap₂ (λ (t y : ℕ). backOf (contentAt S t y)) (ap (n .time) (sym f) ∙ n .timed _ _) (ap (n .element) (sym f) ∙ n .numbered _ _)
@@ -93,7 +105,7 @@ module _ {Place : Type 0} (grid : Grid Place) (n : Numbered grid) (g : Granted) 
   in-order p q l h =
       rw (place-is p (omega arith), place-is q h)
       (⊎-elim (λ w. n .later _ _ _ _ w)
-      (λ w. subst (λ (t : ℕ). grid .Before (placeOf grid g p) (grid .at t (spotAt S q .element))) (w .0) (n .further _ _ _ (w .1)))
+      (λ w. subst (λ (t : ℕ). grid .Before (placeAt grid g p) (grid .at t (spotAt S q .element))) (w .0) (n .further _ _ _ (w .1)))
       (d .ordered p q l (below q h)))
 
   pub demand : Demand grid g a

@@ -3,17 +3,15 @@ use mathlib.Core.Path.{_≡_, refl, sym, ap, _∙_, subst}
 use mathlib.Core.Logic.{_⊎_, inl, inr, ⊎-elim}
 use Prim.Native.Nat.{ℕ, _-_, _*_, _/_, _%_, _≤_, _<_}
 use native.Mathlib.Nat.{mul-pos, mul-comm, div-add-mod'}
-use native.Mathlib.Decide.{ℕ-discrete}
 use native.Mathlib.Omega.{arith}
 use Rattle.counting.proofs.Facts.{order, div-mono}
 use Rattle.grid.specs.Grid.{uplinkSubcarriers, uplinkElementOf}
 use Rattle.grid.proofs.Numbering.{uplink-of-parts, uplink-symbol-of, uplink-subcarrier-of}
 use Rattle.slots.specs.declared.Shape.{Shape}
-use Rattle.slots.specs.declared.UplinkPlan.{UplinkPlan}
 use Rattle.slots.specs.Fits.{Fits}
 use Rattle.slots.specs.Elements.{slotData}
 use Rattle.slots.specs.Mapping.{sendingOf, places}
-use Rattle.slots.specs.Answers.{shapePlan, shapeForward, shapeBackward}
+use Rattle.slots.specs.Answers.{refusedPlan, shapePlan, shapeForward, shapeBackward}
 use Rattle.slots.proofs.Joined.{forward-refused}
 use Rattle.slots.proofs.Lines.{slot-data, some-data}
 use Rattle.slots.proofs.Lawfulness.{shape-sound, forward-place, backward-content, place-symbol, place-subcarrier}
@@ -22,11 +20,11 @@ use Rattle.uplink.specs.Refusals.{refusal}
 use Rattle.uplink.specs.Shaping.{grantTones, shapeOf}
 use Rattle.uplink.specs.Questions.{planOf, forwardOf, backwardOf}
 use Rattle.uplink.proofs.Acceptance.{fits}
-use Rattle.uplink.proofs.Answered.{plan-accepted, forward-accepted, backward-accepted, plan-refused}
+use Rattle.uplink.proofs.Answered.{plan-accepted, forward-accepted, backward-accepted}
 use Rattle.promises.specs.Demand.{Answers, Demand, firstBy}
 use Rattle.promises.specs.Grids.{SlotPlace, uplinkGrid, uplinkColumns, uplinkAnswers}
 use Rattle.promises.specs.Promises.{dataSymbols, uplinkGranted}
-use Rattle.promises.proofs.Bridge.{Numbered, Read, demand}
+use Rattle.promises.proofs.Bridge.{not-refused, Numbered, Read, demand}
 
 -- ---- the grid
 
@@ -73,11 +71,8 @@ module _ (s : Shape) (f : Fits s) where
 -- ---- NPUSCH
 
 accepted : (g : UplinkGrant) → planOf g .no ≡ 0 → refusal g ≡ 0
-accepted g e = by (ℕ-discrete (refusal g) 0)
-  where
-    by : Dec (refusal g ≡ 0) → refusal g ≡ 0
-    by (yes z) = z
-    by (no h) = ap (λ (r : UplinkPlan). r .no) (plan-refused g (refusal g) refl h) ∙ e
+unfolding planOf
+accepted g e = not-refused (λ r. r .no) (refusal g) (shapePlan (shapeOf g)) (refusedPlan (refusal g)) refl e
 
 answers-are : (g : UplinkGrant) → refusal g ≡ 0 → shapeAnswers (shapeOf g) ≡ uplinkAnswers (planOf g) (forwardOf g) (backwardOf g)
 answers-are g e =

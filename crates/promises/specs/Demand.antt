@@ -51,11 +51,11 @@ pub record Granted : Type 0 where
   pub sending : Sending
 
 -- the place that a position has, and the symbol that stands there
-abbrev pub placeOf : {Place : Type 0} → Grid Place → Granted → ℕ → Place
-placeOf grid g p = grid .at (spotAt (g .sending) p .time) (spotAt (g .sending) p .element)
+abbrev pub placeAt : {Place : Type 0} → Grid Place → Granted → ℕ → Place
+placeAt grid g p = grid .at (spotAt (g .sending) p .time) (spotAt (g .sending) p .element)
 
-abbrev pub symbolOf : Granted → ℕ → ℕ
-symbolOf g p = spotAt (g .sending) p .symbol
+abbrev pub symbolAt : Granted → ℕ → ℕ
+symbolAt g p = spotAt (g .sending) p .symbol
 
 -- ---- the demand
 
@@ -63,7 +63,7 @@ pub record Demand {Place : Type 0} (grid : Grid Place) (g : Granted) (a : Answer
   -- 1. There are R times as many places as the codeword has symbols.
   pub total : a .places ≡ g .copies * g .symbols
   -- 2. At every position below them forward answers, with no refusal, the place of that position and the symbol that stands there.
-  pub placed : (p : ℕ) → p < a .places → a .forward p ≡ found (placeOf grid g p) (symbolOf g p)
+  pub placed : (p : ℕ) → p < a .places → a .forward p ≡ found (placeAt grid g p) (symbolAt g p)
   -- The place lies inside the grid.
   pub inside : (p : ℕ) → p < a .places → grid .Inside (a .forward p .place)
   -- Every other position is refused with 14, and zeros.

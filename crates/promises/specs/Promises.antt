@@ -37,6 +37,7 @@ takes Nsss = true
 takes Sib1 = true
 takes Bitmap = false
 
+-- the bitmap alone does: it withholds it
 abbrev pub withholds : Cause → Bool
 withholds None = false
 withholds Npbch = false
