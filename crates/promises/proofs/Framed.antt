@@ -5,8 +5,9 @@ use mathlib.Core.Path.{_≡_, refl, sym, subst}
 use mathlib.Core.Logic.{_⊎_, inl, inr, ⊎-elim}
 use Prim.Native.Nat.{ℕ, _+_, _*_, _/_, _%_, _<_}
 use native.Mathlib.Nat.{mul-pos, mod-lt}
+use native.Mathlib.Decide.{ℕ-discrete}
 use native.Mathlib.Omega.{arith}
-use borrow.Author.Tests.{eq-eqb, lt-ltb, le-ltb}
+use borrow.Author.Tests.{eq-eqb, ne-eqb, lt-ltb, le-ltb}
 use Rattle.counting.specs.Counting.{rank}
 use Rattle.counting.proofs.Facts.{order, chained}
 use Rattle.counting.proofs.Period.{select-is}
@@ -25,13 +26,13 @@ use Rattle.subframes.specs.declared.Burst.{Burst}
 use Rattle.subframes.specs.Fits.{Fits}
 use Rattle.subframes.specs.Cells.{layoutOf, questionRefusal}
 use Rattle.subframes.specs.Mapping.{firstOf, sendingOf, places}
-use Rattle.subframes.specs.Answers.{refusedPlan, burstPlan, burstForward, burstBackward, planAnswer, forwardAnswer, backwardAnswer}
+use Rattle.subframes.specs.Answers.{burstPlan, burstForward, burstBackward, planAnswer, forwardAnswer, backwardAnswer}
 use Rattle.subframes.proofs.Lawfulness.{burst-sound}
 use Rattle.subframes.proofs.Judging.{accepted-cell}
 use Rattle.promises.specs.Demand.{firstBy, Forward, Answers, Granted, Demand}
 use Rattle.promises.specs.Grids.{SubframePlace, downlinkGrid, downlinkAnswers}
 use Rattle.promises.specs.Promises.{takes, withholds, Clear, DownlinkDemand, bitmapOf}
-use Rattle.promises.proofs.Bridge.{not-refused, Numbered, Read, demand}
+use Rattle.promises.proofs.Bridge.{Numbered, Read, demand}
 use Rattle.promises.proofs.Repeating.{usable-again, usable-some}
 
 -- ---- the grid
@@ -86,7 +87,11 @@ module _ (u : ℕ → Bool) (P : ℕ) (b : Burst) where
   module _ (refusal : ℕ) where
     accepted : planAnswer refusal u P b .no ≡ 0 → refusal ≡ 0
     unfolding planAnswer
-    accepted e = not-refused (λ r. r .no) refusal (burstPlan u P b) (refusedPlan refusal) refl e
+    accepted e = by (ℕ-discrete refusal 0)
+      where
+        by : Dec (refusal ≡ 0) → refusal ≡ 0
+        by (yes z) = z
+        by (no n) = rw (ne-eqb refusal 0 n) at e
 
     answers-are : refusal ≡ 0 → burstAnswers ≡ downlinkAnswers (planAnswer refusal u P b) (forwardAnswer refusal u P b) (backwardAnswer refusal u P b)
     unfolding planAnswer forwardAnswer backwardAnswer

@@ -11,7 +11,7 @@ use Rattle.slots.specs.declared.Shape.{Shape}
 use Rattle.slots.specs.Fits.{Fits}
 use Rattle.slots.specs.Elements.{slotData}
 use Rattle.slots.specs.Mapping.{sendingOf, places}
-use Rattle.slots.specs.Answers.{refusedPlan, shapePlan, shapeForward, shapeBackward}
+use Rattle.slots.specs.Answers.{shapePlan, shapeForward, shapeBackward}
 use Rattle.slots.proofs.Joined.{forward-refused}
 use Rattle.slots.proofs.Lines.{slot-data, some-data}
 use Rattle.slots.proofs.Lawfulness.{shape-sound, forward-place, backward-content, place-symbol, place-subcarrier}
@@ -20,11 +20,11 @@ use Rattle.uplink.specs.Refusals.{refusal}
 use Rattle.uplink.specs.Shaping.{grantTones, shapeOf}
 use Rattle.uplink.specs.Questions.{planOf, forwardOf, backwardOf}
 use Rattle.uplink.proofs.Acceptance.{fits}
-use Rattle.uplink.proofs.Answered.{plan-accepted, forward-accepted, backward-accepted}
+use Rattle.uplink.proofs.Answered.{plan-accepted, forward-accepted, backward-accepted, plan-no}
 use Rattle.promises.specs.Demand.{Answers, Demand, firstBy}
 use Rattle.promises.specs.Grids.{SlotPlace, uplinkGrid, uplinkColumns, uplinkAnswers}
 use Rattle.promises.specs.Promises.{dataSymbols, uplinkGranted}
-use Rattle.promises.proofs.Bridge.{not-refused, Numbered, Read, demand}
+use Rattle.promises.proofs.Bridge.{Numbered, Read, demand}
 
 -- ---- the grid
 
@@ -70,10 +70,6 @@ module _ (s : Shape) (f : Fits s) where
 
 -- ---- NPUSCH
 
-accepted : (g : UplinkGrant) → planOf g .no ≡ 0 → refusal g ≡ 0
-unfolding planOf
-accepted g e = not-refused (λ r. r .no) (refusal g) (shapePlan (shapeOf g)) (refusedPlan (refusal g)) refl e
-
 answers-are : (g : UplinkGrant) → refusal g ≡ 0 → shapeAnswers (shapeOf g) ≡ uplinkAnswers (planOf g) (forwardOf g) (backwardOf g)
 answers-are g e =
     λ i. uplinkAnswers (plan-accepted g e i) (λ p. forward-accepted g e p i) (λ slot l k. backward-accepted g e slot l k i)
@@ -87,7 +83,7 @@ pub uplink-demand : (g : UplinkGrant) → planOf g .no ≡ 0
     → Demand (uplinkGrid (uplinkSubcarriers (g .spacing))) (uplinkGranted g) (uplinkAnswers (planOf g) (forwardOf g) (backwardOf g))
 unfolding shapeOf
 uplink-demand g h =
-    let e : refusal g ≡ 0 = accepted g h in
+    let e : refusal g ≡ 0 = sym (plan-no g) ∙ h in
     let s : Shape = shapeOf g in
     let f : Fits s = fits g e in
     subst (Demand (uplinkGrid (s .subcarriers)) (uplinkGranted g)) (answers-are g e)
