@@ -1,12 +1,11 @@
 -- Plan and forward agree on a grant: forward refuses what plan refuses, answers below plan's places, and gives 14 from there on.
 use mathlib.Core.Bool.{Bool, cond}
 use mathlib.Core.List.{List}
-use mathlib.Core.Path.{_≡_, refl, sym, ap, _∙_, subst}
+use mathlib.Core.Path.{_≡_, refl, sym, ap, _∙_}
 use Prim.Native.Nat.{ℕ, _^_, _≤_, _<_}
 use native.Mathlib.Nat.{mul-le-mul, le-of-lt}
 use native.Mathlib.Omega.{arith}
 use native.Mathlib.Decide.{ℕ-discrete}
-use lib.Dec.{eqb}
 use borrow.Author.Tests.{eq-eqb, ne-eqb, lt-ltb, le-ltb}
 use Rattle.elements.proofs.Laws.{count-le}
 use Rattle.cell.specs.declared.Cell.{Cell}
@@ -27,10 +26,8 @@ use Rattle.uplink.specs.Refusals.{refusal}
 use Rattle.uplink.specs.Shaping.{shapeOf}
 use Rattle.uplink.specs.Questions as up
 use Rattle.uplink.proofs.Acceptance.{fits}
-use Rattle.downlink.specs.declared.DownlinkGrant.{DownlinkGrant}
 use Rattle.downlink.specs.Questions as down
 use Rattle.downlink.proofs.Accepting as downAccepting
-use Rattle.control.specs.declared.ControlGrant.{ControlGrant}
 use Rattle.control.specs.Questions as control
 use Rattle.control.proofs.Accepting as controlAccepting
 use Rattle.walk.specs.declared.Grant.{Grant}

@@ -1,5 +1,5 @@
 -- What a step of a walk answers, and the record that it leaves: 01 "Questions", the walk.
-use mathlib.Core.Bool.{cond}
+use mathlib.Core.Bool.{Bool, cond, _&&_}
 use mathlib.Core.List.{List}
 use Prim.Native.Nat.{ℕ, _+_}
 use lib.Dec.{eqb, ltb}
@@ -31,14 +31,15 @@ refusedStep refusal = record { no = refusal; finished = 0; t = 0; slot = 0; l = 
 abbrev pub finishedStep : WalkPlace
 finishedStep = record { no = 0; finished = 1; t = 0; slot = 0; l = 0; k = 0; symbol = 0 }
 
--- ---- a step
+-- ---- what is asked of a grant
 
--- what plan and forward answer of a grant: the refusal number, the places, and forward at a position
+-- what plan and forward answer of it: the refusal number, the places, and forward at a position
 pub record Asked : Type 0 where
   pub no : ℕ
   pub places : ℕ
   pub at : ℕ → WalkPlace
 
+-- an uplink grant has no use for the cell and the buffers
 unfoldable pub asked : Cell → List ℕ → List ℕ → Grant → Asked
 asked c anchor other (Up g) = record {
   no = up.planOf g .no;
@@ -56,17 +57,32 @@ asked c anchor other (Control g) = record {
   at = λ p. fromDownlink (control.forwardOf c anchor other g p);
 }
 
+abbrev pub askedOf : Walk → List ℕ → List ℕ → Asked
+askedOf w anchor other = asked (w .cell) anchor other (w .grant)
+
+-- the grant is accepted, and p is the number of its places
+abbrev pub isEnd : Asked → ℕ → Bool
+isEnd q p = eqb (q .no) 0 && eqb p (q .places)
+
+-- ---- a step
+
+abbrev pub onward : WalkPlace → ℕ → Moved
+onward answer p = record { answer = answer; p = p + 1 }
+
+abbrev pub unmoved : WalkPlace → ℕ → Moved
+unmoved answer p = record { answer = answer; p = p }
+
 -- a refused record has its number; below the total forward answers and p moves on; at the total the walk is finished; past it 14
 unfoldable pub moved : Asked → ℕ → Moved
 moved q p =
     cond (eqb (q .no) 0)
-    (cond (ltb p (q .places)) (record { answer = q .at p; p = p + 1 })
-    (cond (eqb p (q .places)) (record { answer = finishedStep; p = p })
-    (record { answer = refusedStep 14; p = p })))
-    (record { answer = refusedStep (q .no); p = p })
+    (cond (ltb p (q .places)) (onward (q .at p) p)
+    (cond (eqb p (q .places)) (unmoved finishedStep p)
+    (unmoved (refusedStep 14) p)))
+    (unmoved (refusedStep (q .no)) p)
 
 abbrev pub movedOf : Walk → List ℕ → List ℕ → Moved
-movedOf w anchor other = moved (asked (w .cell) anchor other (w .grant)) (w .p)
+movedOf w anchor other = moved (askedOf w anchor other) (w .p)
 
 -- the record with another position
 abbrev pub movedTo : Walk → ℕ → Walk

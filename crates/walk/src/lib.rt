@@ -2,7 +2,8 @@
 ghost use mathlib.Core.Bool.{_&&_};
 ghost use mathlib.Core.Path.{_≡_};
 ghost use lib.Dec.{eqb};
-ghost use Rattle.walk.specs.Step.{fromUplink, fromDownlink, finishedStep, asked, movedOf, steppedOf};
+ghost use Prim.Native.Nat.{_^_, _<_};
+ghost use Rattle.walk.specs.Step.{fromUplink, fromDownlink, finishedStep, askedOf, isEnd, onward, unmoved, movedOf, steppedOf};
 use cell::Cell;
 use control::ControlGrant;
 use downlink::DownlinkGrant;
@@ -35,9 +36,9 @@ pub struct WalkPlace {
 }
 
 // A step's answer, and the position after it.
-pub struct Moved {
-    pub answer: WalkPlace,
-    pub p: u64,
+struct Moved {
+    answer: WalkPlace,
+    p: u64,
 }
 
 // A step's answer, and the record after it.
@@ -88,9 +89,24 @@ fn finished_step() -> WalkPlace
     }
 }
 
+// The next position's turn comes.
+fn onward(answer: WalkPlace, p: u64) -> Moved
+    requires { ⌜ p < 2 ^ 63 ⌝ }
+    ensures { λ r. ⌜ r ≡ onward answer p ⌝ }
+{
+    Moved { answer, p: p + 1 }
+}
+
+// The walk stays where it is.
+fn unmoved(answer: WalkPlace, p: u64) -> Moved
+    ensures { λ r. ⌜ r ≡ unmoved answer p ⌝ }
+{
+    Moved { answer, p }
+}
+
 // What forward answers at p.
 fn forward(w: Walk, anchor: &[u8], other: &[u8]) -> WalkPlace
-    ensures { λ r. ⌜ r ≡ asked (w .cell) (now (anchor .entry)) (now (other .entry)) (w .grant) .at (w .p) ⌝ }
+    ensures { λ r. ⌜ r ≡ askedOf w (now (anchor .entry)) (now (other .entry)) .at (w .p) ⌝ }
 {
     let p = w.p;
     let c = w.cell;
@@ -110,7 +126,7 @@ fn is_end(no: u64, places: u64, p: u64) -> bool
 
 // The grant is accepted, and p is the number of its places.
 fn at_end(w: Walk, anchor: &[u8], other: &[u8]) -> bool
-    ensures { λ r. ⌜ r ≡ (eqb (asked (w .cell) (now (anchor .entry)) (now (other .entry)) (w .grant) .no) 0 && eqb (w .p) (asked (w .cell) (now (anchor .entry)) (now (other .entry)) (w .grant) .places)) ⌝ }
+    ensures { λ r. ⌜ r ≡ isEnd (askedOf w (now (anchor .entry)) (now (other .entry))) (w .p) ⌝ }
 {
     let p = w.p;
     let c = w.cell;
@@ -131,26 +147,19 @@ fn at_end(w: Walk, anchor: &[u8], other: &[u8]) -> bool
     }
 }
 
-// The step on values: forward judges the record and answers, and its 14 is looked at once more for the end.
+// The step on values. Forward judges the record and answers; where it refuses, plan tells the end from a refusal.
 fn advance(w: Walk, anchor: &[u8], other: &[u8]) -> Moved
     ensures { λ r. ⌜ r ≡ movedOf w (now (anchor .entry)) (now (other .entry)) ⌝ }
 {
     let p = w.p;
     let answer = forward(w, anchor, other);
     if answer.no == 0 {
-        return Moved { answer, p: p + 1 };
-    }
-    if answer.no != 14 {
-        return Moved { answer, p };
+        return onward(answer, p);
     }
     if at_end(w, anchor, other) {
-        let finished = finished_step();
-        return Moved {
-            answer: finished,
-            p,
-        };
+        return unmoved(finished_step(), p);
     }
-    Moved { answer, p }
+    unmoved(answer, p)
 }
 
 // One step: the answer at p, and p moved on. A refused or finished walk stays as it is.

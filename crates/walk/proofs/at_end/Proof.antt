@@ -1,4 +1,3 @@
-use mathlib.Core.Path.{_∙_, ap}
 use borrow.Author.Needs.{needs}
 use Rattle.walk.specs.Step.{asked}
 use Rattle.walk.proofs.at_end.Statement.{statement}
