@@ -15,7 +15,7 @@ use Rattle.symbol.specs.declared.Outgoing.the-variants.{Nothing, Pilot, Ours}
 
 -- the grant as a sending over the cell's usable subframes, the one that backward reads
 abbrev pub sendingFor : Cell → List ℕ → List ℕ → DownlinkGrant → Sending
-sendingFor c anchor other g = sendingOf (usable c (bitmapIn c (ownBuffer c anchor other))) period (burstOf c g)
+sendingFor c anchor nonAnchor g = sendingOf (usable c (bitmapIn c (ownBuffer c anchor nonAnchor))) period (burstOf c g)
 
 -- ours by its symbol, a reference by its kind; nothing at a plain element
 abbrev pub goesOut : Content → Outgoing
@@ -24,6 +24,6 @@ goesOut (other kind) = cond (eqb kind 0) Nothing (Pilot kind)
 
 -- at element x of transmitted subframe i
 unfoldable pub outgoingOf : Cell → List ℕ → List ℕ → DownlinkGrant → ℕ → ℕ → Outgoing
-outgoingOf c anchor other g i x =
-    let S = sendingFor c anchor other g in
+outgoingOf c anchor nonAnchor g i x =
+    let S = sendingFor c anchor nonAnchor g in
     goesOut (contentAt S (S .time i) x)

@@ -7,7 +7,7 @@ use lib.Ieee.{Float}
 use lib.ListN.{length}
 use Rattle.grid.specs.Grid.{subcarriers, elements}
 use Rattle.cell.specs.declared.Cell.{Cell}
-use Rattle.sending.specs.Sending.{other}
+use Rattle.sending.specs.Sending.{Content}
 use Rattle.elements.specs.declared.Layout.{Layout}
 use Rattle.elements.specs.Elements.{Valid, kindOf, used, countOf, numberOf}
 use Rattle.downlink.specs.declared.DownlinkGrant.{DownlinkGrant}
@@ -21,7 +21,7 @@ use Rattle.fill.specs.Refusals.{callRefusal}
 
 -- what goes out at element x of a subframe whose first symbol is `first`
 unfoldable pub goesIn : Layout → ℕ → ℕ → Outgoing
-goesIn g first x = cond (used g 0 subcarriers x) (Ours (first + numberOf g 0 subcarriers x)) (goesOut (other (kindOf g x)))
+goesIn g first x = cond (used g 0 subcarriers x) (Ours (first + numberOf g 0 subcarriers x)) (goesOut (Content.other (kindOf g x)))
 
 -- what a fill writes there, counted from an element on
 abbrev pub writtenIn : Layout → ℕ → List ℕ → Float → ℕ → ℕ → Symbol

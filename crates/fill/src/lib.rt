@@ -1,11 +1,11 @@
 // NPDSCH on one port: the numbers of one transmitted subframe, or one element of it.
 ghost use mathlib.Core.Bool.{not, cond, false};
 ghost use mathlib.Core.Path.{_≡_};
-ghost use Prim.Native.Nat.{_+_, _*_, _<_};
+ghost use Prim.Native.Nat.{_+_, _*_, _^_, _<_};
 ghost use lib.ListN.{length, set};
 ghost use lib.Dec.{eqb};
 ghost use Rattle.grid.specs.Grid.{subcarriers, slots, slotElements, elements, slotNumbers, numbers};
-ghost use Rattle.elements.specs.Elements.{used, countOf, numberOf};
+ghost use Rattle.elements.specs.Elements.{Valid, used, countOf, numberOf};
 ghost use Rattle.subframes.specs.Fits.{Fits};
 ghost use Rattle.fill.specs.Refusals.{lateRefusal, fillRefusal};
 ghost use Rattle.fill.specs.Fill.{laid, outputOf};
@@ -51,17 +51,17 @@ fn late_refusal(
     i: u64,
     outside: bool,
     bits: &[u8],
-    wrong_output: bool,
+    wrong: bool,
     level: f32,
 ) -> u64
     requires { ⌜ Fits b × (w ≡ countOf (b .layout) (b .low) (b .width)) ⌝ }
-    ensures { λ r. ⌜ r ≡ lateRefusal b i outside (now (bits .entry)) wrong_output level ⌝ }
+    ensures { λ r. ⌜ r ≡ lateRefusal b i outside (now (bits .entry)) wrong level ⌝ }
 {
     if (i >= subframes::sent_subframes(b)) | outside {
         return 14;
     }
     let codeword = b.codeword;
-    if (bits.len() as u64 != (codeword * w + 3) / 4) | wrong_output {
+    if (bits.len() as u64 != (codeword * w + 3) / 4) | wrong {
         return 15;
     }
     if !symbol::in_range(level) {
@@ -82,10 +82,10 @@ fn judged(
     i: u64,
     outside: bool,
     bits: &[u8],
-    wrong_output: bool,
+    wrong: bool,
     level: f32,
 ) -> Call
-    ensures { λ r. ⌜ CallFor c (now (anchor .entry)) (now (other .entry)) g i outside (now (bits .entry)) wrong_output level r ⌝ }
+    ensures { λ r. ⌜ CallFor c (now (anchor .entry)) (now (other .entry)) g i outside (now (bits .entry)) wrong level r ⌝ }
 {
     let q = downlink::ready(c, anchor, other, g);
     if q.no != 0 {
@@ -93,24 +93,25 @@ fn judged(
     }
     let b = q.burst;
     let w = subframes::used_elements(b);
-    let no = late_refusal(b, w, i, outside, bits, wrong_output, level);
+    let no = late_refusal(b, w, i, outside, bits, wrong, level);
     if no != 0 {
         return refused(no);
     }
     let unit = subframes::carried_by(b, i);
+    let layout = b.layout;
     Call {
         no: 0,
-        layout: b.layout,
+        layout,
         first: unit * w,
     }
 }
 
 // What goes out at element x, used or not; e is its number among the used ones.
-fn outgoing(call: Call, used: bool, e: u64, x: u64) -> Outgoing
-    requires { ⌜ Prepared (call .layout) (call .first) × (used ≡ Elements.used (call .layout) 0 subcarriers x) × (e ≡ numberOf (call .layout) 0 subcarriers x) ⌝ }
+fn outgoing(call: Call, ours: bool, e: u64, x: u64) -> Outgoing
+    requires { ⌜ Valid (call .layout) × (call .first < 2 ^ 32) × (x < elements) × (ours ≡ used (call .layout) 0 subcarriers x) × (e ≡ numberOf (call .layout) 0 subcarriers x) ⌝ }
     ensures { λ r. ⌜ r ≡ goesIn (call .layout) (call .first) x ⌝ }
 {
-    if used {
+    if ours {
         return Outgoing::Ours(call.first + e);
     }
     let kind = elements::kind(call.layout, x);
