@@ -27,7 +27,7 @@ use Rattle.subframes.specs.Quick.{standsIn, ReadyFor}
 use Rattle.downlink.specs.declared.DownlinkGrant.{DownlinkGrant}
 use Rattle.downlink.specs.Questions.{burstOf}
 use Rattle.symbol.specs.declared.Outgoing.{Outgoing}
-use Rattle.symbol.specs.declared.Outgoing.the-variants.{Nothing, Pilot, Ours}
+use Rattle.symbol.specs.declared.Outgoing.the-variants.{Ours}
 use Rattle.symbol.specs.Outgoing.{Within}
 use Rattle.fill.specs.GoesOut.{goesOut, outgoingOf}
 use Rattle.fill.specs.Quick.{goesIn, Prepared}
@@ -68,20 +68,20 @@ module _ (g : Layout) (first x : ℕ) where
   unfolding goesIn
   goes-ours e y h = rw (y, h) refl
 
-  pub goes-nothing : (kind : ℕ) → used g 0 subcarriers x ≡ false → kind ≡ kindOf g x → kind ≡ 0 → Nothing ≡ goesIn g first x
+  pub goes-silent : (kind : ℕ) → used g 0 subcarriers x ≡ false → kind ≡ kindOf g x → kind ≡ 0 → Outgoing.Silent ≡ goesIn g first x
   unfolding goesIn
-  goes-nothing kind n h z = rw (n, ← h, z) refl
+  goes-silent kind n h z = rw (n, ← h, z) refl
 
-  pub goes-pilot : (kind : ℕ) → used g 0 subcarriers x ≡ false → kind ≡ kindOf g x → (kind ≡ 0 → ⊥) → Pilot kind ≡ goesIn g first x
+  pub goes-reference : (kind : ℕ) → used g 0 subcarriers x ≡ false → kind ≡ kindOf g x → (kind ≡ 0 → ⊥) → Outgoing.Reference kind ≡ goesIn g first x
   unfolding goesIn
-  goes-pilot kind n h z = rw (n, ← h, ne-eqb kind 0 z) refl
+  goes-reference kind n h z = rw (n, ← h, ne-eqb kind 0 z) refl
 
   -- a symbol that goes out has its bits
   pub goes-within : (bits : List ℕ) (o : Outgoing) → Prepared g first bits → o ≡ goesIn g first x → Within bits o
   unfolding goesIn
   goes-within bits o p e = record { has = λ c h. by (used g 0 subcarriers x) refl c (sym e ∙ h) }
     where
-      plain : (b : Bool) (k c : ℕ) → cond b Nothing (Pilot k) ≡ Ours c → ⊥
+      plain : (b : Bool) (k c : ℕ) → cond b Outgoing.Silent (Outgoing.Reference k) ≡ Ours c → ⊥
       plain true k c h = let z : _≡_ {A = ℕ} 0 1 = cc in omega arith
       plain false k c h = let z : _≡_ {A = ℕ} 0 1 = cc in omega arith
 

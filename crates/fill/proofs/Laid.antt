@@ -1,13 +1,14 @@
 -- Numbers of elements, one after the other: more of them, all of them, and two parts joined.
 use mathlib.Core.List.{List, [], _∷_, _++_, append-assoc, append-nil}
 use mathlib.Core.Path.{_≡_, refl, sym, ap, ap₂, _∙_, fun-ext}
+use mathlib.Core.Logic.{⊎-elim}
 use Prim.Native.Nat.{ℕ, zero, suc, _+_, _-_, _*_, _≤_, _<_}
-use native.Mathlib.Nat.{add-zero, add-suc}
+use native.Mathlib.Nat.{add-zero, add-suc, eq-or-lt-of-le, le-of-suc-le-suc}
 use native.Mathlib.Numerals.{add-one}
 use native.Mathlib.Omega.{arith}
 use lib.Ieee.{Float}
-use lib.ListN.{length, take, drop, set, getD, length-append, length-set, length-drop, drop-of-length-le}
-use lib.Seq.{take-suc-set, take-all, take-at, drop-at, length-take-le}
+use lib.ListN.{length, take, drop, set, getD, length-append, length-set, length-drop, drop-of-length-le, List·getD-append}
+use lib.Seq.{take-suc-set, take-all, take-at, drop-at, length-take-le, getD-append-add}
 use Rattle.symbol.specs.declared.Symbol.{Symbol}
 use Rattle.fill.specs.Fill.{laid}
 
@@ -47,6 +48,30 @@ laid-plus f m (suc n) =
 
 pub laid-same : (f g : ℕ → Symbol) (n : ℕ) → ((x : ℕ) → f x ≡ g x) → laid f n ≡ laid g n
 laid-same f g n h = ap (λ (k : ℕ → Symbol). laid k n) (fun-ext h)
+
+-- the numbers of element x stand at twice x
+pub laid-at : (f : ℕ → Symbol) (n x : ℕ) (d : Float) → x < n → (getD (laid f n) (2 * x) d ≡ f x .re) × (getD (laid f n) (2 * x + 1) d ≡ f x .im)
+unfolding laid
+laid-at f zero x d h = absurd (omega arith)
+laid-at f (suc n) x d h = ⊎-elim last (λ l. before (laid-at f n x d l) l) (eq-or-lt-of-le (le-of-suc-le-suc h))
+  where
+    whole : List Float
+    whole = laid f n ++ (f n .re ∷ f n .im ∷ [])
+
+    last : x ≡ n → (getD whole (2 * x) d ≡ f x .re) × (getD whole (2 * x + 1) d ≡ f x .im)
+    last e =
+        let first : 2 * x ≡ length (laid f n) + 0 = omega (arith, length-laid f n) in
+        let second : 2 * x + 1 ≡ length (laid f n) + 1 = omega (arith, length-laid f n) in (
+          ap (λ (k : ℕ). getD whole k d) first ∙ getD-append-add (laid f n) (f n .re ∷ f n .im ∷ []) 0 d ∙ ap (λ (y : ℕ). f y .re) (sym e),
+          ap (λ (k : ℕ). getD whole k d) second ∙ getD-append-add (laid f n) (f n .re ∷ f n .im ∷ []) 1 d ∙ ap (λ (y : ℕ). f y .im) (sym e),
+        )
+
+    before : (getD (laid f n) (2 * x) d ≡ f x .re) × (getD (laid f n) (2 * x + 1) d ≡ f x .im) → x < n
+        → (getD whole (2 * x) d ≡ f x .re) × (getD whole (2 * x + 1) d ≡ f x .im)
+    before r l = (
+      List·getD-append (laid f n) (f n .re ∷ f n .im ∷ []) d (2 * x) (omega (arith, length-laid f n)) ∙ r .0,
+      List·getD-append (laid f n) (f n .re ∷ f n .im ∷ []) d (2 * x + 1) (omega (arith, length-laid f n)) ∙ r .1,
+    )
 
 -- a front part written over, then the rest: the two one after the other
 pub halves : {X : Type 0} (a p b : List X) (n : ℕ) → length a ≡ n → take n (a ++ p) ++ (b ++ drop (length (a ++ p) - n) (drop n (a ++ p))) ≡ a ++ b

@@ -11,7 +11,7 @@ use Rattle.subframes.specs.Mapping.{sendingOf}
 use Rattle.downlink.specs.declared.DownlinkGrant.{DownlinkGrant}
 use Rattle.downlink.specs.Questions.{burstOf}
 use Rattle.symbol.specs.declared.Outgoing.{Outgoing}
-use Rattle.symbol.specs.declared.Outgoing.the-variants.{Nothing, Pilot, Ours}
+use Rattle.symbol.specs.declared.Outgoing.the-variants.{Ours}
 
 -- the grant as a sending over the cell's usable subframes, the one that backward reads
 abbrev pub sendingFor : Cell → List ℕ → List ℕ → DownlinkGrant → Sending
@@ -20,7 +20,7 @@ sendingFor c anchor nonAnchor g = sendingOf (usable c (bitmapIn c (ownBuffer c a
 -- ours by its symbol, a reference by its kind; nothing at a plain element
 abbrev pub goesOut : Content → Outgoing
 goesOut (ours symbol position) = Ours symbol
-goesOut (other kind) = cond (eqb kind 0) Nothing (Pilot kind)
+goesOut (other kind) = cond (eqb kind 0) Outgoing.Silent (Outgoing.Reference kind)
 
 -- at element x of transmitted subframe i
 unfoldable pub outgoingOf : Cell → List ℕ → List ℕ → DownlinkGrant → ℕ → ℕ → Outgoing

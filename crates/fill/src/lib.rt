@@ -5,6 +5,7 @@ ghost use Prim.Native.Nat.{_+_, _*_, _^_, _<_};
 ghost use lib.ListN.{length, set};
 ghost use lib.Dec.{eqb};
 ghost use Rattle.grid.specs.Grid.{subcarriers, slots, slotElements, elements, slotNumbers, numbers};
+ghost use Rattle.counting.specs.Bits.{bitAt};
 ghost use Rattle.elements.specs.Elements.{Valid, used, countOf, numberOf};
 ghost use Rattle.subframes.specs.Fits.{Fits};
 ghost use Rattle.fill.specs.Refusals.{lateRefusal, fillRefusal};
@@ -116,9 +117,9 @@ fn outgoing(call: Call, ours: bool, e: u64, x: u64) -> Outgoing
     }
     let kind = elements::kind(call.layout, x);
     if kind == 0 {
-        return Outgoing::Nothing;
+        return Outgoing::Silent;
     }
-    Outgoing::Pilot(kind)
+    Outgoing::Reference(kind)
 }
 
 // A symbol's two numbers, at twice the place of its element.
@@ -131,7 +132,15 @@ fn put(out: &mut [f32], at: u64, s: Symbol)
     out[n + 1] = s.im;
 }
 
-// The numbers of one slot.
+// Digit k of a row's mask.
+fn is_one(mask: u64, k: u64) -> bool
+    requires { ⌜ k < subcarriers ⌝ }
+    ensures { λ r. ⌜ r ≡ bitAt mask k ⌝ }
+{
+    (mask >> k) % 2 == 1
+}
+
+// The numbers of one slot; e counts the used elements, and each row has one mask of them.
 fn write_slot(out: &mut [f32], call: Call, slot: u64, bits: &[u8], level: f32)
     requires { ⌜ (length (now out) ≡ slotNumbers) × (slot < slots) × Prepared (call .layout) (call .first) (now bits) ⌝ }
     ensures { λ _. ⌜ now (out .exit) ≡ laid (writtenIn (call .layout) (call .first) (now (bits .entry)) level (slot * slotElements)) slotElements ⌝ }
@@ -139,10 +148,16 @@ fn write_slot(out: &mut [f32], call: Call, slot: u64, bits: &[u8], level: f32)
     let layout = call.layout;
     let start = slot * Grid::SLOT_ELEMENTS;
     let mut e = elements::number(layout, 0, Grid::SUBCARRIERS, start);
+    let mut mask: u64 = 0;
     let mut at: u64 = 0;
     while at < Grid::SLOT_ELEMENTS {
-        let used = elements::is_used(layout, 0, Grid::SUBCARRIERS, start + at);
-        let o = outgoing(call, used, e, start + at);
+        let x = start + at;
+        let k = x % Grid::SUBCARRIERS;
+        if k == 0 {
+            mask = elements::row_mask(layout, 0, Grid::SUBCARRIERS, x / Grid::SUBCARRIERS);
+        }
+        let used = is_one(mask, k);
+        let o = outgoing(call, used, e, x);
         put(out, at, symbol::written(o, bits, level));
         e += used as u64;
         at += 1;

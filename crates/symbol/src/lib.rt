@@ -14,8 +14,8 @@ pub struct Symbol {
 
 // What goes out at an element: nothing, a reference of a kind, or a symbol of the codeword by its number.
 pub enum Outgoing {
-    Nothing,
-    Pilot(u64),
+    Silent,
+    Reference(u64),
     Ours(u64),
 }
 
@@ -94,8 +94,8 @@ pub fn written(o: Outgoing, bits: &[u8], level: f32) -> Symbol
     ensures { λ r. ⌜ r ≡ writtenOf (now (bits .entry)) level o ⌝ }
 {
     match o {
-        Outgoing::Nothing => Symbol { re: 0.0, im: 0.0 },
-        Outgoing::Pilot(_) => Symbol { re: 0.0, im: 0.0 },
+        Outgoing::Silent => Symbol { re: 0.0, im: 0.0 },
+        Outgoing::Reference(_) => Symbol { re: 0.0, im: 0.0 },
         Outgoing::Ours(c) => symbol_at(bits, level, c),
     }
 }
@@ -106,8 +106,8 @@ pub fn answer(o: Outgoing, bits: &[u8], level: f32) -> Element
     ensures { λ r. ⌜ r ≡ answerOf (now (bits .entry)) level o ⌝ }
 {
     match o {
-        Outgoing::Nothing => Element::Silent,
-        Outgoing::Pilot(kind) => Element::Reference(kind),
+        Outgoing::Silent => Element::Silent,
+        Outgoing::Reference(kind) => Element::Reference(kind),
         Outgoing::Ours(c) => {
             let s = symbol_at(bits, level, c);
             Element::Sent { re: s.re, im: s.im }

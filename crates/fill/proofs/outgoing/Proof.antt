@@ -3,7 +3,7 @@ use native.Mathlib.Omega.{arith}
 use Rattle.counting.proofs.Rank.{rank-le}
 use Rattle.grid.specs.Grid.{subcarriers}
 use Rattle.elements.specs.Elements.{used}
-use Rattle.fill.proofs.Going.{goes-ours, goes-nothing, goes-pilot}
+use Rattle.fill.proofs.Going.{goes-ours, goes-silent, goes-reference}
 use Rattle.fill.proofs.outgoing.Statement.{statement}
 use Rattle.fill.proofs.outgoing.Tie as tie
 
@@ -20,8 +20,8 @@ outgoing-spec =
     (λ c.
     let k = c .before in
     let s = k .before .before in
-    goes-nothing _ _ _ _ (sym (s .pre .3) ∙ k .before .if1 .left) (k .kind .ensures) (c .if2 .taken))
+    goes-silent _ _ _ _ (sym (s .pre .3) ∙ k .before .if1 .left) (k .kind .ensures) (c .if2 .taken))
     (λ c.
     let k = c .before in
     let s = k .before .before in
-    goes-pilot _ _ _ _ (sym (s .pre .3) ∙ k .before .if1 .left) (k .kind .ensures) (c .if2 .left)))
+    goes-reference _ _ _ _ (sym (s .pre .3) ∙ k .before .if1 .left) (k .kind .ensures) (c .if2 .left)))
