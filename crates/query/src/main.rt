@@ -9,6 +9,7 @@ use text::Page;
 
 mod asking;
 mod lines;
+mod picture;
 mod reading;
 mod values;
 
@@ -39,7 +40,7 @@ fn answer(
         Line::Wrong(f) => lines::put_fault(f, out, at),
         Line::Asked(q, named) => {
             reading::keep_words(line, named, v, anchor, other, data);
-            asking::ask(q, v, anchor, other, out, at)
+            asking::ask(q, v, anchor, other, data, out, at)
         }
     }
 }

@@ -17,16 +17,26 @@ pub const LONGEST: usize = 4096;
 const LARGEST_ROOM: u64 = 1024;
 
 // The questions that want no kind stand first.
-const QUESTIONS: [[u8; 10]; 6] = [
+const QUESTIONS: [[u8; 10]; 10] = [
     *b"set       ",
     *b"cell      ",
     *b"bitmap    ",
+    *b"fill      ",
+    *b"element   ",
     *b"plan      ",
     *b"forward   ",
     *b"backward  ",
+    *b"step      ",
+    *b"picture   ",
 ];
 
-const WITHOUT_KIND: usize = 3;
+const WITHOUT_KIND: usize = 5;
+
+const PICTURE: usize = 9;
+
+const UP: usize = 0;
+
+const NO_KIND: usize = 3;
 
 const KINDS: [[u8; 10]; 3] = [*b"up        ", *b"down      ", *b"control   "];
 
@@ -40,9 +50,13 @@ pub enum Question {
     Set,
     Cell,
     Bitmap,
+    Fill,
+    Element,
     Plan(Kind),
     Forward(Kind),
     Backward(Kind),
+    Step(Kind),
+    Picture(Kind),
 }
 
 pub enum Fault {
@@ -83,9 +97,13 @@ fn question_of(row: usize, kind: usize) -> Question {
         0 => Question::Set,
         1 => Question::Cell,
         2 => Question::Bitmap,
-        3 => Question::Plan(kind_of(kind)),
-        4 => Question::Forward(kind_of(kind)),
-        _ => Question::Backward(kind_of(kind)),
+        3 => Question::Fill,
+        4 => Question::Element,
+        5 => Question::Plan(kind_of(kind)),
+        6 => Question::Forward(kind_of(kind)),
+        7 => Question::Backward(kind_of(kind)),
+        8 => Question::Step(kind_of(kind)),
+        _ => Question::Picture(kind_of(kind)),
     }
 }
 
@@ -180,12 +198,12 @@ fn next_end(line: &[u8], at: usize) -> usize
     find(line, at + 1, line.len(), b' ')
 }
 
-// The row of the kind that the word after the question names; 3 where it names none.
+// The row of the kind that the word after the question names.
 fn kind_after(line: &[u8], at: usize) -> usize
     requires { ⌜ at ≤ length (now line) ⌝ }
 {
     if at == line.len() {
-        return 3;
+        return NO_KIND;
     }
     let start = at + 1;
     let end = next_end(line, at);
@@ -208,6 +226,28 @@ fn check_words(line: &[u8], named: usize, q: Question) -> Line
     Line::Asked(q, named)
 }
 
+// The kind is as the question wants it: none, one, or for a picture one of the downlink's.
+fn suits(row: usize, kind: usize) -> bool {
+    if row < WITHOUT_KIND {
+        return kind == NO_KIND;
+    }
+    (kind < NO_KIND) & ((row != PICTURE) | (kind != UP))
+}
+
+// The end of the words that name the question.
+fn named_end(line: &[u8], row: usize, end: usize) -> usize
+    requires { ⌜ end ≤ length (now line) ⌝ }
+    ensures { λ r. ⌜ r ≤ length (now (line .entry)) ⌝ }
+{
+    if row < WITHOUT_KIND {
+        return end;
+    }
+    if end == line.len() {
+        return end;
+    }
+    next_end(line, end)
+}
+
 // A line that is not empty, no remark and not too long.
 fn read_question(line: &[u8]) -> Line {
     let end = find(line, 0, line.len(), b' ');
@@ -216,16 +256,10 @@ fn read_question(line: &[u8]) -> Line {
         return Line::Wrong(Fault::Question);
     }
     let kind = kind_after(line, end);
-    if (row < WITHOUT_KIND) != (kind > 2) {
+    if !suits(row, kind) {
         return Line::Wrong(Fault::Kind);
     }
-    if row < WITHOUT_KIND {
-        return check_words(line, end, question_of(row, kind));
-    }
-    if end == line.len() {
-        return Line::Wrong(Fault::Kind);
-    }
-    check_words(line, next_end(line, end), question_of(row, kind))
+    check_words(line, named_end(line, row, end), question_of(row, kind))
 }
 
 pub fn read_line(line: &[u8]) -> Line {

@@ -1,8 +1,11 @@
 // The values kept from line to line: numbers by the row of their name, and the counts of the three buffers' bytes.
+use crate::reading::Kind;
 use cell::Cell;
 use control::ControlGrant;
 use downlink::DownlinkGrant;
 use uplink::UplinkGrant;
+use walk::Grant;
+use walk::Walk;
 
 // The numbers' names; then the level, a number too, and the buffers.
 pub const NAMES: [[u8; 10]; 31] = [
@@ -89,6 +92,8 @@ pub const L: usize = 23;
 
 pub const K: usize = 24;
 
+pub const I: usize = 25;
+
 pub const ROOM: usize = 26;
 
 pub const LEVEL: usize = 27;
@@ -153,6 +158,25 @@ pub fn uplink_grant(v: &Values) -> UplinkGrant {
     }
 }
 
+fn grant_of(k: Kind, v: &Values) -> Grant {
+    match k {
+        Kind::Up => Grant::Up(uplink_grant(v)),
+        Kind::Down => Grant::Down(downlink_grant(v)),
+        Kind::Control => Grant::Control(control_grant(v)),
+    }
+}
+
+// The record of a walk at the position p.
+pub fn walk_of(k: Kind, v: &Values) -> Walk {
+    let cell = cell_of(v);
+    let grant = grant_of(k, v);
+    Walk {
+        cell,
+        grant,
+        p: v[P],
+    }
+}
+
 // The bytes of a buffer that are in use.
 pub fn front(buffer: &[u8], count: u64) -> &[u8] {
     let n = count as usize;
@@ -160,4 +184,21 @@ pub fn front(buffer: &[u8], count: u64) -> &[u8] {
         return &buffer[0..n];
     }
     buffer
+}
+
+// The level's f32, by its pattern.
+pub fn level_of(v: &Values) -> f32 {
+    text::float_of((v[LEVEL] % 0x1_0000_0000) as u32)
+}
+
+// How many subframes the codeword has.
+pub fn codeword_subframes(v: &Values) -> u64 {
+    if v[SUBFRAMES] > 7 {
+        return 0;
+    }
+    grid::length(v[SUBFRAMES])
+}
+
+pub fn control_region(v: &Values) -> u64 {
+    v[CONTROL]
 }

@@ -1,7 +1,8 @@
-// Text: names, numbers and hex bytes read from a part of a line, and the same put into a lent buffer.
+// Text: names, numbers and hex bytes read from a part of a line, and the same put into a page of output.
 mod digits;
 mod hex;
 mod names;
+mod patterns;
 mod writing;
 
 pub use digits::Number;
@@ -10,6 +11,8 @@ pub use hex::is_hex;
 pub use hex::take_hex;
 pub use hex::word;
 pub use names::row_of;
+pub use patterns::float_of;
+pub use patterns::pattern_of;
 pub use writing::Page;
 pub use writing::put;
 pub use writing::put_decimal;
