@@ -11,7 +11,7 @@ use Rattle.cell.specs.declared.Cell.{Cell}
 abbrev pub ownBuffer : Cell → List ℕ → List ℕ → List ℕ
 ownBuffer c anchor other = cond (eqb (c .carrier) 0) anchor other
 
--- 0, 2 or 5 bytes for 0, 10 or 40 bits
+-- 0, 2 or 5 bytes for 0, 10 or 40 bits; other lengths are refused
 unfoldable pub bytesOf : ℕ → ℕ
 bytesOf bits = cond (eqb bits 0) 0 (cond (eqb bits 10) 2 5)
 

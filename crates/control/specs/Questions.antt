@@ -1,6 +1,6 @@
 -- What the questions on an NPDCCH answer, on any numbers and buffers: 01 "Downlink grants" and "Questions"; TS 36.211 clause 10.2.5.5.
 use mathlib.Core.List.{List}
-use Prim.Native.Nat.{ℕ}
+use Prim.Native.Nat.{ℕ, _+_}
 use Rattle.cell.specs.declared.Cell.{Cell}
 use Rattle.cell.specs.Bitmap.{ownBuffer, bitmapIn}
 use Rattle.cell.specs.Usable.{period, usable}

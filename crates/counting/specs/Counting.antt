@@ -20,7 +20,7 @@ unfoldable pub next : (ℕ → Bool) → ℕ → ℕ → ℕ
 next u zero f = f
 next u (suc d) f = elim (u f) [ true ↦ f | false ↦ next u d (suc f) ]
 
--- the j-th that passes from f on, counted from 0; every d numbers in a row have one that passes
+-- the j-th that passes from f on, counted from 0, each looked for among d numbers
 unfoldable pub select : (ℕ → Bool) → ℕ → ℕ → ℕ → ℕ
 select u d f zero = next u d f
 select u d f (suc j) = next u d (suc (select u d f j))

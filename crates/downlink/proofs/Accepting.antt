@@ -15,7 +15,7 @@ use Rattle.subframes.specs.Fits.{Fits}
 use Rattle.subframes.proofs.Cells.{layout-valid}
 use Rattle.downlink.specs.declared.DownlinkGrant.{DownlinkGrant}
 use Rattle.downlink.specs.Refusals.{lastSubframe, aboveLargest, grantRefusal}
-use Rattle.downlink.specs.Questions.{rowOf, burstOf}
+use Rattle.downlink.specs.Questions.{burstOf}
 
 pub record Accepted (g : DownlinkGrant) : Type 0 where
   pub n : g .n ≤ lastSubframe
@@ -38,7 +38,6 @@ grant-accepted g e =
     }
 
 pub burst-fits : (c : Cell) (g : DownlinkGrant) → WellFormed c → grantRefusal g ≡ 0 → Fits (burstOf c g)
-unfolding rowOf
 burst-fits c g w e =
     let a = grant-accepted g e in
     let R : ℕ = entry downlinkCopies (g .copies) in

@@ -1,11 +1,9 @@
 -- What the questions on an NPDSCH answer, on any numbers and buffers: 01 "Downlink grants" and "Questions"; TS 36.213 clauses 16.4.1 and
 -- 16.4.1.3, TS 36.211 clause 10.2.3.4.
-use mathlib.Core.Bool.{cond}
 use mathlib.Core.List.{List}
 use Prim.Native.Nat.{ℕ, _+_}
-use lib.Dec.{ltb}
 use Rattle.grid.specs.Grid.{subcarriers}
-use Rattle.grid.specs.Tables.{entry, lengths, downlinkCopies, downlinkDelay}
+use Rattle.grid.specs.Tables.{entry, lengths, downlinkCopies, downlinkDelay, upToFour}
 use Rattle.cell.specs.declared.Cell.{Cell}
 use Rattle.cell.specs.Bitmap.{ownBuffer, bitmapIn}
 use Rattle.cell.specs.Usable.{period, usable}
@@ -18,10 +16,6 @@ use Rattle.subframes.specs.Answers.{planAnswer, forwardAnswer, backwardAnswer}
 use Rattle.downlink.specs.declared.DownlinkGrant.{DownlinkGrant}
 use Rattle.downlink.specs.Refusals.{refusalOf}
 
--- how often a codeword subframe goes out in a row: min(copies, 4)
-unfoldable pub rowOf : ℕ → ℕ
-rowOf copies = cond (ltb copies 4) copies 4
-
 -- the first subframe sent is the usable one before which exactly (delay) usable ones lie, counting from n + 5; all subcarriers are used
 abbrev pub burstOf : Cell → DownlinkGrant → Burst
 burstOf c g = record {
@@ -32,7 +26,7 @@ burstOf c g = record {
   skip = downlinkDelay (g .rmax) (g .delay);
   codeword = entry lengths (g .subframes);
   copies = entry downlinkCopies (g .copies);
-  row = rowOf (entry downlinkCopies (g .copies));
+  row = upToFour (entry downlinkCopies (g .copies));
 }
 
 unfoldable pub planOf : Cell → List ℕ → List ℕ → DownlinkGrant → DownlinkPlan

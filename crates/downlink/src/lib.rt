@@ -3,7 +3,7 @@ ghost use mathlib.Core.Path.{_≡_};
 ghost use Rattle.cell.specs.Bitmap.{ownBuffer, bitmapIn};
 ghost use Rattle.subframes.specs.Quick.{ReadyFor};
 ghost use Rattle.downlink.specs.Refusals.{aboveLargest, grantRefusal, refusalOf};
-ghost use Rattle.downlink.specs.Questions.{rowOf, burstOf, planOf, forwardOf, backwardOf};
+ghost use Rattle.downlink.specs.Questions.{burstOf, planOf, forwardOf, backwardOf};
 use cell::Cell;
 use grid::Grid;
 use sending::Back;
@@ -46,16 +46,6 @@ fn judge(g: DownlinkGrant) -> u64
     0
 }
 
-// How often a codeword subframe goes out in a row.
-fn row(copies: u64) -> u64
-    ensures { λ r. ⌜ r ≡ rowOf copies ⌝ }
-{
-    if copies < 4 {
-        return copies;
-    }
-    4
-}
-
 // The burst of an accepted grant.
 fn burst(c: Cell, g: DownlinkGrant) -> Burst
     requires { ⌜ grantRefusal g ≡ 0 ⌝ }
@@ -65,7 +55,7 @@ fn burst(c: Cell, g: DownlinkGrant) -> Burst
     let skip = grid::downlink_delay(g.rmax, g.delay);
     let codeword = grid::length(g.subframes);
     let copies = grid::downlink_copies(g.copies);
-    let row = row(copies);
+    let row = grid::up_to_four(copies);
     Burst {
         layout,
         low: 0,

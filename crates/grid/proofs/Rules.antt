@@ -12,7 +12,7 @@ use lib.ListN.{getD}
 use lib.Pow.{pow-mono, pow-pos}
 use borrow.Author.Tests.{le-leb, lt-leb, ne-eqb, ltb-true, eqb-true}
 use Rattle.counting.proofs.Facts.{order, each, each-at, alike, alike-eq, either-case}
-use Rattle.grid.specs.Tables.{entry, lengths, downlinkCopies, shortDelays, longDelays, downlinkDelay, uplinkCopies, uplinkDelays, singleToneRows, powerBelow, isRepetition}
+use Rattle.grid.specs.Tables.{entry, lengths, downlinkCopies, shortDelays, longDelays, downlinkDelay, uplinkCopies, uplinkDelays, singleToneRows, powerBelow, isRepetition, upToFour}
 
 -- a test that holds at each field of a row holds at any field below its length
 row-at : (row : List ℕ) (n : ℕ) (f : ℕ → Bool) → T (each n (λ k. f (entry row k))) → (k : ℕ) → k < n → T (f (entry row k))
@@ -62,30 +62,26 @@ downlink-delay-bound rmax k h = by (ltb rmax 128)
 
 -- ---- copies in a row divide the copies (for the copy order)
 
--- min(R, 4) of the downlink
-abbrev pub rowOf : ℕ → ℕ
-rowOf R = cond (ltb R 4) R 4
-
-pub downlink-row-splits : (k : ℕ) → k < 16 → entry downlinkCopies k % rowOf (entry downlinkCopies k) ≡ 0
+pub downlink-row-splits : (k : ℕ) → k < 16 → entry downlinkCopies k % upToFour (entry downlinkCopies k) ≡ 0
 downlink-row-splits k h =
-    eqb→eq (entry downlinkCopies k % rowOf (entry downlinkCopies k)) 0 (row-at downlinkCopies 16 (splits rowOf) tt k h)
+    eqb→eq (entry downlinkCopies k % upToFour (entry downlinkCopies k)) 0 (row-at downlinkCopies 16 (splits upToFour) tt k h)
 
 -- min(ceil(R/2), 4) of the uplink
 abbrev pub halfRowOf : ℕ → ℕ
-halfRowOf R = rowOf ((R + 1) / 2)
+halfRowOf R = upToFour ((R + 1) / 2)
 
 pub uplink-row-splits : (k : ℕ) → k < 8 → entry uplinkCopies k % halfRowOf (entry uplinkCopies k) ≡ 0
 uplink-row-splits k h =
     eqb→eq (entry uplinkCopies k % halfRowOf (entry uplinkCopies k)) 0 (row-at uplinkCopies 8 (splits halfRowOf) tt k h)
 
-pub row-small : (R : ℕ) → rowOf R ≤ 4
+pub row-small : (R : ℕ) → upToFour R ≤ 4
 row-small R = by (ltb R 4) refl
   where
     by : (b : Bool) → ltb R 4 ≡ b → cond b R 4 ≤ 4
     by true e = omega (arith, ltb-true R 4 e)
     by false e = omega arith
 
-pub row-pos : (R : ℕ) → 0 < R → 0 < rowOf R
+pub row-pos : (R : ℕ) → 0 < R → 0 < upToFour R
 row-pos R h = by (ltb R 4)
   where
     by : (b : Bool) → 0 < cond b R 4

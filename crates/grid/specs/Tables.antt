@@ -1,4 +1,4 @@
--- The constant tables of 01: TS 36.213 clauses 16.4.1 and 16.5.1, and TS 36.211 table 10.1.2.3-1.
+-- The constant tables of 01: TS 36.213 clauses 16.4.1 and 16.5.1.
 use mathlib.Core.Bool.{Bool, false, cond, _||_}
 use mathlib.Core.List.{List, [], _∷_}
 use Prim.Native.Nat.{ℕ, zero, suc, _^_}
@@ -54,6 +54,10 @@ singleToneRows = 0 ∷ 2 ∷ 1 ∷ 3 ∷ 4 ∷ []
 
 abbrev pub singleToneOrders : List ℕ
 singleToneOrders = 1 ∷ 1 ∷ 2 ∷ 2 ∷ 2 ∷ []
+
+-- how often a unit goes out in a row, at the most four times (TS 36.211 clauses 10.1.3.6 and 10.2.3.4): min(x, 4)
+abbrev pub upToFour : ℕ → ℕ
+upToFour x = cond (ltb x 4) x 4
 
 -- x is one of 2^0 to 2^(n - 1)
 abbrev pub powerBelow : ℕ → ℕ → Bool

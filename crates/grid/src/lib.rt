@@ -1,7 +1,7 @@
 // The grids' sizes and element numbers, and the constant tables.
 ghost use mathlib.Core.Path.{_≡_};
-ghost use Prim.Native.Nat.{_<_, _≤_, _*_};
-ghost use Rattle.grid.specs.Grid.{subcarriers, symbols, slots, slotElements, elements, elementOf, slotOf, symbolOf, subcarrierOf, uplinkSubcarriers, uplinkElementOf};
+ghost use Prim.Native.Nat.{_<_, _≤_};
+ghost use Rattle.grid.specs.Grid.{subcarriers, symbols, slots, elements, elementOf, slotOf, symbolOf, subcarrierOf, uplinkSubcarriers};
 
 mod tables;
 
@@ -12,6 +12,7 @@ pub use tables::length;
 pub use tables::single_tone_order;
 pub use tables::single_tone_row;
 pub use tables::size;
+pub use tables::up_to_four;
 pub use tables::uplink_copies;
 pub use tables::uplink_delay;
 

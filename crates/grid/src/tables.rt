@@ -1,7 +1,7 @@
 // The constant tables of 01, and what stands in them.
 ghost use mathlib.Core.Path.{_≡_};
 ghost use Prim.Native.Nat.{_<_};
-ghost use Rattle.grid.specs.Tables.{entry, lengths, downlinkCopies, downlinkDelay, uplinkCopies, uplinkDelays, sizeOf, singleToneRows, singleToneOrders, isRepetition};
+ghost use Rattle.grid.specs.Tables.{entry, lengths, downlinkCopies, downlinkDelay, uplinkCopies, uplinkDelays, sizeOf, singleToneRows, singleToneOrders, upToFour, isRepetition};
 
 const LENGTHS: [u64; 8] = [1, 2, 3, 4, 5, 6, 8, 10];
 
@@ -105,6 +105,16 @@ pub fn single_tone_order(mcs: u64) -> u64
     ensures { λ r. ⌜ r ≡ entry singleToneOrders mcs ⌝ }
 {
     SINGLE_TONE_ORDERS[mcs as usize]
+}
+
+// min(x, 4).
+pub fn up_to_four(x: u64) -> u64
+    ensures { λ r. ⌜ r ≡ upToFour x ⌝ }
+{
+    if x < 4 {
+        return x;
+    }
+    4
 }
 
 // A power of two, 1 to 2048.

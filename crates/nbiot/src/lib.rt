@@ -105,3 +105,7 @@ pub fn backward_control(
 {
     control::backward(c, anchor, other, g, t, slot, l, k)
 }
+
+// One step of a walk, the caller's record moved in place; and the same of a record by value.
+pub use walk::step;
+pub use walk::step_value;

@@ -1,8 +1,8 @@
 -- An uplink sending is lawful, so demand 3 holds of it; and what holds of a place.
 use mathlib.Core.Bool.{true, false}
 use mathlib.Core.Path.{_≡_, refl}
-use Prim.Native.Nat.{ℕ, _%_, _<_}
-use native.Mathlib.Nat.{mod-lt}
+use Prim.Native.Nat.{ℕ, _/_, _%_, _<_}
+use native.Mathlib.Nat.{mod-lt, div-lt-iff-lt-mul}
 use native.Mathlib.Omega.{arith}
 use borrow.Author.Tests.{lt-ltb}
 use Rattle.grid.specs.Grid.{symbols, uplinkElementOf}
@@ -13,6 +13,7 @@ use Rattle.sending.proofs.CopyOrder.{copied, carried-below}
 use Rattle.sending.proofs.Demand.{sound}
 use Rattle.slots.specs.declared.Shape.{Shape}
 use Rattle.slots.specs.Fits.{Fits}
+use Rattle.slots.specs.Timing.{isSent}
 use Rattle.slots.specs.Elements.{isReference, isGranted, carriesData, slotData, elementAt}
 use Rattle.slots.specs.Mapping.{sendingOf, places}
 use Rattle.slots.specs.Answers.{placeOf, shapeForward, shapeBackward}
@@ -44,7 +45,11 @@ module _ (s : Shape) (f : Fits s) where
   unfolding shapeBackward
   backward-content slot l k h g = rw (lt-ltb l symbols h, lt-ltb k (s .subcarriers) g) refl
 
-  -- ---- a place is a data element of the grid: on a granted tone, and on no reference symbol
+  -- ---- a place is a data element of a slot that is sent: inside the grid, on a granted tone, and on no reference symbol
+
+  pub place-sent : (p : ℕ) → p < places s → isSent s (shapeForward s p .slot) ≡ true
+  place-sent p h =
+      rw (forward-place p h) (slots-listed s (f .block) .passes (p / slotData s) (div-lt-iff-lt-mul (some-data s f) .1 h))
 
   place-data : (p : ℕ) → carriesData s (elementAt s (p % slotData s)) ≡ true
   place-data p = elements-listed s f .passes (p % slotData s) (mod-lt p (some-data s f))

@@ -13,10 +13,10 @@ use Rattle.counting.proofs.Range.{rank-all}
 use Rattle.counting.proofs.Select.{nth-of, lists-moved}
 use Rattle.counting.proofs.Period.{rank-split, is-select, lists-from-zero}
 use Rattle.slots.specs.declared.Shape.{Shape}
-use Rattle.slots.specs.Timing.{round, active, sentSlots, slotAt, isSent, indexOf}
+use Rattle.slots.specs.Timing.{round, active, period, sentSlots, slotAt, isSent, indexOf}
 
 module _ (s : Shape) (some : 0 < s .block) where
-  repeats : (x : ℕ) → active s (x + round s) ≡ active s x
+  repeats : (x : ℕ) → active s (x + period s) ≡ active s x
   unfolding active
   repeats x = ap (λ (y : ℕ). ltb y (s .block)) (add-mod-right x (round s))
 
@@ -42,7 +42,7 @@ module _ (s : Shape) (some : 0 < s .block) where
   whole-round : rank (active s) (round s) ≡ s .block
   whole-round = in-gap (round s) (omega arith) (omega arith)
 
-  some-active : 0 < rank (active s) (round s)
+  some-active : 0 < rank (active s) (period s)
   some-active = omega (arith, whole-round)
 
   -- how many before x, by whole rounds
@@ -64,7 +64,7 @@ module _ (s : Shape) (some : 0 < s .block) where
       omega (arith, div-add-mod' x (round s), mul-le-mul-left (x / round s) b)
 
   -- the i-th, by whole blocks
-  pub at-index : (i : ℕ) → i + s .gap * (i / s .block) ≡ select (active s) (round s) 0 i
+  pub at-index : (i : ℕ) → i + s .gap * (i / s .block) ≡ select (active s) (period s) 0 i
   unfolding active
   at-index i =
       let q : ℕ = i / s .block in
@@ -80,10 +80,10 @@ module _ (s : Shape) (some : 0 < s .block) where
       by-rounds t ∙ ap₂ (λ (a b : ℕ). a * s .block + rank (active s) b) d m
       ∙ omega (arith, in-block r (omega arith), div-add-mod' i (s .block)) in
       e
-      ∙ is-select (active s) (round s) repeats some-active 0 i t
+      ∙ is-select (active s) (period s) repeats some-active 0 i t
       (nth-of (active s) 0 i t (lt-ltb (t % round s) (s .block) (omega arith)) (omega (arith, rank-zero (active s))))
 
   -- the slots that are sent, listed
   pub slots-listed : Lists (sentSlots s) (slotAt s) (isSent s) (indexOf s)
   unfolding slotAt isSent indexOf
-  slots-listed = lists-moved (s .first) (sentSlots s) _ _ _ (lists-from-zero (active s) (round s) repeats some-active (sentSlots s))
+  slots-listed = lists-moved (s .first) (sentSlots s) _ _ _ (lists-from-zero (active s) (period s) repeats some-active (sentSlots s))

@@ -13,13 +13,17 @@ round s = s .block + s .gap
 unfoldable pub active : Shape → ℕ → Bool
 active s x = ltb (x % round s) (s .block)
 
+-- after so many slots the same ones may be sent again
+abbrev pub period : Shape → ℕ
+period s = round s
+
 -- how many slots are sent: the codeword's slots, once for each copy
 abbrev pub sentSlots : Shape → ℕ
 sentSlots s = s .copies * s .codeword
 
 -- transmitted slot i
 unfoldable pub slotAt : Shape → ℕ → ℕ
-slotAt s i = s .first + select (active s) (round s) 0 i
+slotAt s i = s .first + select (active s) (period s) 0 i
 
 -- a slot is sent: it is one of the first so many that may be
 unfoldable pub isSent : Shape → ℕ → Bool

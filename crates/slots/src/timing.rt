@@ -3,7 +3,7 @@ ghost use mathlib.Core.Path.{_≡_};
 ghost use Prim.Native.Nat.{_^_, _<_};
 ghost use Rattle.counting.specs.Counting.{rank, select};
 ghost use Rattle.slots.specs.Fits.{Fits};
-ghost use Rattle.slots.specs.Timing.{active, round};
+ghost use Rattle.slots.specs.Timing.{active, period};
 use super::Shape;
 
 // Slot x may be sent.
@@ -35,7 +35,7 @@ pub fn active_before(s: Shape, x: u64) -> u64
 // The i-th slot that may be sent.
 pub fn active_at(s: Shape, i: u64) -> u64
     requires { ⌜ Fits s × (i < 2 ^ 32) ⌝ }
-    ensures { λ r. ⌜ (r ≡ select (active s) (round s) 0 i) × (r < 2 ^ 49) ⌝ }
+    ensures { λ r. ⌜ (r ≡ select (active s) (period s) 0 i) × (r < 2 ^ 49) ⌝ }
 {
     let block = s.block;
     let gap = s.gap;

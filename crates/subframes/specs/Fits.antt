@@ -16,7 +16,7 @@ pub record Fits (b : Burst) : Type 0 where
   pub row : 0 < b .row
   pub passes : b .copies % b .row ≡ 0
   -- numbers whose sums and products fit a word
-  pub fromSmall : b .from < 2 ^ 40
+  pub fromSmall : b .from < 2 ^ 39
   pub skipSmall : b .skip ≤ 2 ^ 16
   pub codewordSmall : b .codeword ≤ 2 ^ 8
   pub copiesSmall : b .copies ≤ 2 ^ 12

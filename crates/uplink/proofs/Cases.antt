@@ -9,7 +9,7 @@ use Rattle.counting.specs.Counting.{rank, next, select}
 use Rattle.grid.specs.Grid.{uplinkSubcarriers}
 use Rattle.grid.specs.Tables.{entry, uplinkCopies}
 use Rattle.slots.specs.declared.UplinkPlace.{UplinkPlace}
-use Rattle.slots.specs.Timing.{active, slotAt}
+use Rattle.slots.specs.Timing.{active, sentSlots, slotAt}
 use Rattle.slots.specs.Elements.{carriesData, slotData}
 use Rattle.slots.specs.Mapping.{codewordSymbols}
 use Rattle.slots.specs.Answers.{refusedPlan, shapePlan, shapeForward}
@@ -67,14 +67,20 @@ case5 n delay mcs a b c =
     map-same _ (λ i. shapeForward (shapeOf g) (i * 18) .symbol / 18)
     (λ i. ap (λ (x : UplinkPlace). x .symbol / 18) (sym (forward-accepted g e (i * 18)))) (upTo 32)
 
-case6 : (n tone copies delay mcs : ℕ) → n ≤ lastSubframe → tone ≤ 47 → copies ≤ 7 → delay ≤ 3 → mcs ≤ 4
-    → (planOf (grant n 0 tone 0 copies delay mcs) .first ≡ shapeOf (grant n 0 tone 0 copies delay mcs) .first)
-    × (planOf (grant n 0 tone 0 copies delay mcs) .last ≡ slotAt (shapeOf (grant n 0 tone 0 copies delay mcs)) (entry uplinkCopies copies * 16 - 1))
-unfolding shapePlan shapeOf slotAt select next active tonesOf unitSlots
-case6 n tone copies delay mcs a b c d f =
-    let g : UplinkGrant = grant n 0 tone 0 copies delay mcs in
-    let e : refusal g ≡ 0 = accepts lastSubframe g (omega arith) in
-    (rw (← plan-accepted g e) (omega arith), rw (← plan-accepted g e, lt-ltb tone (uplinkSubcarriers 0) (omega arith)) refl)
+-- one tone at 3.75 kHz, one resource unit
+module _ (n tone copies delay mcs : ℕ) (a : n ≤ lastSubframe) (b : tone ≤ 47) (c : copies ≤ 7) (d : delay ≤ 3) (f : mcs ≤ 4) where
+  abbrev one-tone : UplinkGrant
+  one-tone = grant n 0 tone 0 copies delay mcs
+
+  one-tone-sent : sentSlots (shapeOf one-tone) ≡ entry uplinkCopies copies * 16
+  unfolding shapeOf tonesOf unitSlots
+  one-tone-sent = rw (lt-ltb tone (uplinkSubcarriers 0) (omega arith)) refl
+
+  case6 : (planOf one-tone .first ≡ slotAt (shapeOf one-tone) 0) × (planOf one-tone .last ≡ slotAt (shapeOf one-tone) (entry uplinkCopies copies * 16 - 1))
+  unfolding shapePlan
+  case6 =
+      let q = plan-accepted one-tone (accepts lastSubframe one-tone (omega arith)) in
+      (rw (← q) refl, rw (← q) (ap (λ (k : ℕ). slotAt (shapeOf one-tone) (k - 1)) one-tone-sent))
 
 pub uplink-cases : UplinkCases
 unfolding shapeOf slotAt select next active
@@ -89,5 +95,5 @@ uplink-cases = record {
   p6 = λ n tone delay mcs a b c d.
       let x = case6 n tone 3 delay mcs a b (omega arith) c d in
       let y = case6 n tone 4 delay mcs a b (omega arith) c d in
-      (rw (x .0, x .1) refl, rw (y .0, y .1) refl);
+      (rw (x .0, x .1) (omega arith), rw (y .0, y .1) (omega arith));
 }

@@ -3,7 +3,7 @@ use mathlib.Core.Bool.{cond}
 use Prim.Native.Nat.{ℕ, _+_, _-_, _*_, _/_}
 use lib.Dec.{eqb, ltb}
 use Rattle.grid.specs.Grid.{uplinkSubcarriers}
-use Rattle.grid.specs.Tables.{entry, sizeOf, singleToneRows, singleToneOrders}
+use Rattle.grid.specs.Tables.{entry, sizeOf, singleToneRows, singleToneOrders, upToFour}
 use Rattle.slots.specs.Numerology.{bySpacing}
 
 -- ---- tones, by subcarrier field (table 16.5.1.1-1): a single tone by its number; at 15 kHz also three, six or all
@@ -44,7 +44,7 @@ unitSlots tones = cond (eqb tones 1) 16 (cond (eqb tones 3) 8 (cond (eqb tones 6
 
 -- how often a group of slots goes out in a row (TS 36.211 clause 10.1.3.6): min(ceil(R/2), 4), or 1 for one tone
 unfoldable pub rowOf : ℕ → ℕ → ℕ
-rowOf tones copies = cond (eqb tones 1) 1 (cond (ltb ((copies + 1) / 2) 4) ((copies + 1) / 2) 4)
+rowOf tones copies = cond (eqb tones 1) 1 (upToFour ((copies + 1) / 2))
 
 -- the reference symbol (TS 36.211 table 10.1.4.2-1)
 abbrev pub referenceOf : ℕ → ℕ

@@ -92,10 +92,7 @@ pub fn row(tones: u64, copies: u64) -> u64
         return 1;
     }
     let half = (copies + 1) / 2;
-    if half < 4 {
-        return half;
-    }
-    4
+    grid::up_to_four(half)
 }
 
 // The reference symbol.

@@ -31,7 +31,7 @@ in-sent-spec =
     (λ c κs. search needs)
     (λ c κs. search needs)
     (λ c κs. let n = c .before in (omega (arith, c .carried-by .ensures .1), n .before .used-elements .ensures .2, below n))
-    (λ c κs. let n = c .before .before in (n .before .before .before .before .pre .1, n .before .used-elements .ensures .2, below n))
+    (λ c κs. let n = c .before .before in (omega (arith, c .before .carried-by .ensures .1, n .before .before .before .before .pre .1), n .before .used-elements .ensures .2, below n))
     (λ c κs. tt)
     (λ c.
     let u = c .before .before .before in

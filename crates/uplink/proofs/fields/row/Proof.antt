@@ -1,5 +1,5 @@
 use borrow.Author.Needs.{needs}
-use borrow.Author.Tests.{eq-eqb, ne-eqb, lt-ltb, le-ltb}
+use borrow.Author.Tests.{eq-eqb, ne-eqb}
 use Rattle.uplink.specs.Fields.{rowOf}
 use Rattle.uplink.proofs.fields.row.Statement.{statement}
 use Rattle.uplink.proofs.fields.row.Tie as tie
@@ -11,5 +11,5 @@ row-spec =
     (tie.spec
     (λ c. simp (eq-eqb _ _ (c .if1 .taken)))
     (λ c. search needs)
-    (λ c. simp (lt-ltb _ _ (c .if2 .taken), ne-eqb _ _ (c .before .if1 .left)))
-    (λ c. simp (le-ltb _ _ (c .if2 .left), ne-eqb _ _ (c .before .if1 .left))))
+    (λ c κs. tt)
+    (λ c. simp (c .up-to-four .ensures, ne-eqb _ _ (c .before .if1 .left))))

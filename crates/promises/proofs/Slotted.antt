@@ -1,0 +1,91 @@
+-- DEMAND 3 of every accepted NPUSCH grant.
+use mathlib.Core.Path.{_≡_, refl, sym, ap, _∙_, subst}
+use mathlib.Core.Logic.{_⊎_, inl, inr, ⊎-elim}
+use Prim.Native.Nat.{ℕ, _-_, _*_, _/_, _%_, _≤_, _<_}
+use native.Mathlib.Nat.{mul-pos, mul-comm, div-add-mod'}
+use native.Mathlib.Omega.{arith}
+use Rattle.counting.proofs.Facts.{order, div-mono}
+use Rattle.grid.specs.Grid.{uplinkSubcarriers, uplinkElementOf}
+use Rattle.grid.proofs.Numbering.{uplink-of-parts, uplink-symbol-of, uplink-subcarrier-of}
+use Rattle.slots.specs.declared.Shape.{Shape}
+use Rattle.slots.specs.Fits.{Fits}
+use Rattle.slots.specs.Elements.{slotData}
+use Rattle.slots.specs.Mapping.{sendingOf, places}
+use Rattle.slots.specs.Answers.{shapePlan, shapeForward, shapeBackward}
+use Rattle.slots.proofs.Joined.{forward-refused}
+use Rattle.slots.proofs.Lines.{slot-data, some-data}
+use Rattle.slots.proofs.Lawfulness.{shape-sound, forward-place, backward-content, place-symbol, place-subcarrier}
+use Rattle.uplink.specs.declared.UplinkGrant.{UplinkGrant}
+use Rattle.uplink.specs.Refusals.{refusal}
+use Rattle.uplink.specs.Shaping.{grantTones, shapeOf}
+use Rattle.uplink.specs.Questions.{planOf, forwardOf, backwardOf}
+use Rattle.uplink.proofs.Acceptance.{fits}
+use Rattle.uplink.proofs.Answered.{plan-accepted, forward-accepted, backward-accepted, plan-no}
+use Rattle.promises.specs.Demand.{Answers, Demand, firstBy}
+use Rattle.promises.specs.Grids.{SlotPlace, uplinkGrid, uplinkColumns, uplinkAnswers}
+use Rattle.promises.specs.Promises.{dataSymbols, uplinkGranted}
+use Rattle.promises.proofs.Bridge.{Numbered, Read, demand}
+
+-- ---- the grid
+
+-- a larger element has a later symbol, or the same symbol and a later subcarrier
+slot-further : (T x y : ℕ) → 0 < T → x < y → firstBy (x / T) (y / T) (x % T < y % T)
+slot-further T x y h l = ⊎-elim inl same (order (x / T) (y / T))
+  where
+    same : y / T ≤ x / T → firstBy (x / T) (y / T) (x % T < y % T)
+    same w =
+        let e : x / T ≡ y / T = omega (arith, div-mono x y T h (omega arith)) in
+        inr (e, omega (arith, ap (λ (q : ℕ). q * T) e, div-add-mod' x T, div-add-mod' y T))
+
+uplink-numbered : (T : ℕ) → 0 < T → Numbered (uplinkGrid T)
+uplink-numbered T h = record {
+  time = λ x. x .slot;
+  element = λ x. uplinkElementOf T (x .l) (x .k);
+  timed = λ t x. refl;
+  numbered = λ t x. uplink-of-parts T x;
+  back = λ x i. λ j. record { slot = x .slot; l = uplink-symbol-of T (x .l) (x .k) (i .1) j; k = uplink-subcarrier-of T (x .l) (x .k) (i .1) j };
+  later = λ t t' x x' l. inl l;
+  further = λ t x x' l. inr (refl, slot-further T x x' h l);
+}
+
+-- ---- a shape: any kind of uplink grant
+
+abbrev shapeAnswers : Shape → Answers SlotPlace
+shapeAnswers s = uplinkAnswers (shapePlan s) (shapeForward s) (shapeBackward s)
+
+module _ (s : Shape) (f : Fits s) where
+  some-tones : 0 < s .subcarriers
+  some-tones = omega (arith, f .tones, f .withinTones)
+
+  shape-read : Read (uplinkGrid (s .subcarriers)) (uplink-numbered (s .subcarriers) some-tones) (sendingOf s) (shapeAnswers s)
+  unfolding uplink-numbered shapePlan
+  shape-read = record {
+    places = refl;
+    some = mul-pos (mul-pos (f .copies) (f .codeword)) (some-data s f);
+    forward = λ p h. ap uplinkColumns (forward-place s f p h);
+    past = λ p h. ap uplinkColumns (sym (forward-refused s p h));
+    inside = λ p h. (rw (forward-place s f p h) at (place-symbol s f p h .0), rw (forward-place s f p h) at (place-subcarrier s f p h));
+    backward = λ x i. backward-content s f (x .slot) (x .l) (x .k) (i .0) (i .1);
+  }
+
+-- ---- NPUSCH
+
+answers-are : (g : UplinkGrant) → refusal g ≡ 0 → shapeAnswers (shapeOf g) ≡ uplinkAnswers (planOf g) (forwardOf g) (backwardOf g)
+answers-are g e =
+    λ i. uplinkAnswers (plan-accepted g e i) (λ p. forward-accepted g e p i) (λ slot l k. backward-accepted g e slot l k i)
+
+-- six data symbols on each tone
+six-each : (g : UplinkGrant) → refusal g ≡ 0 → grantTones g * dataSymbols ≡ slotData (shapeOf g)
+unfolding shapeOf
+six-each g e = mul-comm (grantTones g) dataSymbols ∙ slot-data (shapeOf g) (fits g e)
+
+pub uplink-demand : (g : UplinkGrant) → planOf g .no ≡ 0
+    → Demand (uplinkGrid (uplinkSubcarriers (g .spacing))) (uplinkGranted g) (uplinkAnswers (planOf g) (forwardOf g) (backwardOf g))
+unfolding shapeOf
+uplink-demand g h =
+    let e : refusal g ≡ 0 = sym (plan-no g) ∙ h in
+    let s : Shape = shapeOf g in
+    let f : Fits s = fits g e in
+    subst (Demand (uplinkGrid (s .subcarriers)) (uplinkGranted g)) (answers-are g e)
+    (demand (uplinkGrid (s .subcarriers)) (uplink-numbered (s .subcarriers) (some-tones s f)) (uplinkGranted g) (shapeAnswers s)
+    (shape-read s f) (s .codeword) (s .copies) (shape-sound s f) refl (ap (λ (w : ℕ). s .codeword * w) (six-each g e)))

@@ -1,0 +1,15 @@
+//! Sixty answers that a reader of document 01 wrote down before any program was asked: twenty for each kind of grant.
+
+mod common;
+use common::ask;
+
+const SIXTY: &str = include_str!("sixty.txt");
+
+#[test]
+fn sixty_answers() {
+    let (answers, questions): (Vec<_>, Vec<_>) =
+        SIXTY.lines().partition(|line| line.starts_with("= "));
+    let expected: Vec<&str> = answers.iter().map(|line| &line[2..]).collect();
+    assert_eq!(expected.len(), 60);
+    assert_eq!(ask(&(questions.join("\n") + "\n")), expected);
+}
