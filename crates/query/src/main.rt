@@ -1,17 +1,16 @@
 // Reads questions on standard input, one a line, and writes an answer line for each on standard output.
 ghost use Prim.Native.Nat.{_+_, _≤_};
-use crate::reading::LONGEST;
-use crate::reading::Line;
-use crate::values::Values;
+use libc::STDERR_FILENO;
 use libc::STDIN_FILENO;
 use libc::STDOUT_FILENO;
+use questions::LONGEST;
+use questions::Line;
+use questions::Values;
 use text::Page;
 
 mod asking;
-mod lines;
+mod either;
 mod picture;
-mod reading;
-mod values;
 
 // A page that holds more bytes than this is written before the next answer.
 const FULL: usize = 49_152;
@@ -35,25 +34,32 @@ fn answer(
     requires { ⌜ at + 16384 ≤ 65536 ⌝ }
     ensures { λ r. ⌜ r ≤ at + 16384 ⌝ }
 {
-    match reading::read_line(line) {
+    match questions::read_line(line) {
         Line::Nothing => at,
-        Line::Wrong(f) => lines::put_fault(f, out, at),
+        Line::Wrong(f) => answers::put_fault(f, out, at),
         Line::Asked(q, named) => {
-            reading::keep_words(line, named, v, anchor, other, data);
+            questions::keep_words(line, named, v, anchor, other, data);
             asking::ask(q, v, anchor, other, data, out, at)
         }
     }
 }
 
-fn write_out(out: &Page, count: usize) {
+fn complain(text: &[u8]) {
+    io::write_all(STDERR_FILENO, text);
+}
+
+fn write_out(out: &Page, count: usize)
+    requires { ⌜ count ≤ 65536 ⌝ }
+{
     let s: &[u8] = out;
-    if count <= s.len() {
-        io::write_all(STDOUT_FILENO, &s[0..count]);
+    if !io::write_all(STDOUT_FILENO, &s[0..count]) {
+        complain(b"query: answers could not be written\n");
     }
 }
 
 // The place for the next answer: the page's start once the page is full and written.
 fn make_room(out: &Page, at: usize) -> usize
+    requires { ⌜ at ≤ 65536 ⌝ }
     ensures { λ r. ⌜ r + 16384 ≤ 65536 ⌝ }
 {
     if at <= FULL {
@@ -83,7 +89,7 @@ fn take_block(
         if b == b'\n' {
             let next = make_room(out, at);
             at = answer(
-                values::front(line, filled as u64),
+                questions::front(line, filled as u64),
                 v,
                 anchor,
                 other,
@@ -114,6 +120,9 @@ fn turn(
 ) -> Taken {
     let mut block = io::large_buffer();
     let got = libc::read(STDIN_FILENO, &mut block);
+    if got < 0 {
+        complain(b"query: the input could not be read\n");
+    }
     if got <= 0 {
         return Taken {
             begun,
@@ -132,7 +141,7 @@ fn turn(
 // newline is taken as if it had one.
 fn main() {
     let mut line = [0u8; 4097];
-    let mut v = values::start();
+    let mut v = questions::start();
     let mut anchor = [0u8; 64];
     let mut other = [0u8; 64];
     let mut data = [0u8; 1024];

@@ -1,65 +1,19 @@
 // A picture of one transmitted subframe, drawn from what backward answers at each place of it.
-use crate::lines;
-use crate::reading::Kind;
-use crate::values;
-use crate::values::I;
-use crate::values::Values;
+use crate::either;
+use questions::I;
+use questions::Kind;
+use questions::Values;
 use sending::Back;
-use subframes::DownlinkPlace;
-use subframes::DownlinkPlan;
 use text::Page;
 use text::put;
 ghost use mathlib.Core.Path.{_≡_};
 ghost use Prim.Native.Nat.{_+_, _≤_};
 
-// A picture's grant is a downlink one.
-fn plan(k: Kind, v: &Values, anchor: &[u8], other: &[u8]) -> DownlinkPlan {
-    let c = values::cell_of(v);
-    match k {
-        Kind::Control => nbiot::plan_control(c, anchor, other, values::control_grant(v)),
-        _ => nbiot::plan_down(c, anchor, other, values::downlink_grant(v)),
-    }
-}
-
-fn forward(k: Kind, v: &Values, anchor: &[u8], other: &[u8], p: u64) -> DownlinkPlace {
-    let c = values::cell_of(v);
-    match k {
-        Kind::Control => nbiot::forward_control(c, anchor, other, values::control_grant(v), p),
-        _ => nbiot::forward_down(c, anchor, other, values::downlink_grant(v), p),
-    }
-}
-
-fn backward(
-    k: Kind,
-    v: &Values,
-    anchor: &[u8],
-    other: &[u8],
-    t: u64,
-    slot: u64,
-    l: u64,
-    s: u64,
-) -> Back {
-    let c = values::cell_of(v);
-    match k {
-        Kind::Control => nbiot::backward_control(
-            c,
-            anchor,
-            other,
-            values::control_grant(v),
-            t,
-            slot,
-            l,
-            s,
-        ),
-        _ => nbiot::backward_down(c, anchor, other, values::downlink_grant(v), t, slot, l, s),
-    }
-}
-
 // How many subframes a codeword has.
 fn codeword(k: Kind, v: &Values) -> u64 {
     match k {
         Kind::Control => 1,
-        _ => values::codeword_subframes(v),
+        _ => questions::codeword_subframes(v),
     }
 }
 
@@ -112,11 +66,11 @@ fn put_row(
     ensures { λ r. ⌜ r ≡ at + 15 ⌝ }
 {
     let mut row = [b'\n'; 15];
-    let control = values::control_region(v);
+    let control = questions::control_region(v);
     let mut i: usize = 0;
     while i < 14 {
         let x = i as u64;
-        let b = backward(k, v, anchor, other, t, x / 7, x % 7, subcarrier);
+        let b = either::backward(k, v, anchor, other, t, x / 7, x % 7, subcarrier);
         row[i] = mark(b, x < control);
         i += 1;
     }
@@ -156,10 +110,10 @@ pub fn put_picture(
     requires { ⌜ at + 640 ≤ 65536 ⌝ }
     ensures { λ r. ⌜ r ≤ at + 640 ⌝ }
 {
-    let a = plan(k, v, anchor, other);
+    let a = either::plan(k, v, anchor, other);
     let width = quotient(quotient(a.places, a.copies), codeword(k, v));
-    let place = forward(k, v, anchor, other, first_position(a.places, width, v[I]));
-    let mid = lines::put_cell(place.no, out, at);
+    let place = either::forward(k, v, anchor, other, first_position(a.places, width, v[I]));
+    let mid = answers::put_cell(place.no, out, at);
     if place.no != 0 {
         return mid;
     }

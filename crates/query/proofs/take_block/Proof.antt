@@ -1,12 +1,13 @@
 use native.Mathlib.Omega.{arith}
 use borrow.Author.Needs.{needs}
-use Prim.Native.Nat.{_-_}
+use Prim.Native.Nat.{_-_, _≤_}
+use mathlib.Core.Logic.{⊎-elim}
 use lib.ListN.{length}
 use Rattle.query.proofs.take_block.Statement.{statement}
 use Rattle.query.proofs.take_block.Tie as tie
 
 abbrev Inv-loop : tie.InvT-loop
-Inv-loop block line₀ begun v₀ anchor₀ other₀ data₀ out₀ filled₀ at₀ i₀ line v anchor other «data» out filled at i = Unit {0}
+Inv-loop block line₀ begun v₀ anchor₀ other₀ data₀ out₀ filled₀ at₀ i₀ line v anchor other «data» out filled at i = at ≤ 65536
 
 abbrev μ-loop : tie.MeasureT-loop
 μ-loop block line₀ begun v₀ anchor₀ other₀ data₀ out₀ filled₀ at₀ i₀ line v anchor other «data» out filled at i = length block - i
@@ -22,6 +23,6 @@ take-block-spec = tie.close (tie.spec Inv-loop μ-loop
     (λ c. search needs)
     (λ c. search needs)
     (λ c. search needs)
-    (λ c. search needs)
+    (λ c. ⊎-elim (λ w. omega arith) (⊎-elim (λ w. omega arith) (λ w. omega arith)) (c .if1 .came))
     (λ c κs. search needs)
     (λ c. search needs))

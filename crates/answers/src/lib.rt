@@ -1,7 +1,7 @@
-// The answers' lines, put into the output. Each has at most 320 bytes, but a fill's.
+// The answers' lines, put into a page of output. Each has at most 320 bytes, but a fill's.
 ghost use Prim.Native.Nat.{_+_, _≤_};
 ghost use lib.ListN.{length};
-use crate::reading::Fault;
+use questions::Fault;
 use sending::Back;
 use slots::UplinkPlace;
 use slots::UplinkPlan;

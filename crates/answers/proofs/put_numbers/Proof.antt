@@ -3,8 +3,8 @@ use borrow.Author.Needs.{needs}
 use mathlib.Core.Path.{_≡_}
 use Prim.Native.Nat.{_+_, _*_, _-_, _≤_}
 use lib.ListN.{length}
-use Rattle.query.proofs.lines.put_numbers.Statement.{statement}
-use Rattle.query.proofs.lines.put_numbers.Tie as tie
+use Rattle.answers.proofs.put_numbers.Statement.{statement}
+use Rattle.answers.proofs.put_numbers.Tie as tie
 
 abbrev Inv-loop : tie.InvT-loop
 Inv-loop numbers out₀ at to₀ i₀ t7 out to i = (i ≤ length numbers) × (to ≡ at + i * 9)

@@ -2,8 +2,8 @@ use native.Mathlib.Omega.{arith}
 use borrow.Author.Needs.{needs}
 use Prim.Native.Nat.{_-_}
 use lib.ListN.{length}
-use Rattle.query.proofs.reading.keep_words.Statement.{statement}
-use Rattle.query.proofs.reading.keep_words.Tie as tie
+use Rattle.questions.proofs.reading.keep_words.Statement.{statement}
+use Rattle.questions.proofs.reading.keep_words.Tie as tie
 
 abbrev Inv-loop : tie.InvT-loop
 Inv-loop line named v₀ anchor₀ other₀ data₀ end₀ v anchor other «data» end = Unit {0}

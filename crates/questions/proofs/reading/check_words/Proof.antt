@@ -2,8 +2,8 @@ use native.Mathlib.Omega.{arith}
 use borrow.Author.Needs.{needs}
 use Prim.Native.Nat.{_≤_, _-_}
 use lib.ListN.{length}
-use Rattle.query.proofs.reading.check_words.Statement.{statement}
-use Rattle.query.proofs.reading.check_words.Tie as tie
+use Rattle.questions.proofs.reading.check_words.Statement.{statement}
+use Rattle.questions.proofs.reading.check_words.Tie as tie
 
 abbrev Inv-loop : tie.InvT-loop
 Inv-loop line named q end₀ end = end ≤ length line

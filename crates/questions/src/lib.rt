@@ -1,0 +1,32 @@
+// The questions of the text program: a line read, and the values kept from line to line.
+mod reading;
+mod values;
+
+pub use reading::Fault;
+pub use reading::Kind;
+pub use reading::LONGEST;
+pub use reading::Line;
+pub use reading::Question;
+pub use reading::keep_words;
+pub use reading::read_line;
+pub use values::ANCHOR;
+pub use values::DATA;
+pub use values::I;
+pub use values::K;
+pub use values::L;
+pub use values::OTHER;
+pub use values::P;
+pub use values::ROOM;
+pub use values::SLOT;
+pub use values::T;
+pub use values::Values;
+pub use values::cell_of;
+pub use values::codeword_subframes;
+pub use values::control_grant;
+pub use values::control_region;
+pub use values::downlink_grant;
+pub use values::front;
+pub use values::level_of;
+pub use values::start;
+pub use values::uplink_grant;
+pub use values::walk_of;
