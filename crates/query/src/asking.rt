@@ -72,7 +72,7 @@ fn step(k: Kind, v: &mut Values, anchor: &[u8], other: &[u8], out: &mut Page, at
     requires { ⌜ at + 320 ≤ 65536 ⌝ }
     ensures { λ r. ⌜ r ≤ at + 320 ⌝ }
 {
-    let s = walk::step_value(questions::walk_of(k, v), anchor, other);
+    let s = nbiot::step_value(questions::walk_of(k, v), anchor, other);
     let answer = s.answer;
     let p = s.walk.p;
     v[P] = p;
@@ -109,7 +109,7 @@ fn fill_room(
     let c = questions::cell_of(v);
     let g = questions::downlink_grant(v);
     let level = questions::level_of(v);
-    let no = fill::fill(c, anchor, other, g, v[I], data, level, room);
+    let no = nbiot::fill(c, anchor, other, g, v[I], data, level, room);
     answers::put_fill(no, room, out, at)
 }
 
@@ -130,7 +130,7 @@ fn element(v: &Values, anchor: &[u8], other: &[u8], data: &[u8], out: &mut Page,
     let c = questions::cell_of(v);
     let g = questions::downlink_grant(v);
     let level = questions::level_of(v);
-    let e = fill::element(c, anchor, other, g, v[I], v[SLOT], v[L], v[K], data, level);
+    let e = nbiot::element(c, anchor, other, g, v[I], v[SLOT], v[L], v[K], data, level);
     answers::put_element(symbol::numbers(e), out, at)
 }
 
