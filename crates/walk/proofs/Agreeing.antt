@@ -1,0 +1,119 @@
+-- Plan and forward agree on a grant: forward refuses what plan refuses, answers below plan's places, and gives 14 from there on.
+use mathlib.Core.Bool.{Bool, cond}
+use mathlib.Core.List.{List}
+use mathlib.Core.Path.{_≡_, refl, sym, ap, _∙_}
+use Prim.Native.Nat.{ℕ, _^_, _≤_, _<_}
+use native.Mathlib.Nat.{mul-le-mul, le-of-lt}
+use native.Mathlib.Omega.{arith}
+use native.Mathlib.Decide.{ℕ-discrete}
+use borrow.Author.Tests.{eq-eqb, ne-eqb, lt-ltb, le-ltb}
+use Rattle.elements.proofs.Laws.{count-le}
+use Rattle.cell.specs.declared.Cell.{Cell}
+use Rattle.cell.specs.Judge.{judgeOf}
+use Rattle.slots.specs.Answers as slots
+use Rattle.slots.specs.Mapping as uplinkMapping
+use Rattle.slots.proofs.Joined as uplinkJoined
+use Rattle.slots.proofs.Lines.{slot-data-small}
+use Rattle.subframes.specs.declared.Burst.{Burst}
+use Rattle.subframes.specs.Fits.{Fits}
+use Rattle.subframes.specs.Mapping.{places}
+use Rattle.subframes.specs.Answers.{burstPlan, burstForward, planAnswer, forwardAnswer}
+use Rattle.subframes.specs.Cells.{questionRefusal}
+use Rattle.subframes.proofs.Joined.{sent-small, places-small}
+use Rattle.subframes.proofs.Judging.{accepted-cell}
+use Rattle.uplink.specs.declared.UplinkGrant.{UplinkGrant}
+use Rattle.uplink.specs.Refusals.{refusal}
+use Rattle.uplink.specs.Shaping.{shapeOf}
+use Rattle.uplink.specs.Questions as up
+use Rattle.uplink.proofs.Acceptance.{fits}
+use Rattle.downlink.specs.Questions as down
+use Rattle.downlink.proofs.Accepting as downAccepting
+use Rattle.control.specs.Questions as control
+use Rattle.control.proofs.Accepting as controlAccepting
+use Rattle.walk.specs.declared.Grant.{Grant}
+use Rattle.walk.specs.declared.Grant.the-variants.{Up, Down, Control}
+use Rattle.walk.specs.Step.{fromUplink, fromDownlink, refusedStep, Asked, asked}
+
+pub record Agrees (q : Asked) : Type 0 where
+  pub refused : (p : ℕ) → (q .no ≡ 0 → ⊥) → q .at p ≡ refusedStep (q .no)
+  pub inside : (p : ℕ) → q .no ≡ 0 → p < q .places → q .at p .no ≡ 0
+  pub past : (p : ℕ) → q .no ≡ 0 → q .places ≤ p → q .at p ≡ refusedStep 14
+  -- a position below the total has a next one
+  pub small : q .no ≡ 0 → q .places < 2 ^ 63
+
+-- ---- uplink
+
+module _ (g : UplinkGrant) where
+  abbrev upAsked : Asked
+  upAsked = record { no = up.planOf g .no; places = up.planOf g .places; at = λ p. fromUplink (up.forwardOf g p) }
+
+  up-small : refusal g ≡ 0 → uplinkMapping.places (shapeOf g) < 2 ^ 63
+  up-small e =
+      let f = fits g e in
+      omega (arith, mul-le-mul (le-of-lt (uplinkJoined.sent-small (shapeOf g) f)) (le-of-lt (slot-data-small (shapeOf g) f)))
+
+  up-agrees : Agrees upAsked
+  unfolding up.planOf up.forwardOf slots.shapePlan slots.shapeForward
+  up-agrees = by (ℕ-discrete (refusal g) 0)
+    where
+      by : Dec (refusal g ≡ 0) → Agrees upAsked
+      by (yes e) = rw (eq-eqb (refusal g) 0 e) record {
+        refused = λ p n. absurd (n refl);
+        inside = λ p z h. rw (lt-ltb p (uplinkMapping.places (shapeOf g)) h) refl;
+        past = λ p z h. rw (le-ltb p (uplinkMapping.places (shapeOf g)) h) refl;
+        small = λ z. up-small e;
+      }
+      by (no n) = rw (ne-eqb (refusal g) 0 n) record {
+        refused = λ p h. refl;
+        inside = λ p z h. absurd (n z);
+        past = λ p z h. absurd (n z);
+        small = λ z. absurd (n z);
+      }
+
+-- ---- downlink
+
+module _ (refusal : ℕ) (u : ℕ → Bool) (P : ℕ) (b : Burst) (f : refusal ≡ 0 → Fits b) where
+  abbrev burstAsked : Asked
+  burstAsked = record { no = planAnswer refusal u P b .no; places = planAnswer refusal u P b .places; at = λ p. fromDownlink (forwardAnswer refusal u P b p) }
+
+  burst-small : refusal ≡ 0 → places b < 2 ^ 63
+  burst-small e = omega (arith, places-small _ _ (sent-small b (f e)) (count-le (b .layout) (b .low) (b .width)))
+
+  burst-agrees : Agrees burstAsked
+  unfolding planAnswer forwardAnswer burstPlan burstForward
+  burst-agrees = by (ℕ-discrete refusal 0)
+    where
+      by : Dec (refusal ≡ 0) → Agrees burstAsked
+      by (yes e) = rw (eq-eqb refusal 0 e) record {
+        refused = λ p n. absurd (n refl);
+        inside = λ p z h. rw (lt-ltb p (places b) h) refl;
+        past = λ p z h. rw (le-ltb p (places b) h) refl;
+        small = λ z. burst-small e;
+      }
+      by (no n) = rw (ne-eqb refusal 0 n) record {
+        refused = λ p h. refl;
+        inside = λ p z h. absurd (n z);
+        past = λ p z h. absurd (n z);
+        small = λ z. absurd (n z);
+      }
+
+-- an accepted question has an accepted cell and an accepted grant
+both-accepted : (c : Cell) (anchor other : List ℕ) (grant : ℕ) → questionRefusal c anchor other grant ≡ 0 → (judgeOf c anchor other ≡ 0) × (grant ≡ 0)
+unfolding questionRefusal
+both-accepted c anchor other grant e = by (ℕ-discrete (judgeOf c anchor other) 0)
+  where
+    by : Dec (judgeOf c anchor other ≡ 0) → (judgeOf c anchor other ≡ 0) × (grant ≡ 0)
+    by (yes z) = (z, sym (ap (λ (x : Bool). cond x grant (judgeOf c anchor other)) (eq-eqb (judgeOf c anchor other) 0 z)) ∙ e)
+    by (no n) = absurd (n (sym (ap (λ (x : Bool). cond x grant (judgeOf c anchor other)) (ne-eqb (judgeOf c anchor other) 0 n)) ∙ e))
+
+-- ---- any grant
+
+pub agrees : (c : Cell) (anchor other : List ℕ) (g : Grant) → Agrees (asked c anchor other g)
+unfolding asked down.planOf down.forwardOf control.planOf control.forwardOf
+agrees c anchor other (Up g) = up-agrees g
+agrees c anchor other (Down g) =
+    burst-agrees _ _ _ (down.burstOf c g)
+    (λ e. let a = both-accepted c anchor other _ e in downAccepting.burst-fits c g (accepted-cell c anchor other (a .0)) (a .1))
+agrees c anchor other (Control g) =
+    burst-agrees _ _ _ (control.burstOf c g)
+    (λ e. let a = both-accepted c anchor other _ e in controlAccepting.burst-fits c g (accepted-cell c anchor other (a .0)) (a .1))

@@ -1,0 +1,96 @@
+-- What a step of a walk answers, and the record that it leaves: 01 "Questions", the walk.
+use mathlib.Core.Bool.{Bool, cond, _&&_}
+use mathlib.Core.List.{List}
+use Prim.Native.Nat.{ℕ, _+_}
+use lib.Dec.{eqb, ltb}
+use Rattle.cell.specs.declared.Cell.{Cell}
+use Rattle.slots.specs.declared.UplinkPlace.{UplinkPlace}
+use Rattle.subframes.specs.declared.DownlinkPlace.{DownlinkPlace}
+use Rattle.uplink.specs.Questions as up
+use Rattle.downlink.specs.Questions as down
+use Rattle.control.specs.Questions as control
+use Rattle.walk.specs.declared.Grant.{Grant}
+use Rattle.walk.specs.declared.Grant.the-variants.{Up, Down, Control}
+use Rattle.walk.specs.declared.Walk.{Walk}
+use Rattle.walk.specs.declared.WalkPlace.{WalkPlace}
+use Rattle.walk.specs.declared.Moved.{Moved}
+use Rattle.walk.specs.declared.Stepped.{Stepped}
+
+-- ---- answers
+
+-- forward's answer in the columns of a step; in the uplink the slot alone is the time
+abbrev pub fromUplink : UplinkPlace → WalkPlace
+fromUplink a = record { no = a .no; finished = 0; t = 0; slot = a .slot; l = a .l; k = a .k; symbol = a .symbol }
+
+abbrev pub fromDownlink : DownlinkPlace → WalkPlace
+fromDownlink a = record { no = a .no; finished = 0; t = a .t; slot = a .slot; l = a .l; k = a .k; symbol = a .symbol }
+
+abbrev pub refusedStep : ℕ → WalkPlace
+refusedStep refusal = record { no = refusal; finished = 0; t = 0; slot = 0; l = 0; k = 0; symbol = 0 }
+
+abbrev pub finishedStep : WalkPlace
+finishedStep = record { no = 0; finished = 1; t = 0; slot = 0; l = 0; k = 0; symbol = 0 }
+
+-- ---- what is asked of a grant
+
+-- what plan and forward answer of it: the refusal number, the places, and forward at a position
+pub record Asked : Type 0 where
+  pub no : ℕ
+  pub places : ℕ
+  pub at : ℕ → WalkPlace
+
+-- an uplink grant has no use for the cell and the buffers
+unfoldable pub asked : Cell → List ℕ → List ℕ → Grant → Asked
+asked c anchor other (Up g) = record {
+  no = up.planOf g .no;
+  places = up.planOf g .places;
+  at = λ p. fromUplink (up.forwardOf g p);
+}
+asked c anchor other (Down g) = record {
+  no = down.planOf c anchor other g .no;
+  places = down.planOf c anchor other g .places;
+  at = λ p. fromDownlink (down.forwardOf c anchor other g p);
+}
+asked c anchor other (Control g) = record {
+  no = control.planOf c anchor other g .no;
+  places = control.planOf c anchor other g .places;
+  at = λ p. fromDownlink (control.forwardOf c anchor other g p);
+}
+
+abbrev pub askedOf : Walk → List ℕ → List ℕ → Asked
+askedOf w anchor other = asked (w .cell) anchor other (w .grant)
+
+-- the grant is accepted, and p is the number of its places
+abbrev pub isEnd : Asked → ℕ → Bool
+isEnd q p = eqb (q .no) 0 && eqb p (q .places)
+
+-- ---- a step
+
+abbrev pub onward : WalkPlace → ℕ → Moved
+onward answer p = record { answer = answer; p = p + 1 }
+
+abbrev pub unmoved : WalkPlace → ℕ → Moved
+unmoved answer p = record { answer = answer; p = p }
+
+-- a refused record has its number; below the total forward answers and p moves on; at the total the walk is finished; past it 14
+unfoldable pub moved : Asked → ℕ → Moved
+moved q p =
+    cond (eqb (q .no) 0)
+    (cond (ltb p (q .places)) (onward (q .at p) p)
+    (cond (eqb p (q .places)) (unmoved finishedStep p)
+    (unmoved (refusedStep 14) p)))
+    (unmoved (refusedStep (q .no)) p)
+
+abbrev pub movedOf : Walk → List ℕ → List ℕ → Moved
+movedOf w anchor other = moved (askedOf w anchor other) (w .p)
+
+-- the record with another position
+abbrev pub movedTo : Walk → ℕ → Walk
+movedTo w p = record { cell = w .cell; grant = w .grant; p = p }
+
+-- the answer, and the whole record afterwards: nothing but p moves
+unfoldable pub steppedOf : Walk → List ℕ → List ℕ → Stepped
+steppedOf w anchor other = record {
+  answer = movedOf w anchor other .answer;
+  walk = movedTo w (movedOf w anchor other .p);
+}
