@@ -69,7 +69,7 @@ fn burst(c: Cell, g: DownlinkGrant) -> Burst
 }
 
 // The question judged.
-fn ready(c: Cell, anchor: &[u8], other: &[u8], g: DownlinkGrant) -> Ready
+pub fn ready(c: Cell, anchor: &[u8], other: &[u8], g: DownlinkGrant) -> Ready
     ensures { λ r. ⌜ ReadyFor c (bitmapIn c (ownBuffer c (now (anchor .entry)) (now (other .entry)))) (refusalOf c (now (anchor .entry)) (now (other .entry)) g) (burstOf c g) r ⌝ }
 {
     let v = cell::judged(c, anchor, other);

@@ -88,7 +88,7 @@ fn free(v: u64, near: bool, far: bool) -> u64
 }
 
 // The used subcarriers of a row, by binary digits: its two halves are alike.
-fn row_mask(g: Layout, from: u64, width: u64, row: u64) -> u64
+pub fn row_mask(g: Layout, from: u64, width: u64, row: u64) -> u64
     requires { ⌜ Valid g × Part from width × (row < rows) ⌝ }
     ensures { λ r. ⌜ RowMask g from width row r ⌝ }
 {

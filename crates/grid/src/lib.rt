@@ -30,6 +30,11 @@ impl Grid {
 
     pub const ELEMENTS: u64 = Self::SLOTS * Self::SLOT_ELEMENTS;
 
+    // Real and imaginary numbers of a slot and of a subframe.
+    pub const SLOT_NUMBERS: u64 = 2 * Self::SLOT_ELEMENTS;
+
+    pub const NUMBERS: u64 = 2 * Self::ELEMENTS;
+
     // The number of an element, by slot, then symbol, then subcarrier.
     pub fn element(slot: u64, l: u64, k: u64) -> u64
         requires { ⌜ (slot < slots) × (l < symbols) × (k < subcarriers) ⌝ }

@@ -84,7 +84,7 @@ fn refused_place(no: u64) -> DownlinkPlace
 }
 
 // How many subframes are sent.
-fn sent_subframes(b: Burst) -> u64
+pub fn sent_subframes(b: Burst) -> u64
     requires { ⌜ Fits b ⌝ }
     ensures { λ r. ⌜ (r ≡ sentSubframes b) × (0 < r) × (r ≤ 2 ^ 20) ⌝ }
 {
@@ -94,7 +94,7 @@ fn sent_subframes(b: Burst) -> u64
 }
 
 // Used elements of a subframe.
-fn used_elements(b: Burst) -> u64
+pub fn used_elements(b: Burst) -> u64
     requires { ⌜ Fits b ⌝ }
     ensures { λ r. ⌜ (r ≡ countOf (b .layout) (b .low) (b .width)) × (0 < r) × (r ≤ elements) ⌝ }
 {
@@ -112,7 +112,7 @@ fn subframe_at(p: Pattern, b: Burst, i: u64) -> u64
 }
 
 // The codeword subframe that transmitted subframe i carries.
-fn carried_by(b: Burst, i: u64) -> u64
+pub fn carried_by(b: Burst, i: u64) -> u64
     requires { ⌜ Fits b ⌝ }
     ensures { λ r. ⌜ (r ≡ carried (b .row) 1 (b .codeword) i) × (r ≤ 2 ^ 8) ⌝ }
 {

@@ -1,0 +1,82 @@
+-- The answers of the public questions, from a judged call.
+use mathlib.Core.Bool.{Bool, true, false, cond, not, _&&_}
+use mathlib.Core.List.{List, _++_}
+use mathlib.Core.Path.{_≡_, refl, sym, ap, ap₂, _∙_}
+use Prim.Native.Nat.{ℕ, _+_, _*_, _<_}
+use native.Mathlib.Nat.{zero-add}
+use native.Mathlib.Omega.{arith}
+use lib.Dec.{eqb, ltb}
+use lib.Ieee.{Float}
+use lib.ListN.{length}
+use borrow.Author.Tests.{eq-eqb, ne-eqb, eqb-true, ltb-true, not-false}
+use Rattle.counting.proofs.Facts.{both-parts}
+use Rattle.grid.specs.Grid.{subcarriers, symbols, slots, slotElements, elements, numbers, elementOf}
+use Rattle.cell.specs.declared.Cell.{Cell}
+use Rattle.subframes.specs.Answers.{insideGrid}
+use Rattle.downlink.specs.declared.DownlinkGrant.{DownlinkGrant}
+use Rattle.symbol.specs.declared.Symbol.{Symbol}
+use Rattle.symbol.specs.declared.Outgoing.{Outgoing}
+use Rattle.symbol.specs.declared.Element.{Element}
+use Rattle.symbol.specs.declared.Element.the-variants.{Refused}
+use Rattle.symbol.specs.Outgoing.{writtenOf, answerOf}
+use Rattle.fill.specs.declared.Call.{Call}
+use Rattle.fill.specs.GoesOut.{outgoingOf}
+use Rattle.fill.specs.Refusals.{fillRefusal, elementRefusal}
+use Rattle.fill.specs.Fill.{laid, filledOf, outputOf}
+use Rattle.fill.specs.Element.{elementAnswer}
+use Rattle.fill.specs.Quick.{goesIn, writtenIn, CallFor}
+use Rattle.fill.proofs.Laid.{laid-plus, laid-same}
+use Rattle.fill.proofs.Calling.{call-passed}
+
+module _ (c : Cell) (anchor other : List ℕ) (g : DownlinkGrant) (i : ℕ) (bits : List ℕ) (level : Float) where
+  -- ---- the fill
+
+  module _ (out : List Float) (k : Call) (j : CallFor c anchor other g i false bits (not (eqb (length out) numbers)) level k) where
+    pub output-size : k .no ≡ 0 → length out ≡ numbers
+    output-size z =
+        eqb-true (length out) numbers (not-false (eqb (length out) numbers) (call-passed c anchor other g i false bits (not (eqb (length out) numbers)) level k j z .fitting))
+
+    pub output-refused : (k .no ≡ 0 → ⊥) → out ≡ outputOf c anchor other g i bits level out
+    output-refused n =
+        sym (ap (λ (t : Bool). cond t (filledOf c anchor other g i bits level) out)
+        (ne-eqb (fillRefusal c anchor other g i bits level out) 0 (λ z. n (j .number ∙ z))))
+
+    -- both slots, one after the other
+    pub both-slots : k .no ≡ 0
+        → laid (writtenIn (k .layout) (k .first) bits level (0 * slotElements)) slotElements ++ laid (writtenIn (k .layout) (k .first) bits level (1 * slotElements)) slotElements
+        ≡ filledOf c anchor other g i bits level
+    unfolding filledOf
+    both-slots z =
+        let at : ℕ → Symbol = λ x. writtenOf bits level (outgoingOf c anchor other g i x) in
+        ap₂ (λ (a b : List Float). a ++ b)
+        (laid-same (writtenIn (k .layout) (k .first) bits level (0 * slotElements)) at slotElements
+        (λ x. ap (λ (y : ℕ). writtenOf bits level (goesIn (k .layout) (k .first) y)) (zero-add x) ∙ ap (writtenOf bits level) (j .going z x)))
+        (laid-same (writtenIn (k .layout) (k .first) bits level (1 * slotElements)) (λ x. at (slotElements + x)) slotElements
+        (λ x. ap (writtenOf bits level) (j .going z (slotElements + x))))
+        ∙ sym (laid-plus at slotElements slotElements)
+
+    pub output-filled : k .no ≡ 0 → filledOf c anchor other g i bits level ≡ outputOf c anchor other g i bits level out
+    output-filled z =
+        sym (ap (λ (t : Bool). cond t (filledOf c anchor other g i bits level) out)
+        (eq-eqb (fillRefusal c anchor other g i bits level out) 0 (sym (j .number) ∙ z)))
+
+  -- ---- one element
+
+  module _ (slot l k : ℕ) (v : Call) (j : CallFor c anchor other g i (not (insideGrid slot l k)) bits false level v) where
+    pub element-inside : v .no ≡ 0 → (slot < slots) × (l < symbols) × (k < subcarriers)
+    element-inside z =
+        let inside = not-false (insideGrid slot l k) (call-passed c anchor other g i (not (insideGrid slot l k)) bits false level v j z .inside) in
+        let a = both-parts (ltb slot slots) (ltb l symbols && ltb k subcarriers) inside in
+        let b = both-parts (ltb l symbols) (ltb k subcarriers) (a .1) in
+        (ltb-true slot slots (a .0), ltb-true l symbols (b .0), ltb-true k subcarriers (b .1))
+
+    pub element-refused : (v .no ≡ 0 → ⊥) → Refused (v .no) ≡ elementAnswer c anchor other g i slot l k bits level
+    unfolding elementAnswer
+    element-refused n = rw (← j .number, ne-eqb (v .no) 0 n) refl
+
+    pub element-answered : (x : ℕ) (o : Outgoing) → v .no ≡ 0 → x ≡ elementOf slot l k → o ≡ goesIn (v .layout) (v .first) x
+        → answerOf bits level o ≡ elementAnswer c anchor other g i slot l k bits level
+    unfolding elementAnswer
+    element-answered x o z hx ho =
+        rw (← j .number, eq-eqb (v .no) 0 z)
+        (ap (answerOf bits level) (ho ∙ j .going z x ∙ ap (outgoingOf c anchor other g i) hx))

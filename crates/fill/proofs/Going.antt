@@ -1,0 +1,93 @@
+-- What the code works out for an element is what goes out there.
+use mathlib.Core.Bool.{Bool, true, false, cond, _&&_}
+use mathlib.Core.List.{List}
+use mathlib.Core.Path.{_≡_, refl, sym, ap, _∙_}
+use Prim.Native.Nat.{ℕ, _+_, _*_, _<_}
+use native.Mathlib.Omega.{arith}
+use lib.Dec.{eqb}
+use lib.ListN.{length}
+use borrow.Author.Tests.{ne-eqb}
+use Rattle.counting.specs.Counting.{rank, Lists}
+use Rattle.counting.proofs.Period.{lists}
+use Rattle.grid.specs.Grid.{subcarriers}
+use Rattle.cell.specs.declared.Cell.{Cell}
+use Rattle.cell.specs.Bitmap.{ownBuffer, bitmapIn}
+use Rattle.cell.specs.Usable.{period, usable}
+use Rattle.cell.proofs.Showing.{usable-repeats, some-usable}
+use Rattle.sending.specs.CopyOrder.{carried}
+use Rattle.sending.specs.Sending.{Content, contentAt}
+use Rattle.elements.specs.declared.Layout.{Layout}
+use Rattle.elements.specs.Elements.{countOf, used, numberOf, kindOf}
+use Rattle.elements.proofs.Laws.{used-listed}
+use Rattle.subframes.specs.declared.Burst.{Burst}
+use Rattle.subframes.specs.declared.Ready.{Ready}
+use Rattle.subframes.specs.Mapping.{sentSubframes, firstOf, sendingOf}
+use Rattle.subframes.specs.Cells.{layoutOf}
+use Rattle.subframes.specs.Quick.{standsIn, ReadyFor}
+use Rattle.downlink.specs.declared.DownlinkGrant.{DownlinkGrant}
+use Rattle.downlink.specs.Questions.{burstOf}
+use Rattle.symbol.specs.declared.Outgoing.{Outgoing}
+use Rattle.symbol.specs.declared.Outgoing.the-variants.{Ours}
+use Rattle.symbol.specs.Outgoing.{Within}
+use Rattle.fill.specs.GoesOut.{goesOut, outgoingOf}
+use Rattle.fill.specs.Quick.{goesIn, Prepared}
+
+-- the i-th subframe that is sent has what stands in it
+pub stands-at : (u : ℕ → Bool) (P : ℕ) → ((t : ℕ) → u (t + P) ≡ u t) → 0 < rank u P → (b : Burst) (i x : ℕ) → i < sentSubframes b
+    → contentAt (sendingOf u P b) (sendingOf u P b .time i) x ≡ standsIn b i x
+unfolding standsIn
+stands-at u P repeats some b i x h =
+    let L = lists u P repeats some (firstOf u P b) (sentSubframes b) in
+    rw (L .passes i h, L .placed i h) refl
+
+goes-by : (t : Bool) (a d : Content) → goesOut (cond t a d) ≡ cond t (goesOut a) (goesOut d)
+goes-by true a d = refl
+goes-by false a d = refl
+
+module _ (c : Cell) (anchor other : List ℕ) (g : DownlinkGrant) where
+  pub goes-in : (i x : ℕ) → goesOut (standsIn (burstOf c g) i x)
+      ≡ goesIn (layoutOf c) (carried (burstOf c g .row) 1 (burstOf c g .codeword) i * countOf (layoutOf c) 0 subcarriers) x
+  unfolding standsIn goesIn
+  goes-in i x = goes-by (used (layoutOf c) 0 subcarriers x) _ _
+
+  pub going : (refusal : ℕ) (q : Ready) → ReadyFor c (bitmapIn c (ownBuffer c anchor other)) refusal (burstOf c g) q → q .no ≡ 0
+      → (i x : ℕ) → i < sentSubframes (burstOf c g)
+      → goesIn (layoutOf c) (carried (burstOf c g .row) 1 (burstOf c g .codeword) i * countOf (layoutOf c) 0 subcarriers) x ≡ outgoingOf c anchor other g i x
+  unfolding outgoingOf
+  going refusal q r z i x h =
+      let m = bitmapIn c (ownBuffer c anchor other) in
+      sym (ap goesOut
+      (stands-at (usable c m) period (usable-repeats c m (q .pattern) (r .shows z))
+      (some-usable c m (q .pattern) (r .shows z) (r .answerable .going z .some)) (burstOf c g) i x h)
+      ∙ goes-in i x)
+
+-- ---- an element by its cases
+
+module _ (g : Layout) (first x : ℕ) where
+  pub goes-ours : (e : ℕ) → used g 0 subcarriers x ≡ true → e ≡ numberOf g 0 subcarriers x → Ours (first + e) ≡ goesIn g first x
+  unfolding goesIn
+  goes-ours e y h = rw (y, h) refl
+
+  pub goes-silent : (kind : ℕ) → used g 0 subcarriers x ≡ false → kind ≡ kindOf g x → kind ≡ 0 → Outgoing.Silent ≡ goesIn g first x
+  unfolding goesIn
+  goes-silent kind n h z = rw (n, ← h, z) refl
+
+  pub goes-reference : (kind : ℕ) → used g 0 subcarriers x ≡ false → kind ≡ kindOf g x → (kind ≡ 0 → ⊥) → Outgoing.Reference kind ≡ goesIn g first x
+  unfolding goesIn
+  goes-reference kind n h z = rw (n, ← h, ne-eqb kind 0 z) refl
+
+  -- a symbol that goes out has its bits
+  pub goes-within : (bits : List ℕ) (o : Outgoing) → Prepared g first bits → o ≡ goesIn g first x → Within bits o
+  unfolding goesIn
+  goes-within bits o p e = record { has = λ c h. by (used g 0 subcarriers x) refl c (sym e ∙ h) }
+    where
+      plain : (b : Bool) (k c : ℕ) → cond b Outgoing.Silent (Outgoing.Reference k) ≡ Ours c → ⊥
+      plain true k c h = let z : _≡_ {A = ℕ} 0 1 = cc in omega arith
+      plain false k c h = let z : _≡_ {A = ℕ} 0 1 = cc in omega arith
+
+      by : (b : Bool) → used g 0 subcarriers x ≡ b → (c : ℕ)
+          → cond b (Ours (first + numberOf g 0 subcarriers x)) (goesOut (Content.other (kindOf g x))) ≡ Ours c → c < 4 * length bits
+      by true y c h =
+          let same : first + numberOf g 0 subcarriers x ≡ c = cc in
+          omega (arith, p .room, used-listed g 0 subcarriers .below x y)
+      by false y c h = absurd (plain (eqb (kindOf g x) 0) (kindOf g x) c h)

@@ -1,0 +1,5 @@
+pub mod GoesOut
+pub mod Refusals
+pub mod Fill
+pub mod Element
+pub mod Quick
