@@ -3,13 +3,19 @@ use mathlib.Core.Bool.{cond, _||_}
 use mathlib.Core.List.{List, [], _∷_}
 use Prim.Native.Nat.{ℕ}
 use lib.Dec.{eqb}
+use lib.Ieee.{Float}
 use lib.ListN.{length, take, getD}
 use Rattle.cell.specs.declared.Cell.{Cell}
 use Rattle.cell.specs.Judge.{judgeOf, inForceOf}
 use Rattle.uplink.specs.Questions as up
 use Rattle.downlink.specs.Questions as down
 use Rattle.control.specs.Questions as control
-use Rattle.nbiot_c.specs.Buffers.{cellOf, upGrantOf, downGrantOf, controlGrantOf, upPlanNumbers, downPlanNumbers, upPlaceNumbers, downPlaceNumbers, backNumbers, lacks, tooShort, Reply, replyOf}
+use Rattle.walk.specs.Step.{steppedOf}
+use Rattle.symbol.specs.Outgoing.{numbersOf}
+use Rattle.fill.specs.Refusals.{fillRefusal}
+use Rattle.fill.specs.Fill.{outputOf}
+use Rattle.fill.specs.Element.{elementAnswer}
+use Rattle.nbiot_c.specs.Buffers.{cellOf, upGrantOf, downGrantOf, controlGrantOf, upPlanNumbers, downPlanNumbers, upPlaceNumbers, downPlaceNumbers, backNumbers, upWalkOf, downWalkOf, controlWalkOf, lacks, tooShort, Reply, replyOf, StepReply, stepReplyOf, FillReply, fillReplyOf, ElementReply, elementReplyOf}
 
 unfoldable pub judge : List ℕ → List ℕ → List ℕ → ℕ
 judge cell anchor other = cond (lacks 8 cell) tooShort (judgeOf (cellOf cell) anchor other)
@@ -78,3 +84,32 @@ backwardControl cell anchor other grant t slot l k answer =
     replyOf (lacks 8 cell || (lacks 4 grant || lacks 5 answer))
     (backNumbers (control.backwardOf (cellOf cell) anchor other (controlGrantOf grant) t slot l k))
     answer
+
+-- ---- step
+
+unfoldable pub stepUp : List ℕ → List ℕ → StepReply
+stepUp walk answer = stepReplyOf (lacks 8 walk || lacks 7 answer) (steppedOf (upWalkOf walk) [] []) walk answer
+
+unfoldable pub stepDown : List ℕ → List ℕ → List ℕ → List ℕ → StepReply
+stepDown walk anchor other answer =
+    stepReplyOf (lacks 14 walk || lacks 7 answer) (steppedOf (downWalkOf walk) anchor other) walk answer
+
+unfoldable pub stepControl : List ℕ → List ℕ → List ℕ → List ℕ → StepReply
+stepControl walk anchor other answer =
+    stepReplyOf (lacks 13 walk || lacks 7 answer) (steppedOf (controlWalkOf walk) anchor other) walk answer
+
+-- ---- fill, and one element: an output that is no subframe's is refused by 15
+
+unfoldable pub fill : List ℕ → List ℕ → List ℕ → List ℕ → ℕ → List ℕ → Float → List Float → FillReply
+fill cell anchor other grant i bits level output =
+    fillReplyOf (lacks 8 cell || lacks 5 grant)
+    (fillRefusal (cellOf cell) anchor other (downGrantOf grant) i bits level output)
+    (outputOf (cellOf cell) anchor other (downGrantOf grant) i bits level output)
+    output
+
+unfoldable pub element : List ℕ → List ℕ → List ℕ → List ℕ → ℕ → ℕ → ℕ → ℕ → List ℕ → Float → List ℕ → List Float → ElementReply
+element cell anchor other grant i slot l k bits level answer amplitudes =
+    elementReplyOf ((lacks 8 cell || lacks 5 grant) || (lacks 2 answer || lacks 2 amplitudes))
+    (numbersOf (elementAnswer (cellOf cell) anchor other (downGrantOf grant) i slot l k bits level))
+    answer
+    amplitudes

@@ -3,11 +3,13 @@ ghost use mathlib.Core.List.{[], _∷_};
 ghost use mathlib.Core.Path.{_≡_};
 ghost use Prim.Native.Nat.{_≤_};
 ghost use lib.ListN.{length};
-ghost use Rattle.nbiot_c.specs.Buffers.{cellOf, upGrantOf, downGrantOf, controlGrantOf, Short2, Short3, laid};
+ghost use Rattle.nbiot_c.specs.Buffers.{cellOf, upGrantOf, downGrantOf, controlGrantOf, upWalkOf, downWalkOf, controlWalkOf, Short2, Short3, laid};
 use cell::Cell;
 use control::ControlGrant;
 use downlink::DownlinkGrant;
 use uplink::UplinkGrant;
+use walk::Grant;
+use walk::Walk;
 
 // A buffer has fewer numbers than it needs; of two buffers, and of three.
 pub fn short2(m: usize, n: usize, s: usize, t: usize) -> bool
@@ -78,7 +80,73 @@ pub fn control_grant_of(s: &[u64]) -> ControlGrant
     }
 }
 
+// A walk's record: the position, the cell of a downlink grant, and the grant.
+pub fn up_walk_of(s: &[u64]) -> Walk
+    requires { ⌜ 8 ≤ length (now s) ⌝ }
+    ensures { λ r. ⌜ r ≡ upWalkOf (now (s .entry)) ⌝ }
+{
+    let cell = Cell {
+        mode: 0,
+        carrier: 0,
+        identity: 0,
+        nports: 0,
+        cports: 0,
+        control: 0,
+        sib1: 0,
+        bits: 0,
+    };
+    let grant = Grant::Up(up_grant_of(&s[1..]));
+    Walk {
+        cell,
+        grant,
+        p: s[0],
+    }
+}
+
+pub fn down_walk_of(s: &[u64]) -> Walk
+    requires { ⌜ 14 ≤ length (now s) ⌝ }
+    ensures { λ r. ⌜ r ≡ downWalkOf (now (s .entry)) ⌝ }
+{
+    let cell = cell_of(&s[1..]);
+    let grant = Grant::Down(down_grant_of(&s[9..]));
+    Walk {
+        cell,
+        grant,
+        p: s[0],
+    }
+}
+
+pub fn control_walk_of(s: &[u64]) -> Walk
+    requires { ⌜ 13 ≤ length (now s) ⌝ }
+    ensures { λ r. ⌜ r ≡ controlWalkOf (now (s .entry)) ⌝ }
+{
+    let cell = cell_of(&s[1..]);
+    let grant = Grant::Control(control_grant_of(&s[9..]));
+    Walk {
+        cell,
+        grant,
+        p: s[0],
+    }
+}
+
 // Numbers at the front of a buffer; the first is returned.
+pub fn put1(s: &mut [u64], a: u64) -> u64
+    requires { ⌜ 1 ≤ length (now s) ⌝ }
+    ensures { λ r. ⌜ (r ≡ a) × (now (s .exit) ≡ laid (a ∷ []) (now (s .entry))) ⌝ }
+{
+    s[0] = a;
+    a
+}
+
+pub fn put2(s: &mut [u64], a: u64, b: u64) -> u64
+    requires { ⌜ 2 ≤ length (now s) ⌝ }
+    ensures { λ r. ⌜ (r ≡ a) × (now (s .exit) ≡ laid (a ∷ b ∷ []) (now (s .entry))) ⌝ }
+{
+    s[0] = a;
+    s[1] = b;
+    a
+}
+
 pub fn put3(s: &mut [u64], a: u64, b: u64, c: u64) -> u64
     requires { ⌜ 3 ≤ length (now s) ⌝ }
     ensures { λ r. ⌜ (r ≡ a) × (now (s .exit) ≡ laid (a ∷ b ∷ c ∷ []) (now (s .entry))) ⌝ }
@@ -126,4 +194,13 @@ pub fn put7(s: &mut [u64], a: u64, b: u64, c: u64, d: u64, e: u64, f: u64, g: u6
     s[5] = f;
     s[6] = g;
     a
+}
+
+// Amplitudes at the front of a buffer.
+pub fn put_amplitudes(s: &mut [f32], re: f32, im: f32)
+    requires { ⌜ 2 ≤ length (now s) ⌝ }
+    ensures { λ _. ⌜ now (s .exit) ≡ laid (re ∷ im ∷ []) (now (s .entry)) ⌝ }
+{
+    s[0] = re;
+    s[1] = im;
 }

@@ -248,3 +248,148 @@ pub extern "C" fn nbiot_backward_control(
     );
     buffers::put5(answer, a.no, a.ours, a.symbol, a.position, a.kind)
 }
+
+// One step of a walk: the answer at its position, which moves on.
+#[no_mangle]
+pub extern "C" fn nbiot_step_up(walk: &mut [u64], answer: &mut [u64]) -> u64
+    ensures { λ r. ⌜ (r ≡ calls.stepUp (now (walk .entry)) (now (answer .entry)) .number) × (now (walk .exit) ≡ calls.stepUp (now (walk .entry)) (now (answer .entry)) .walk) × (now (answer .exit) ≡ calls.stepUp (now (walk .entry)) (now (answer .entry)) .answer) ⌝ }
+{
+    if buffers::short2(8, 7, walk.len(), answer.len()) {
+        return TOO_SHORT;
+    }
+    let s = walk::step_value(buffers::up_walk_of(walk), b"", b"");
+    buffers::put1(walk, s.walk.p);
+    buffers::put7(
+        answer,
+        s.answer.no,
+        s.answer.finished,
+        s.answer.t,
+        s.answer.slot,
+        s.answer.l,
+        s.answer.k,
+        s.answer.symbol,
+    )
+}
+
+// One step of a walk: the answer at its position, which moves on.
+#[no_mangle]
+pub extern "C" fn nbiot_step_down(
+    walk: &mut [u64],
+    anchor: &[u8],
+    other: &[u8],
+    answer: &mut [u64],
+) -> u64
+    ensures { λ r. ⌜ (r ≡ calls.stepDown (now (walk .entry)) (now (anchor .entry)) (now (other .entry)) (now (answer .entry)) .number) × (now (walk .exit) ≡ calls.stepDown (now (walk .entry)) (now (anchor .entry)) (now (other .entry)) (now (answer .entry)) .walk) × (now (answer .exit) ≡ calls.stepDown (now (walk .entry)) (now (anchor .entry)) (now (other .entry)) (now (answer .entry)) .answer) ⌝ }
+{
+    if buffers::short2(14, 7, walk.len(), answer.len()) {
+        return TOO_SHORT;
+    }
+    let s = walk::step_value(buffers::down_walk_of(walk), anchor, other);
+    buffers::put1(walk, s.walk.p);
+    buffers::put7(
+        answer,
+        s.answer.no,
+        s.answer.finished,
+        s.answer.t,
+        s.answer.slot,
+        s.answer.l,
+        s.answer.k,
+        s.answer.symbol,
+    )
+}
+
+// One step of a walk: the answer at its position, which moves on.
+#[no_mangle]
+pub extern "C" fn nbiot_step_control(
+    walk: &mut [u64],
+    anchor: &[u8],
+    other: &[u8],
+    answer: &mut [u64],
+) -> u64
+    ensures { λ r. ⌜ (r ≡ calls.stepControl (now (walk .entry)) (now (anchor .entry)) (now (other .entry)) (now (answer .entry)) .number) × (now (walk .exit) ≡ calls.stepControl (now (walk .entry)) (now (anchor .entry)) (now (other .entry)) (now (answer .entry)) .walk) × (now (answer .exit) ≡ calls.stepControl (now (walk .entry)) (now (anchor .entry)) (now (other .entry)) (now (answer .entry)) .answer) ⌝ }
+{
+    if buffers::short2(13, 7, walk.len(), answer.len()) {
+        return TOO_SHORT;
+    }
+    let s = walk::step_value(buffers::control_walk_of(walk), anchor, other);
+    buffers::put1(walk, s.walk.p);
+    buffers::put7(
+        answer,
+        s.answer.no,
+        s.answer.finished,
+        s.answer.t,
+        s.answer.slot,
+        s.answer.l,
+        s.answer.k,
+        s.answer.symbol,
+    )
+}
+
+// The 336 numbers of transmitted subframe i.
+#[no_mangle]
+pub extern "C" fn nbiot_fill(
+    cell: &[u64],
+    anchor: &[u8],
+    other: &[u8],
+    grant: &[u64],
+    i: u64,
+    bits: &[u8],
+    level: f32,
+    output: &mut [f32],
+) -> u64
+    ensures { λ r. ⌜ (r ≡ calls.fill (now (cell .entry)) (now (anchor .entry)) (now (other .entry)) (now (grant .entry)) i (now (bits .entry)) level (now (output .entry)) .number) × (now (output .exit) ≡ calls.fill (now (cell .entry)) (now (anchor .entry)) (now (other .entry)) (now (grant .entry)) i (now (bits .entry)) level (now (output .entry)) .output) ⌝ }
+{
+    if buffers::short2(8, 5, cell.len(), grant.len()) {
+        return TOO_SHORT;
+    }
+    fill::fill(
+        buffers::cell_of(cell),
+        anchor,
+        other,
+        buffers::down_grant_of(grant),
+        i,
+        bits,
+        level,
+        output,
+    )
+}
+
+// One element of transmitted subframe i.
+#[no_mangle]
+pub extern "C" fn nbiot_element(
+    cell: &[u64],
+    anchor: &[u8],
+    other: &[u8],
+    grant: &[u64],
+    i: u64,
+    slot: u64,
+    l: u64,
+    k: u64,
+    bits: &[u8],
+    level: f32,
+    answer: &mut [u64],
+    amplitudes: &mut [f32],
+) -> u64
+    ensures { λ r. ⌜ (r ≡ calls.element (now (cell .entry)) (now (anchor .entry)) (now (other .entry)) (now (grant .entry)) i slot l k (now (bits .entry)) level (now (answer .entry)) (now (amplitudes .entry)) .number) × (now (answer .exit) ≡ calls.element (now (cell .entry)) (now (anchor .entry)) (now (other .entry)) (now (grant .entry)) i slot l k (now (bits .entry)) level (now (answer .entry)) (now (amplitudes .entry)) .answer) × (now (amplitudes .exit) ≡ calls.element (now (cell .entry)) (now (anchor .entry)) (now (other .entry)) (now (grant .entry)) i slot l k (now (bits .entry)) level (now (answer .entry)) (now (amplitudes .entry)) .amplitudes) ⌝ }
+{
+    if buffers::short2(8, 5, cell.len(), grant.len())
+        | buffers::short2(2, 2, answer.len(), amplitudes.len())
+    {
+        return TOO_SHORT;
+    }
+    let e = fill::element(
+        buffers::cell_of(cell),
+        anchor,
+        other,
+        buffers::down_grant_of(grant),
+        i,
+        slot,
+        l,
+        k,
+        bits,
+        level,
+    );
+    let a = symbol::numbers(e);
+    buffers::put_amplitudes(amplitudes, a.re, a.im);
+    buffers::put2(answer, a.no, a.state)
+}

@@ -1,0 +1,39 @@
+//! The questions in plain Rust, as fast as we can write them. Nothing is kept between calls: each call judges its cell and
+//! its grant. No loop runs over subframes or elements, but for the fill, which writes its numbers once.
+//! Cells, grants and answers are in the order of include/nbiot.h.
+
+mod cell;
+mod downlink;
+mod elements;
+mod uplink;
+
+pub use cell::judge;
+pub use downlink::{backward_control, backward_down, forward_control, forward_down, plan_control, plan_down};
+pub use uplink::{backward_up, forward_up, plan_up};
+
+pub type Cell = [u64; 8];
+pub type UpGrant = [u64; 7];
+pub type DownGrant = [u64; 5];
+pub type ControlGrant = [u64; 4];
+
+const LAST_SUBFRAME: u64 = (1 << 30) - 1;
+const LENGTHS: [u32; 8] = [1, 2, 3, 4, 5, 6, 8, 10];
+
+/// An answer of a refused question: its number, and zeros.
+#[inline(always)]
+fn refused<const N: usize>(no: u64) -> [u64; N] {
+    let mut answer = [0; N];
+    answer[0] = no;
+    answer
+}
+
+/// Backward's answers.
+#[inline(always)]
+fn ours(symbol: u64, position: u64) -> [u64; 5] {
+    [0, 1, symbol, position, 0]
+}
+
+#[inline(always)]
+fn other(kind: u64) -> [u64; 5] {
+    [0, 0, 0, 0, kind]
+}
