@@ -1,12 +1,28 @@
 //! The proved library, through its C functions. A call is safe: each buffer goes with its own length.
 
-use crate::fast::{Cell, ControlGrant, DownGrant, UpGrant};
+use crate::fast::{Cell, ControlGrant, ControlWalk, DownGrant, DownWalk, UpGrant, UpWalk};
 
 extern "C" {
     fn nbiot_judge(cell: *const u64, cells: usize, anchor: *const u8, anchors: usize, other: *const u8, others: usize) -> u64;
     fn nbiot_plan_up(grant: *const u64, grants: usize, answer: *mut u64, answers: usize) -> u64;
     fn nbiot_forward_up(grant: *const u64, grants: usize, p: u64, answer: *mut u64, answers: usize) -> u64;
     fn nbiot_backward_up(grant: *const u64, grants: usize, slot: u64, l: u64, k: u64, answer: *mut u64, answers: usize) -> u64;
+    fn nbiot_step_up(walk: *mut u64, walks: usize, answer: *mut u64, answers: usize) -> u64;
+    fn nbiot_step_down(
+        walk: *mut u64, walks: usize, anchor: *const u8, anchors: usize, other: *const u8, others: usize, answer: *mut u64, answers: usize,
+    ) -> u64;
+    fn nbiot_step_control(
+        walk: *mut u64, walks: usize, anchor: *const u8, anchors: usize, other: *const u8, others: usize, answer: *mut u64, answers: usize,
+    ) -> u64;
+    fn nbiot_fill(
+        cell: *const u64, cells: usize, anchor: *const u8, anchors: usize, other: *const u8, others: usize,
+        grant: *const u64, grants: usize, i: u64, bits: *const u8, bytes: usize, level: f32, output: *mut f32, outputs: usize,
+    ) -> u64;
+    fn nbiot_element(
+        cell: *const u64, cells: usize, anchor: *const u8, anchors: usize, other: *const u8, others: usize,
+        grant: *const u64, grants: usize, i: u64, slot: u64, l: u64, k: u64, bits: *const u8, bytes: usize, level: f32,
+        answer: *mut u64, answers: usize, amplitudes: *mut f32, pairs: usize,
+    ) -> u64;
 }
 
 macro_rules! downlink {
@@ -61,4 +77,58 @@ pub fn forward_up(grant: &UpGrant, p: u64, answer: &mut [u64; 5]) -> u64 {
 pub fn backward_up(grant: &UpGrant, slot: u64, l: u64, k: u64, answer: &mut [u64; 5]) -> u64 {
     // SAFETY: as above; only `answer` is written.
     unsafe { nbiot_backward_up(grant.as_ptr(), grant.len(), slot, l, k, answer.as_mut_ptr(), answer.len()) }
+}
+
+#[inline(always)]
+pub fn step_up(walk: &mut UpWalk, answer: &mut [u64; 7]) -> u64 {
+    // SAFETY: as above; only `walk` and `answer` are written.
+    unsafe { nbiot_step_up(walk.as_mut_ptr(), walk.len(), answer.as_mut_ptr(), answer.len()) }
+}
+
+#[inline(always)]
+pub fn step_down(walk: &mut DownWalk, anchor: &[u8], other: &[u8], answer: &mut [u64; 7]) -> u64 {
+    // SAFETY: as above; only `walk` and `answer` are written.
+    unsafe {
+        nbiot_step_down(
+            walk.as_mut_ptr(), walk.len(), anchor.as_ptr(), anchor.len(), other.as_ptr(), other.len(), answer.as_mut_ptr(), answer.len(),
+        )
+    }
+}
+
+#[inline(always)]
+pub fn step_control(walk: &mut ControlWalk, anchor: &[u8], other: &[u8], answer: &mut [u64; 7]) -> u64 {
+    // SAFETY: as above; only `walk` and `answer` are written.
+    unsafe {
+        nbiot_step_control(
+            walk.as_mut_ptr(), walk.len(), anchor.as_ptr(), anchor.len(), other.as_ptr(), other.len(), answer.as_mut_ptr(), answer.len(),
+        )
+    }
+}
+
+#[inline(always)]
+pub fn fill(cell: &Cell, lent: [&[u8]; 2], grant: &DownGrant, i: u64, bits: &[u8], level: f32, out: &mut [f32]) -> u64 {
+    let [anchor, other] = lent;
+    // SAFETY: as above; only `out` is written.
+    unsafe {
+        nbiot_fill(
+            cell.as_ptr(), cell.len(), anchor.as_ptr(), anchor.len(), other.as_ptr(), other.len(), grant.as_ptr(), grant.len(),
+            i, bits.as_ptr(), bits.len(), level, out.as_mut_ptr(), out.len(),
+        )
+    }
+}
+
+#[inline(always)]
+pub fn element(
+    cell: &Cell, lent: [&[u8]; 2], grant: &DownGrant, at: [u64; 4], bits: &[u8], level: f32,
+    answer: &mut [u64; 2], amplitudes: &mut [f32; 2],
+) -> u64 {
+    let ([anchor, other], [i, slot, l, k]) = (lent, at);
+    // SAFETY: as above; only `answer` and `amplitudes` are written.
+    unsafe {
+        nbiot_element(
+            cell.as_ptr(), cell.len(), anchor.as_ptr(), anchor.len(), other.as_ptr(), other.len(), grant.as_ptr(), grant.len(),
+            i, slot, l, k, bits.as_ptr(), bits.len(), level,
+            answer.as_mut_ptr(), answer.len(), amplitudes.as_mut_ptr(), amplitudes.len(),
+        )
+    }
 }

@@ -1,6 +1,6 @@
 //! Inputs: cells and grants at random, accepted ones for the times and any for the comparison.
 
-use crate::fast::{self, Cell, ControlGrant, DownGrant, UpGrant};
+use crate::fast::{self, Cell, ControlGrant, ControlWalk, DownGrant, DownWalk, UpGrant, UpWalk};
 
 /// xorshift64*: the same numbers in every run.
 pub struct Random(u64);
@@ -36,7 +36,8 @@ impl Random {
     }
 }
 
-/// One cell and a grant of each kind, with a position and a place for each.
+/// One cell and a grant of each kind, with a position, a place and a walk for each; a transmitted subframe, and bits and a level to fill it.
+#[derive(Clone)]
 pub struct Scene {
     pub cell: Cell,
     pub anchor: [u8; 5],
@@ -48,6 +49,17 @@ pub struct Scene {
     pub at_up: [u64; 3],
     pub at_down: [u64; 4],
     pub at_control: [u64; 4],
+    pub walk_up: UpWalk,
+    pub walk_down: DownWalk,
+    pub walk_control: ControlWalk,
+    pub i: u64,
+    pub bits: Vec<u8>,
+    pub level: f32,
+}
+
+/// Parts one after the other.
+fn joined<const N: usize>(parts: &[&[u64]]) -> [u64; N] {
+    parts.concat().try_into().expect("the parts fill the record")
 }
 
 fn cell(r: &mut Random) -> Cell {
@@ -91,11 +103,35 @@ impl Scene {
         let (anchor, other) = (bitmap(r, cell[7]), bitmap(r, cell[7]));
         let (up, down, control) = (up(r), down(r), control(r));
         let (at_up, at_down, at_control) = ([0; 3], [0; 4], [0; 4]);
-        Scene { cell, anchor, other, up, down, control, p: [0; 3], at_up, at_down, at_control }
+        let (walk_up, walk_down, walk_control) = ([0; 8], [0; 14], [0; 13]);
+        let (i, bits, level) = (0, Vec::new(), 1.0);
+        Scene {
+            cell, anchor, other, up, down, control, p: [0; 3], at_up, at_down, at_control,
+            walk_up, walk_down, walk_control, i, bits, level,
+        }
+    }
+
+    /// The walks' records, at the positions.
+    pub fn record(&mut self) {
+        let Scene { cell, up, down, control, p, .. } = self;
+        self.walk_up = joined(&[&p[..1], &up[..]]);
+        self.walk_down = joined(&[&p[1..2], &cell[..], &down[..]]);
+        self.walk_control = joined(&[&p[2..], &cell[..], &control[..]]);
+    }
+
+    /// Bits of the whole codeword, and a transmitted subframe, from the plan of the downlink grant.
+    pub fn load(&mut self, r: &mut Random) {
+        let plan = fast::plan_down(&self.cell, &self.anchor, &self.other, &self.down);
+        let lengths = [1, 2, 3, 4, 5, 6, 8, 10];
+        let sent = plan[3] * lengths[self.down[3].min(7) as usize];
+        let symbols = if sent == 0 { 0 } else { plan[4] / plan[3] };
+        self.bits = (0..symbols.div_ceil(4)).map(|_| r.below(256) as u8).collect();
+        self.i = r.below(sent.max(1));
+        self.level = 1.0 / (1.0 + r.below(1000) as f32);
     }
 
     /// Positions below the places, and every other place one that is ours.
-    fn aim(&mut self, r: &mut Random) {
+    pub fn aim(&mut self, r: &mut Random) {
         let s = &*self;
         let plans = [
             fast::plan_up(&s.up)[4],
@@ -116,12 +152,32 @@ impl Scene {
         self.p = p;
     }
 
+    /// Position p of the downlink grant, and its place.
+    pub fn place(&mut self, p: u64) {
+        self.p[1] = p;
+        let [_, t, slot, l, k, _] = fast::forward_down(&self.cell, &self.anchor, &self.other, &self.down, p);
+        self.at_down = [t, slot, l, k];
+    }
+
+    /// On a non-anchor, a bitmap of 40 bits with so many ones, evenly spread.
+    pub fn sparse(&mut self, ones: u64) {
+        self.cell[1] = 1;
+        self.cell[7] = 40;
+        self.other = [0; 5];
+        for one in 0..ones {
+            let bit = (one * 40 / ones + self.cell[2]) % 40;
+            self.other[(bit / 8) as usize] |= 0x80 >> (bit % 8);
+        }
+    }
+
     /// A cell and grants that are accepted.
     pub fn accepted(r: &mut Random) -> Scene {
         loop {
             let mut scene = Scene::plain(r);
             if fast::judge(&scene.cell, &scene.anchor, &scene.other) == 0 {
                 scene.aim(r);
+                scene.load(r);
+                scene.record();
                 return scene;
             }
         }
@@ -131,6 +187,7 @@ impl Scene {
     pub fn any(r: &mut Random) -> Scene {
         let mut scene = Scene::plain(r);
         scene.aim(r);
+        scene.load(r);
         let limits = [4, 2, 504, 3, 5, 4, 12, 41];
         let i = r.below(24) as usize;
         if i < 8 {
@@ -149,7 +206,18 @@ impl Scene {
             scene.at_up = [r.wild(scene.at_up[0] + 2), l, k];
             scene.at_down = [r.wild(scene.at_down[0] + 2), slot, l, k % 13];
             scene.at_control = [r.wild(scene.at_control[0] + 2), slot, l, k % 13];
+            scene.i = r.wild(scene.i + 1);
+            scene.level = f32::from_bits(r.next() as u32);
+            scene.bits.truncate(r.wild(scene.bits.len() as u64 + 1) as usize);
         }
+        scene.record();
         scene
+    }
+
+    /// With one narrowband port, as a fill asks it.
+    pub fn with_one_port(mut self, r: &mut Random) -> Scene {
+        self.cell[3] = 1;
+        self.load(r);
+        self
     }
 }

@@ -2,7 +2,7 @@
 
 use super::cell::{judged, Pattern};
 use super::elements::Layout;
-use super::{other, ours, refused, Cell, ControlGrant, DownGrant, LAST_SUBFRAME, LENGTHS};
+use super::{other, ours, refused, stepped, Cell, ControlGrant, ControlWalk, DownGrant, DownWalk, LAST_SUBFRAME, LENGTHS};
 
 const COPIES: [u32; 16] = [1, 2, 4, 8, 16, 32, 64, 128, 192, 256, 384, 512, 768, 1024, 1536, 2048];
 const DELAYS: [[u32; 8]; 2] = [[0, 4, 8, 12, 16, 32, 64, 128], [0, 16, 32, 64, 128, 256, 512, 1024]];
@@ -93,6 +93,12 @@ impl Burst {
     }
 
     #[inline(always)]
+    fn step(&self, p: &mut u64) -> [u64; 7] {
+        let [no, t, slot, l, k, symbol] = self.forward(*p);
+        stepped(p, no, self.sent() * self.layout.count(), [t, slot, l, k, symbol])
+    }
+
+    #[inline(always)]
     fn backward(&self, t: u64, slot: u64, l: u64, k: u64) -> [u64; 5] {
         if slot > 1 || l > 6 || k > 11 {
             return refused(14);
@@ -143,4 +149,18 @@ pub fn forward_control(cell: &Cell, anchor: &[u8], others: &[u8], grant: &Contro
 pub fn backward_control(cell: &Cell, anchor: &[u8], others: &[u8], grant: &ControlGrant, at: [u64; 4]) -> [u64; 5] {
     let [t, slot, l, k] = at;
     control(cell, anchor, others, grant).map_or_else(refused, |b| b.backward(t, slot, l, k))
+}
+
+#[inline(never)]
+pub fn step_down(walk: &mut DownWalk, anchor: &[u8], others: &[u8]) -> [u64; 7] {
+    let (p, rest) = walk.split_first_mut().expect("14 numbers");
+    let (cell, grant) = rest.split_first_chunk().expect("13 numbers");
+    down(cell, anchor, others, grant.first_chunk().expect("5 numbers")).map_or_else(refused, |b| b.step(p))
+}
+
+#[inline(never)]
+pub fn step_control(walk: &mut ControlWalk, anchor: &[u8], others: &[u8]) -> [u64; 7] {
+    let (p, rest) = walk.split_first_mut().expect("13 numbers");
+    let (cell, grant) = rest.split_first_chunk().expect("12 numbers");
+    control(cell, anchor, others, grant.first_chunk().expect("4 numbers")).map_or_else(refused, |b| b.step(p))
 }

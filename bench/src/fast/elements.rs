@@ -116,6 +116,16 @@ impl Layout {
         (slot as u64, l, self.low + (self.row(l as usize).places >> (4 * i) & 15))
     }
 
+    /// Used subcarriers of a row, how many, and the i-th of them in four digits; for all twelve subcarriers.
+    #[inline(always)]
+    pub fn used(&self, slot: usize, l: usize) -> (usize, u64) {
+        if slot == 0 && (l as u64) < self.control {
+            return (0, 0);
+        }
+        let row = self.row(l);
+        (row.used.count_ones() as usize, row.places)
+    }
+
     #[inline(always)]
     pub fn is_used(&self, slot: u64, l: u64, k: u64) -> bool {
         let closed = slot == 0 && l < self.control;

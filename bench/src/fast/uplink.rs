@@ -1,6 +1,6 @@
 //! NPUSCH format 1.
 
-use super::{other, ours, refused, UpGrant, LAST_SUBFRAME, LENGTHS};
+use super::{other, ours, refused, stepped, UpGrant, UpWalk, LAST_SUBFRAME, LENGTHS};
 
 const SIZES: [[u16; 8]; 5] = [
     [16, 32, 56, 88, 120, 152, 208, 256],
@@ -107,12 +107,8 @@ pub fn plan_up(grant: &UpGrant) -> [u64; 7] {
     [0, s.first, s.slot(sent - 1), 1 << s.copies, places, SIZES[row][units] as u64, order as u64]
 }
 
-#[inline(never)]
-pub fn forward_up(grant: &UpGrant, p: u64) -> [u64; 5] {
-    let s = match shape(grant) {
-        Ok(s) => s,
-        Err(no) => return refused(no),
-    };
+#[inline(always)]
+fn forward(s: &Shape, p: u64) -> [u64; 5] {
     let w = s.data();
     if p >= (s.sent() * w) as u64 {
         return refused(14);
@@ -129,6 +125,22 @@ pub fn forward_up(grant: &UpGrant, p: u64) -> [u64; 5] {
     let l = line + (line >= 4 - s.wide) as u32;
     let k = s.tone + e - line * s.tones;
     [0, s.slot(i), l as u64, k as u64, (s.carried(i) * w + e) as u64]
+}
+
+#[inline(never)]
+pub fn forward_up(grant: &UpGrant, p: u64) -> [u64; 5] {
+    shape(grant).map_or_else(refused, |s| forward(&s, p))
+}
+
+#[inline(never)]
+pub fn step_up(walk: &mut UpWalk) -> [u64; 7] {
+    let (p, grant) = walk.split_first_mut().expect("8 numbers");
+    let s = match shape(grant.first_chunk().expect("7 numbers")) {
+        Ok(s) => s,
+        Err(no) => return refused(no),
+    };
+    let [no, slot, l, k, symbol] = forward(&s, *p);
+    stepped(p, no, (s.sent() * s.data()) as u64, [0, slot, l, k, symbol])
 }
 
 #[inline(never)]
