@@ -1,27 +1,25 @@
 -- The answers of the public questions, from a judged call.
-use mathlib.Core.Bool.{Bool, true, false, cond, not, _&&_}
+use mathlib.Core.Bool.{Bool, false, cond, not, _&&_}
 use mathlib.Core.List.{List, _++_}
 use mathlib.Core.Path.{_≡_, refl, sym, ap, ap₂, _∙_}
 use Prim.Native.Nat.{ℕ, _+_, _*_, _<_}
 use native.Mathlib.Nat.{zero-add}
-use native.Mathlib.Omega.{arith}
 use lib.Dec.{eqb, ltb}
 use lib.Ieee.{Float}
 use lib.ListN.{length}
 use borrow.Author.Tests.{eq-eqb, ne-eqb, eqb-true, ltb-true, not-false}
 use Rattle.counting.proofs.Facts.{both-parts}
-use Rattle.grid.specs.Grid.{subcarriers, symbols, slots, slotElements, elements, numbers, elementOf}
+use Rattle.grid.specs.Grid.{subcarriers, symbols, slots, slotElements, numbers, elementOf}
 use Rattle.cell.specs.declared.Cell.{Cell}
 use Rattle.subframes.specs.Answers.{insideGrid}
 use Rattle.downlink.specs.declared.DownlinkGrant.{DownlinkGrant}
 use Rattle.symbol.specs.declared.Symbol.{Symbol}
 use Rattle.symbol.specs.declared.Outgoing.{Outgoing}
-use Rattle.symbol.specs.declared.Element.{Element}
 use Rattle.symbol.specs.declared.Element.the-variants.{Refused}
 use Rattle.symbol.specs.Outgoing.{writtenOf, answerOf}
 use Rattle.fill.specs.declared.Call.{Call}
 use Rattle.fill.specs.GoesOut.{outgoingOf}
-use Rattle.fill.specs.Refusals.{fillRefusal, elementRefusal}
+use Rattle.fill.specs.Refusals.{fillRefusal}
 use Rattle.fill.specs.Fill.{laid, filledOf, outputOf}
 use Rattle.fill.specs.Element.{elementAnswer}
 use Rattle.fill.specs.Quick.{goesIn, writtenIn, CallFor}

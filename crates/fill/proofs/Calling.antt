@@ -1,8 +1,8 @@
 -- A call judged: what its refusal says, and what an accepted one has.
 use mathlib.Core.Bool.{Bool, true, false, cond, not, _||_}
 use mathlib.Core.List.{List}
-use mathlib.Core.Path.{_≡_, refl, sym, ap, ap₂, _∙_, subst}
-use Prim.Native.Nat.{ℕ, _+_, _*_, _/_, _^_, _≤_, _<_}
+use mathlib.Core.Path.{_≡_, sym, ap, ap₂, _∙_, subst}
+use Prim.Native.Nat.{ℕ, _+_, _*_, _≤_, _<_}
 use native.Mathlib.Nat.{mul-le-mul, mul-le-mul-right, suc-mul, mod-one}
 use native.Mathlib.Omega.{arith}
 use lib.Dec.{eqb, leb}
@@ -20,17 +20,15 @@ use Rattle.elements.proofs.Laws.{count-le}
 use Rattle.subframes.specs.declared.Burst.{Burst}
 use Rattle.subframes.specs.declared.Ready.{Ready}
 use Rattle.subframes.specs.Fits.{Fits}
-use Rattle.subframes.specs.Mapping.{sentSubframes, codewordSymbols}
+use Rattle.subframes.specs.Mapping.{sentSubframes}
 use Rattle.subframes.specs.Cells.{layoutOf}
 use Rattle.subframes.specs.Quick.{ReadyFor}
 use Rattle.downlink.specs.declared.DownlinkGrant.{DownlinkGrant}
 use Rattle.downlink.specs.Refusals.{refusalOf}
 use Rattle.downlink.specs.Questions.{burstOf}
-use Rattle.symbol.specs.Symbol.{levelInRange}
 use Rattle.fill.specs.declared.Call.{Call}
-use Rattle.fill.specs.GoesOut.{outgoingOf}
 use Rattle.fill.specs.Refusals.{codewordBytes, lateRefusal, callRefusal}
-use Rattle.fill.specs.Quick.{goesIn, Prepared, CallFor}
+use Rattle.fill.specs.Quick.{Prepared, CallFor}
 use Rattle.fill.proofs.Going.{going}
 
 -- what 14 and 15 leave
@@ -66,13 +64,17 @@ module _ (c : Cell) (anchor other : List ℕ) (g : DownlinkGrant) (i : ℕ) (out
   refused-by k n e = record { number = e; prepared = λ z. absurd (n z); going = λ z. absurd (n z) }
 
   module _ (q : Ready) (r : ReadyFor c (bitmapIn c (ownBuffer c anchor other)) (refusalOf c anchor other g) (burstOf c g) q) where
-    by-grant : (q .no ≡ 0 → ⊥) → q .no ≡ refusal
+    -- the chain by its first part
+    by-first : (t : Bool) → eqb (refusalOf c anchor other g) 0 ≡ t
+        → refusal ≡ cond t (lateRefusal (burstOf c g) i outside bits wrong level) (refusalOf c anchor other g)
     unfolding callRefusal
-    by-grant n = r .number ∙ sym (ap (λ (t : Bool). cond t (lateRefusal (burstOf c g) i outside bits wrong level) (refusalOf c anchor other g)) (ne-eqb (refusalOf c anchor other g) 0 (λ z. n (r .number ∙ z))))
+    by-first t e = ap (λ (t : Bool). cond t (lateRefusal (burstOf c g) i outside bits wrong level) (refusalOf c anchor other g)) e
+
+    by-grant : (q .no ≡ 0 → ⊥) → q .no ≡ refusal
+    by-grant n = r .number ∙ sym (by-first false (ne-eqb (refusalOf c anchor other g) 0 (λ z. n (r .number ∙ z))))
 
     by-late : q .no ≡ 0 → lateRefusal (burstOf c g) i outside bits wrong level ≡ refusal
-    unfolding callRefusal
-    by-late z = sym (ap (λ (t : Bool). cond t (lateRefusal (burstOf c g) i outside bits wrong level) (refusalOf c anchor other g)) (eq-eqb (refusalOf c anchor other g) 0 (sym (r .number) ∙ z)))
+    by-late z = sym (by-first true (eq-eqb (refusalOf c anchor other g) 0 (sym (r .number) ∙ z)))
 
     late-is : (n : ℕ) → n ≡ lateRefusal (q .burst) i outside bits wrong level → q .no ≡ 0 → n ≡ lateRefusal (burstOf c g) i outside bits wrong level
     late-is n e z = e ∙ ap (λ (b : Burst). lateRefusal b i outside bits wrong level) (r .burst z)
@@ -128,4 +130,6 @@ module _ (c : Cell) (anchor other : List ℕ) (g : DownlinkGrant) (i : ℕ) (out
   -- an accepted call passed 14 and 15
   pub call-passed : (k : Call) → Judged k → k .no ≡ 0 → Passed (burstOf c g) i outside bits wrong
   unfolding callRefusal
-  call-passed k j z = late-passed (burstOf c g) i outside bits wrong level (chained (refusalOf c anchor other g) (lateRefusal (burstOf c g) i outside bits wrong level) (sym (j .number) ∙ z) .1)
+  call-passed k j z =
+      late-passed (burstOf c g) i outside bits wrong level
+      (chained (refusalOf c anchor other g) (lateRefusal (burstOf c g) i outside bits wrong level) (sym (j .number) ∙ z) .1)

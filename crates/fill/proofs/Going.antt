@@ -1,5 +1,5 @@
 -- What the code works out for an element is what goes out there.
-use mathlib.Core.Bool.{Bool, true, false, cond, _&&_}
+use mathlib.Core.Bool.{Bool, true, false, cond}
 use mathlib.Core.List.{List}
 use mathlib.Core.Path.{_≡_, refl, sym, ap, _∙_}
 use Prim.Native.Nat.{ℕ, _+_, _*_, _<_}
@@ -7,7 +7,7 @@ use native.Mathlib.Omega.{arith}
 use lib.Dec.{eqb}
 use lib.ListN.{length}
 use borrow.Author.Tests.{ne-eqb}
-use Rattle.counting.specs.Counting.{rank, Lists}
+use Rattle.counting.specs.Counting.{rank}
 use Rattle.counting.proofs.Period.{lists}
 use Rattle.grid.specs.Grid.{subcarriers}
 use Rattle.cell.specs.declared.Cell.{Cell}

@@ -33,7 +33,17 @@ pub record Prepared (g : Layout) (first : ℕ) (bits : List ℕ) : Type 0 where
   pub room : first + countOf g 0 subcarriers ≤ 4 * length bits
   pub small : first < 2 ^ 32
 
-pub record CallFor (c : Cell) (anchor other : List ℕ) (g : DownlinkGrant) (i : ℕ) (outside : Bool) (bits : List ℕ) (wrongOutput : Bool) (level : Float) (r : Call) : Type 0 where
+-- element x, ours or not, with its number e among the used ones
+pub record Counted (g : Layout) (first : ℕ) (ours : Bool) (e x : ℕ) : Type 0 where
+  pub valid : Valid g
+  pub small : first < 2 ^ 32
+  pub inside : x < elements
+  pub test : ours ≡ used g 0 subcarriers x
+  pub number : e ≡ numberOf g 0 subcarriers x
+
+-- a call judged: its refusal, and for an accepted one what goes out
+pub record CallFor (c : Cell) (anchor other : List ℕ) (g : DownlinkGrant) (i : ℕ) (outside : Bool) (bits : List ℕ) (wrongOutput : Bool)
+    (level : Float) (r : Call) : Type 0 where
   pub number : r .no ≡ callRefusal c anchor other g i outside bits wrongOutput level
   pub prepared : r .no ≡ 0 → Prepared (r .layout) (r .first) bits
   pub going : r .no ≡ 0 → (x : ℕ) → goesIn (r .layout) (r .first) x ≡ outgoingOf c anchor other g i x

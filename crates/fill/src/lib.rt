@@ -1,17 +1,16 @@
 // NPDSCH on one port: the numbers of one transmitted subframe, or one element of it.
-ghost use mathlib.Core.Bool.{not, cond, false};
+ghost use mathlib.Core.Bool.{false};
 ghost use mathlib.Core.Path.{_≡_};
-ghost use Prim.Native.Nat.{_+_, _*_, _^_, _<_};
+ghost use Prim.Native.Nat.{_+_, _*_, _<_};
 ghost use lib.ListN.{length, set};
-ghost use lib.Dec.{eqb};
-ghost use Rattle.grid.specs.Grid.{subcarriers, slots, slotElements, elements, slotNumbers, numbers};
+ghost use Rattle.grid.specs.Grid.{subcarriers, slots, slotElements, slotNumbers};
 ghost use Rattle.counting.specs.Bits.{bitAt};
-ghost use Rattle.elements.specs.Elements.{Valid, used, countOf, numberOf};
+ghost use Rattle.elements.specs.Elements.{countOf};
 ghost use Rattle.subframes.specs.Fits.{Fits};
 ghost use Rattle.fill.specs.Refusals.{lateRefusal, fillRefusal};
 ghost use Rattle.fill.specs.Fill.{laid, outputOf};
 ghost use Rattle.fill.specs.Element.{elementAnswer};
-ghost use Rattle.fill.specs.Quick.{goesIn, writtenIn, Prepared, CallFor};
+ghost use Rattle.fill.specs.Quick.{goesIn, writtenIn, Prepared, Counted, CallFor};
 use cell::Cell;
 use downlink::DownlinkGrant;
 use elements::Layout;
@@ -109,7 +108,7 @@ fn judged(
 
 // What goes out at element x, used or not; e is its number among the used ones.
 fn outgoing(call: Call, ours: bool, e: u64, x: u64) -> Outgoing
-    requires { ⌜ Valid (call .layout) × (call .first < 2 ^ 32) × (x < elements) × (ours ≡ used (call .layout) 0 subcarriers x) × (e ≡ numberOf (call .layout) 0 subcarriers x) ⌝ }
+    requires { ⌜ Counted (call .layout) (call .first) ours e x ⌝ }
     ensures { λ r. ⌜ r ≡ goesIn (call .layout) (call .first) x ⌝ }
 {
     if ours {

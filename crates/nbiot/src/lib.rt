@@ -105,3 +105,11 @@ pub fn backward_control(
 {
     control::backward(c, anchor, other, g, t, slot, l, k)
 }
+
+// One step of a walk, the caller's record moved in place; and the same of a record by value.
+pub use walk::step;
+pub use walk::step_value;
+
+// The numbers of one transmitted subframe of an NPDSCH on one port, and what goes out at one of its elements.
+pub use fill::element;
+pub use fill::fill;

@@ -1,7 +1,5 @@
-use mathlib.Core.Path.{_∙_, ap}
-use borrow.Author.Needs.{needs}
+use mathlib.Core.Path.{_∙_}
 use Rattle.elements.proofs.Laws.{whole-part}
-use Rattle.symbol.specs.Outgoing.{answerOf}
 use Rattle.fill.specs.Quick.{Prepared}
 use Rattle.fill.proofs.Going.{goes-within}
 use Rattle.fill.proofs.Answering.{element-inside, element-refused, element-answered}
@@ -44,7 +42,7 @@ element-spec =
     let u = c .before in
     let x = u .before in
     let p = prepared (x .before .before) in
-    (p .valid, p .small, x .element .ensures .1, u .is-used .ensures, c .number .ensures))
+    record { valid = p .valid; small = p .small; inside = x .element .ensures .1; test = u .is-used .ensures; number = c .number .ensures })
     (λ c κs.
     let x = c .before .before .before in
     goes-within _ _ (x .element .result) _ _ (prepared (x .before .before)) (c .outgoing .ensures))

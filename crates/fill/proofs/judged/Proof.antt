@@ -1,8 +1,5 @@
-use mathlib.Core.Path.{_≡_, sym, _∙_}
-use Prim.Native.Nat.{_*_, _≤_, _^_}
 use native.Mathlib.Nat.{mul-le-mul}
 use native.Mathlib.Omega.{arith}
-use Rattle.grid.specs.Grid.{elements}
 use Rattle.subframes.specs.Fits.{Fits}
 use Rattle.fill.proofs.Calling.{refused-early, refused-late, accepted}
 use Rattle.fill.proofs.judged.Statement.{statement}

@@ -15,13 +15,13 @@ outgoing-spec =
     (λ c.
     let t = c .before in
     let s = t .before in
-    goes-ours _ _ _ _ (sym (s .pre .3) ∙ t .if1 .taken) (s .pre .4))
-    (λ c κs. c .before .pre .0)
+    goes-ours _ _ _ _ (sym (s .pre .test) ∙ t .if1 .taken) (s .pre .number))
+    (λ c κs. c .before .pre .valid)
     (λ c.
     let k = c .before in
     let s = k .before .before in
-    goes-silent _ _ _ _ (sym (s .pre .3) ∙ k .before .if1 .left) (k .kind .ensures) (c .if2 .taken))
+    goes-silent _ _ _ _ (sym (s .pre .test) ∙ k .before .if1 .left) (k .kind .ensures) (c .if2 .taken))
     (λ c.
     let k = c .before in
     let s = k .before .before in
-    goes-reference _ _ _ _ (sym (s .pre .3) ∙ k .before .if1 .left) (k .kind .ensures) (c .if2 .left)))
+    goes-reference _ _ _ _ (sym (s .pre .test) ∙ k .before .if1 .left) (k .kind .ensures) (c .if2 .left)))

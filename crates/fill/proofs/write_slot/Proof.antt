@@ -78,7 +78,7 @@ outgoing-requires : tie.Need-outgoing-requires Inv-loop μ-loop
 outgoing-requires c κs =
     let l = c .before .before .before in
     let p = start l .pre .2 in
-    (p .valid, p .small, omega arith, digit c, l .loop .inv .2)
+    record { valid = p .valid; small = p .small; inside = omega arith; test = digit c; number = l .loop .inv .2 }
 
 written-requires : tie.Need-written-requires Inv-loop μ-loop
 written-requires c κs =

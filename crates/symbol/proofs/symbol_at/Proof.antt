@@ -4,7 +4,6 @@ use mathlib.Core.Path.{_≡_, ap₂, _∙_}
 use Prim.Native.Nat.{ℕ, _+_, _-_, _*_, _/_, _%_}
 use native.Mathlib.Omega.{arith}
 use borrow.Author.Needs.{needs}
-use lib.Ieee.{Float}
 use lib.ListN.{getD}
 use Rattle.counting.specs.Bits.{bitAt}
 use Rattle.cell.specs.Bitmap.{bitOf}

@@ -1,0 +1,24 @@
+use native.Mathlib.Omega.{arith}
+use borrow.Author.Needs.{needs}
+use Prim.Native.Nat.{_≤_, _-_}
+use lib.ListN.{length}
+use Rattle.query.proofs.reading.check_words.Statement.{statement}
+use Rattle.query.proofs.reading.check_words.Tie as tie
+
+abbrev Inv-loop : tie.InvT-loop
+Inv-loop line named q end₀ end = end ≤ length line
+
+abbrev μ-loop : tie.MeasureT-loop
+μ-loop line named q end₀ end = length line - end
+
+pub check-words-spec : {M : Type 1} → statement M
+check-words-spec = tie.close (tie.spec Inv-loop μ-loop
+    (λ c. search needs)
+    (λ c. search needs)
+    (λ c κs. search needs)
+    (λ c κs. search needs)
+    (λ c. search needs)
+    (λ c. search needs)
+    (λ c. search needs)
+    (λ c. search needs)
+    (λ c. search needs))

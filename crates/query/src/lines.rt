@@ -1,0 +1,190 @@
+// The answers' lines, put into the output. Each has at most 320 bytes, but a fill's.
+ghost use Prim.Native.Nat.{_+_, _≤_};
+ghost use lib.ListN.{length};
+use crate::reading::Fault;
+use sending::Back;
+use slots::UplinkPlace;
+use slots::UplinkPlan;
+use subframes::DownlinkPlace;
+use subframes::DownlinkPlan;
+use symbol::ElementNumbers;
+use text::Page;
+use text::put;
+use text::put_decimal;
+use text::put_hex;
+use text::put_word;
+use walk::WalkPlace;
+
+pub fn put_fault(f: Fault, out: &mut Page, at: usize) -> usize
+    requires { ⌜ at + 320 ≤ 65536 ⌝ }
+    ensures { λ r. ⌜ r ≤ at + 320 ⌝ }
+{
+    match f {
+        Fault::Long => put(out, at, b"error=long\n"),
+        Fault::Question => put(out, at, b"error=question\n"),
+        Fault::Kind => put(out, at, b"error=kind\n"),
+        Fault::Value => put(out, at, b"error=value\n"),
+        Fault::Name => put(out, at, b"error=name\n"),
+        Fault::Number => put(out, at, b"error=number\n"),
+        Fault::Hex => put(out, at, b"error=hex\n"),
+        Fault::Size => put(out, at, b"error=size\n"),
+    }
+}
+
+// A name with its equals sign, and a number.
+fn put_value(out: &mut Page, at: usize, name: &[u8], x: u64) -> usize
+    requires { ⌜ (length (now name) ≤ 12) × (at + 32 ≤ 65536) ⌝ }
+    ensures { λ r. ⌜ r ≤ at + 32 ⌝ }
+{
+    let mid = put(out, at, name);
+    put_decimal(out, mid, x)
+}
+
+pub fn put_cell(no: u64, out: &mut Page, at: usize) -> usize
+    requires { ⌜ at + 320 ≤ 65536 ⌝ }
+    ensures { λ r. ⌜ r ≤ at + 320 ⌝ }
+{
+    let a = put_value(out, at, b"no=", no);
+    put(out, a, b"\n")
+}
+
+pub fn put_bitmap(no: u64, part: &[u8], out: &mut Page, at: usize) -> usize
+    requires { ⌜ (at + 320 ≤ 65536) × (length (now part) ≤ 64) ⌝ }
+    ensures { λ r. ⌜ r ≤ at + 320 ⌝ }
+{
+    let a = put_value(out, at, b"no=", no);
+    let b = put(out, a, b" part=");
+    let c = put_hex(out, b, part);
+    put(out, c, b"\n")
+}
+
+pub fn put_downlink_plan(x: DownlinkPlan, out: &mut Page, at: usize) -> usize
+    requires { ⌜ at + 320 ≤ 65536 ⌝ }
+    ensures { λ r. ⌜ r ≤ at + 320 ⌝ }
+{
+    let a = put_value(out, at, b"no=", x.no);
+    let b = put_value(out, a, b" first=", x.first);
+    let c = put_value(out, b, b" last=", x.last);
+    let d = put_value(out, c, b" copies=", x.copies);
+    let e = put_value(out, d, b" places=", x.places);
+    put(out, e, b"\n")
+}
+
+pub fn put_uplink_plan(x: UplinkPlan, out: &mut Page, at: usize) -> usize
+    requires { ⌜ at + 320 ≤ 65536 ⌝ }
+    ensures { λ r. ⌜ r ≤ at + 320 ⌝ }
+{
+    let a = put_value(out, at, b"no=", x.no);
+    let b = put_value(out, a, b" first=", x.first);
+    let c = put_value(out, b, b" last=", x.last);
+    let d = put_value(out, c, b" copies=", x.copies);
+    let e = put_value(out, d, b" places=", x.places);
+    let f = put_value(out, e, b" size=", x.size);
+    let g = put_value(out, f, b" order=", x.order);
+    put(out, g, b"\n")
+}
+
+// A place's symbol and subcarrier, and the codeword symbol there.
+fn put_rest(l: u64, k: u64, symbol: u64, out: &mut Page, at: usize) -> usize
+    requires { ⌜ at + 96 ≤ 65536 ⌝ }
+    ensures { λ r. ⌜ r ≤ at + 96 ⌝ }
+{
+    let a = put_value(out, at, b" l=", l);
+    let b = put_value(out, a, b" k=", k);
+    put_value(out, b, b" symbol=", symbol)
+}
+
+pub fn put_downlink_place(x: DownlinkPlace, out: &mut Page, at: usize) -> usize
+    requires { ⌜ at + 320 ≤ 65536 ⌝ }
+    ensures { λ r. ⌜ r ≤ at + 320 ⌝ }
+{
+    let a = put_value(out, at, b"no=", x.no);
+    let b = put_value(out, a, b" t=", x.t);
+    let c = put_value(out, b, b" slot=", x.slot);
+    let d = put_rest(x.l, x.k, x.symbol, out, c);
+    put(out, d, b"\n")
+}
+
+pub fn put_uplink_place(x: UplinkPlace, out: &mut Page, at: usize) -> usize
+    requires { ⌜ at + 320 ≤ 65536 ⌝ }
+    ensures { λ r. ⌜ r ≤ at + 320 ⌝ }
+{
+    let a = put_value(out, at, b"no=", x.no);
+    let b = put_value(out, a, b" slot=", x.slot);
+    let c = put_rest(x.l, x.k, x.symbol, out, b);
+    put(out, c, b"\n")
+}
+
+pub fn put_back(x: Back, out: &mut Page, at: usize) -> usize
+    requires { ⌜ at + 320 ≤ 65536 ⌝ }
+    ensures { λ r. ⌜ r ≤ at + 320 ⌝ }
+{
+    let a = put_value(out, at, b"no=", x.no);
+    let b = put_value(out, a, b" ours=", x.ours);
+    let c = put_value(out, b, b" symbol=", x.symbol);
+    let d = put_value(out, c, b" p=", x.position);
+    let e = put_value(out, d, b" kind=", x.kind);
+    put(out, e, b"\n")
+}
+
+pub fn put_uplink_step(x: WalkPlace, p: u64, out: &mut Page, at: usize) -> usize
+    requires { ⌜ at + 320 ≤ 65536 ⌝ }
+    ensures { λ r. ⌜ r ≤ at + 320 ⌝ }
+{
+    let a = put_value(out, at, b"no=", x.no);
+    let b = put_value(out, a, b" finished=", x.finished);
+    let c = put_value(out, b, b" slot=", x.slot);
+    let d = put_rest(x.l, x.k, x.symbol, out, c);
+    let e = put_value(out, d, b" p=", p);
+    put(out, e, b"\n")
+}
+
+pub fn put_downlink_step(x: WalkPlace, p: u64, out: &mut Page, at: usize) -> usize
+    requires { ⌜ at + 320 ≤ 65536 ⌝ }
+    ensures { λ r. ⌜ r ≤ at + 320 ⌝ }
+{
+    let a = put_value(out, at, b"no=", x.no);
+    let b = put_value(out, a, b" finished=", x.finished);
+    let c = put_value(out, b, b" t=", x.t);
+    let d = put_value(out, c, b" slot=", x.slot);
+    let e = put_rest(x.l, x.k, x.symbol, out, d);
+    let f = put_value(out, e, b" p=", p);
+    put(out, f, b"\n")
+}
+
+pub fn put_element(x: ElementNumbers, out: &mut Page, at: usize) -> usize
+    requires { ⌜ at + 320 ≤ 65536 ⌝ }
+    ensures { λ r. ⌜ r ≤ at + 320 ⌝ }
+{
+    let a = put_value(out, at, b"no=", x.no);
+    let b = put_value(out, a, b" case=", x.state);
+    let c = put(out, b, b" re=");
+    let d = put_word(out, c, text::pattern_of(x.re));
+    let e = put(out, d, b" im=");
+    let f = put_word(out, e, text::pattern_of(x.im));
+    put(out, f, b"\n")
+}
+
+// The patterns of a fill's numbers, a space before each.
+fn put_numbers(numbers: &[f32], out: &mut Page, at: usize) -> usize
+    requires { ⌜ (length (now numbers) ≤ 1024) × (at + 9216 ≤ 65536) ⌝ }
+    ensures { λ r. ⌜ r ≤ at + 9216 ⌝ }
+{
+    let mut to = at;
+    let mut i = 0;
+    while i < numbers.len() {
+        let mid = put(out, to, b" ");
+        to = put_word(out, mid, text::pattern_of(numbers[i]));
+        i += 1;
+    }
+    to
+}
+
+pub fn put_fill(no: u64, numbers: &[f32], out: &mut Page, at: usize) -> usize
+    requires { ⌜ (length (now numbers) ≤ 1024) × (at + 16384 ≤ 65536) ⌝ }
+    ensures { λ r. ⌜ r ≤ at + 16384 ⌝ }
+{
+    let a = put_value(out, at, b"no=", no);
+    let b = put_numbers(numbers, out, a);
+    put(out, b, b"\n")
+}

@@ -1,0 +1,348 @@
+// A line read: the question that it asks, or why it is none; and its values, kept.
+use crate::values::ANCHOR;
+use crate::values::DATA;
+use crate::values::LEVEL;
+use crate::values::NAMES;
+use crate::values::OTHER;
+use crate::values::ROOM;
+use crate::values::Values;
+use bytes::scan::find;
+use text::Number;
+ghost use Prim.Native.Nat.{_≤_, _<_};
+ghost use lib.ListN.{length};
+
+// The longest line, the newline aside.
+pub const LONGEST: usize = 4096;
+
+const LARGEST_ROOM: u64 = 1024;
+
+// The questions that want no kind stand first.
+const QUESTIONS: [[u8; 10]; 10] = [
+    *b"set       ",
+    *b"cell      ",
+    *b"bitmap    ",
+    *b"fill      ",
+    *b"element   ",
+    *b"plan      ",
+    *b"forward   ",
+    *b"backward  ",
+    *b"step      ",
+    *b"picture   ",
+];
+
+const WITHOUT_KIND: usize = 5;
+
+const PICTURE: usize = 9;
+
+const UP: usize = 0;
+
+const NO_KIND: usize = 3;
+
+const KINDS: [[u8; 10]; 3] = [*b"up        ", *b"down      ", *b"control   "];
+
+pub enum Kind {
+    Up,
+    Down,
+    Control,
+}
+
+pub enum Question {
+    Set,
+    Cell,
+    Bitmap,
+    Fill,
+    Element,
+    Plan(Kind),
+    Forward(Kind),
+    Backward(Kind),
+    Step(Kind),
+    Picture(Kind),
+}
+
+pub enum Fault {
+    Long,
+    Question,
+    Kind,
+    Value,
+    Name,
+    Number,
+    Hex,
+    Size,
+}
+
+// What a line says: nothing; nothing that is a question; a question, with the end of the words that name it.
+pub enum Line {
+    Nothing,
+    Wrong(Fault),
+    Asked(Question, usize),
+}
+
+// What a value word gives: a number to a name's row; a buffer, by its name's row and the start of its hex digits; a fault.
+enum Word {
+    Number(usize, u64),
+    Buffer(usize, usize),
+    Wrong(Fault),
+}
+
+fn kind_of(row: usize) -> Kind {
+    match row {
+        0 => Kind::Up,
+        1 => Kind::Down,
+        _ => Kind::Control,
+    }
+}
+
+fn question_of(row: usize, kind: usize) -> Question {
+    match row {
+        0 => Question::Set,
+        1 => Question::Cell,
+        2 => Question::Bitmap,
+        3 => Question::Fill,
+        4 => Question::Element,
+        5 => Question::Plan(kind_of(kind)),
+        6 => Question::Forward(kind_of(kind)),
+        7 => Question::Backward(kind_of(kind)),
+        8 => Question::Step(kind_of(kind)),
+        _ => Question::Picture(kind_of(kind)),
+    }
+}
+
+fn read_number(name: usize, s: &[u8]) -> Word {
+    match text::decimal(s) {
+        Number::Bad => Word::Wrong(Fault::Number),
+        Number::Value(x) => {
+            if (name == ROOM) & (x > LARGEST_ROOM) {
+                return Word::Wrong(Fault::Size);
+            }
+            Word::Number(name, x)
+        }
+    }
+}
+
+fn read_level(s: &[u8]) -> Word {
+    if !text::is_hex(s) {
+        return Word::Wrong(Fault::Hex);
+    }
+    if s.len() != 8 {
+        return Word::Wrong(Fault::Size);
+    }
+    Word::Number(LEVEL, text::word(s))
+}
+
+// The most bytes that a buffer takes.
+fn limit(name: usize) -> usize {
+    if name == DATA {
+        return 1024;
+    }
+    64
+}
+
+fn is_minus(s: &[u8]) -> bool {
+    if s.len() != 1 {
+        return false;
+    }
+    s[0] == b'-'
+}
+
+// A buffer's hex digits, which start at a place of the line. An empty buffer is the number 0 at its row.
+fn read_buffer(name: usize, s: &[u8], start: usize) -> Word {
+    if is_minus(s) {
+        return Word::Number(name, 0);
+    }
+    if !text::is_hex(s) {
+        return Word::Wrong(Fault::Hex);
+    }
+    if s.len() / 2 > limit(name) {
+        return Word::Wrong(Fault::Size);
+    }
+    Word::Buffer(name, start)
+}
+
+// A tab or a carriage return stands in the word.
+fn is_odd(line: &[u8], start: usize, end: usize) -> bool
+    requires { ⌜ (start ≤ end) × (end ≤ length (now line)) ⌝ }
+{
+    (find(line, start, end, b'\t') < end) | (find(line, start, end, b'\r') < end)
+}
+
+fn read_word(line: &[u8], start: usize, end: usize) -> Word
+    requires { ⌜ (start ≤ end) × (end ≤ length (now line)) ⌝ }
+{
+    let equals = find(line, start, end, b'=');
+    if is_odd(line, start, end) {
+        return Word::Wrong(Fault::Value);
+    }
+    if equals == end {
+        return Word::Wrong(Fault::Value);
+    }
+    let name = text::row_of(&NAMES, &line[start..equals]);
+    let from = equals + 1;
+    let value = &line[from..end];
+    if name < LEVEL {
+        return read_number(name, value);
+    }
+    if name == LEVEL {
+        return read_level(value);
+    }
+    if name > DATA {
+        return Word::Wrong(Fault::Name);
+    }
+    read_buffer(name, value, from)
+}
+
+// The end of the word after the space at a place.
+fn next_end(line: &[u8], at: usize) -> usize
+    requires { ⌜ at < length (now line) ⌝ }
+    ensures { λ r. ⌜ (at < r) × (r ≤ length (now (line .entry))) ⌝ }
+{
+    find(line, at + 1, line.len(), b' ')
+}
+
+// The row of the kind that the word after the question names.
+fn kind_after(line: &[u8], at: usize) -> usize
+    requires { ⌜ at ≤ length (now line) ⌝ }
+{
+    if at == line.len() {
+        return NO_KIND;
+    }
+    let start = at + 1;
+    let end = next_end(line, at);
+    text::row_of(&KINDS, &line[start..end])
+}
+
+// The question, where all value words are good.
+fn check_words(line: &[u8], named: usize, q: Question) -> Line
+    requires { ⌜ named ≤ length (now line) ⌝ }
+{
+    let mut end = named;
+    while end < line.len() {
+        let start = end + 1;
+        end = next_end(line, end);
+        let w = read_word(line, start, end);
+        if let Word::Wrong(f) = w {
+            return Line::Wrong(f);
+        }
+    }
+    Line::Asked(q, named)
+}
+
+// The kind is as the question wants it: none, one, or for a picture one of the downlink's.
+fn suits(row: usize, kind: usize) -> bool {
+    if row < WITHOUT_KIND {
+        return kind == NO_KIND;
+    }
+    (kind < NO_KIND) & ((row != PICTURE) | (kind != UP))
+}
+
+// The end of the words that name the question.
+fn named_end(line: &[u8], row: usize, end: usize) -> usize
+    requires { ⌜ end ≤ length (now line) ⌝ }
+    ensures { λ r. ⌜ r ≤ length (now (line .entry)) ⌝ }
+{
+    if row < WITHOUT_KIND {
+        return end;
+    }
+    if end == line.len() {
+        return end;
+    }
+    next_end(line, end)
+}
+
+// A line that is not empty, no remark and not too long.
+fn read_question(line: &[u8]) -> Line {
+    let end = find(line, 0, line.len(), b' ');
+    let row = text::row_of(&QUESTIONS, &line[0..end]);
+    if row >= QUESTIONS.len() {
+        return Line::Wrong(Fault::Question);
+    }
+    let kind = kind_after(line, end);
+    if !suits(row, kind) {
+        return Line::Wrong(Fault::Kind);
+    }
+    check_words(line, named_end(line, row, end), question_of(row, kind))
+}
+
+pub fn read_line(line: &[u8]) -> Line {
+    if line.len() == 0 {
+        return Line::Nothing;
+    }
+    if line[0] == b'#' {
+        return Line::Nothing;
+    }
+    if line.len() > LONGEST {
+        return Line::Wrong(Fault::Long);
+    }
+    read_question(line)
+}
+
+fn keep_number(v: &mut Values, name: usize, x: u64) {
+    if name < 31 {
+        v[name] = x;
+    }
+}
+
+fn keep_buffer(
+    name: usize,
+    s: &[u8],
+    v: &mut Values,
+    anchor: &mut [u8; 64],
+    other: &mut [u8; 64],
+    data: &mut [u8; 1024],
+) {
+    if name == ANCHOR {
+        v[ANCHOR] = text::take_hex(s, anchor) as u64;
+    }
+    if name == OTHER {
+        v[OTHER] = text::take_hex(s, other) as u64;
+    }
+    if name == DATA {
+        v[DATA] = text::take_hex(s, data) as u64;
+    }
+}
+
+// A part of a line; an empty one where it starts past its end.
+fn part(line: &[u8], start: usize, end: usize) -> &[u8]
+    requires { ⌜ end ≤ length (now line) ⌝ }
+{
+    if start <= end {
+        return &line[start..end];
+    }
+    &line[end..end]
+}
+
+fn keep_word(
+    line: &[u8],
+    start: usize,
+    end: usize,
+    v: &mut Values,
+    anchor: &mut [u8; 64],
+    other: &mut [u8; 64],
+    data: &mut [u8; 1024],
+)
+    requires { ⌜ (start ≤ end) × (end ≤ length (now line)) ⌝ }
+{
+    match read_word(line, start, end) {
+        Word::Wrong(_) => {}
+        Word::Number(name, x) => keep_number(v, name, x),
+        Word::Buffer(name, from) => {
+            keep_buffer(name, part(line, from, end), v, anchor, other, data)
+        }
+    }
+}
+
+// Keeps the values of a question's line.
+pub fn keep_words(
+    line: &[u8],
+    named: usize,
+    v: &mut Values,
+    anchor: &mut [u8; 64],
+    other: &mut [u8; 64],
+    data: &mut [u8; 1024],
+) {
+    let mut end = named;
+    while end < line.len() {
+        let start = end + 1;
+        end = next_end(line, end);
+        keep_word(line, start, end, v, anchor, other, data);
+    }
+}

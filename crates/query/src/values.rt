@@ -1,0 +1,204 @@
+// The values kept from line to line: numbers by the row of their name, and the counts of the three buffers' bytes.
+use crate::reading::Kind;
+use cell::Cell;
+use control::ControlGrant;
+use downlink::DownlinkGrant;
+use uplink::UplinkGrant;
+use walk::Grant;
+use walk::Walk;
+
+// The numbers' names; then the level, a number too, and the buffers.
+pub const NAMES: [[u8; 10]; 31] = [
+    *b"mode      ",
+    *b"carrier   ",
+    *b"identity  ",
+    *b"nports    ",
+    *b"cports    ",
+    *b"control   ",
+    *b"sib1      ",
+    *b"bits      ",
+    *b"n         ",
+    *b"delay     ",
+    *b"rmax      ",
+    *b"subframes ",
+    *b"copies    ",
+    *b"r         ",
+    *b"format    ",
+    *b"ncce      ",
+    *b"spacing   ",
+    *b"subcarrier",
+    *b"units     ",
+    *b"mcs       ",
+    *b"p         ",
+    *b"t         ",
+    *b"slot      ",
+    *b"l         ",
+    *b"k         ",
+    *b"i         ",
+    *b"room      ",
+    *b"level     ",
+    *b"anchor    ",
+    *b"other     ",
+    *b"data      ",
+];
+
+const MODE: usize = 0;
+
+const CARRIER: usize = 1;
+
+const IDENTITY: usize = 2;
+
+const NPORTS: usize = 3;
+
+const CPORTS: usize = 4;
+
+const CONTROL: usize = 5;
+
+const SIB1: usize = 6;
+
+const BITS: usize = 7;
+
+const N: usize = 8;
+
+const DELAY: usize = 9;
+
+const RMAX: usize = 10;
+
+const SUBFRAMES: usize = 11;
+
+const COPIES: usize = 12;
+
+const R: usize = 13;
+
+const FORMAT: usize = 14;
+
+const NCCE: usize = 15;
+
+const SPACING: usize = 16;
+
+const SUBCARRIER: usize = 17;
+
+const UNITS: usize = 18;
+
+const MCS: usize = 19;
+
+pub const P: usize = 20;
+
+pub const T: usize = 21;
+
+pub const SLOT: usize = 22;
+
+pub const L: usize = 23;
+
+pub const K: usize = 24;
+
+pub const I: usize = 25;
+
+pub const ROOM: usize = 26;
+
+pub const LEVEL: usize = 27;
+
+pub const ANCHOR: usize = 28;
+
+pub const OTHER: usize = 29;
+
+pub const DATA: usize = 30;
+
+// At a buffer's row stands the count of its bytes.
+pub type Values = [u64; 31];
+
+// All 0, but the room.
+pub fn start() -> Values {
+    let mut v = [0u64; 31];
+    v[ROOM] = 336;
+    v
+}
+
+pub fn cell_of(v: &Values) -> Cell {
+    Cell {
+        mode: v[MODE],
+        carrier: v[CARRIER],
+        identity: v[IDENTITY],
+        nports: v[NPORTS],
+        cports: v[CPORTS],
+        control: v[CONTROL],
+        sib1: v[SIB1],
+        bits: v[BITS],
+    }
+}
+
+pub fn downlink_grant(v: &Values) -> DownlinkGrant {
+    DownlinkGrant {
+        n: v[N],
+        delay: v[DELAY],
+        rmax: v[RMAX],
+        subframes: v[SUBFRAMES],
+        copies: v[COPIES],
+    }
+}
+
+pub fn control_grant(v: &Values) -> ControlGrant {
+    ControlGrant {
+        n: v[N],
+        r: v[R],
+        format: v[FORMAT],
+        ncce: v[NCCE],
+    }
+}
+
+pub fn uplink_grant(v: &Values) -> UplinkGrant {
+    UplinkGrant {
+        n: v[N],
+        spacing: v[SPACING],
+        subcarrier: v[SUBCARRIER],
+        units: v[UNITS],
+        copies: v[COPIES],
+        delay: v[DELAY],
+        mcs: v[MCS],
+    }
+}
+
+fn grant_of(k: Kind, v: &Values) -> Grant {
+    match k {
+        Kind::Up => Grant::Up(uplink_grant(v)),
+        Kind::Down => Grant::Down(downlink_grant(v)),
+        Kind::Control => Grant::Control(control_grant(v)),
+    }
+}
+
+// The record of a walk at the position p.
+pub fn walk_of(k: Kind, v: &Values) -> Walk {
+    let cell = cell_of(v);
+    let grant = grant_of(k, v);
+    Walk {
+        cell,
+        grant,
+        p: v[P],
+    }
+}
+
+// The bytes of a buffer that are in use.
+pub fn front(buffer: &[u8], count: u64) -> &[u8] {
+    let n = count as usize;
+    if n <= buffer.len() {
+        return &buffer[0..n];
+    }
+    buffer
+}
+
+// The level's f32, by its pattern.
+pub fn level_of(v: &Values) -> f32 {
+    text::float_of((v[LEVEL] % 0x1_0000_0000) as u32)
+}
+
+// How many subframes the codeword has.
+pub fn codeword_subframes(v: &Values) -> u64 {
+    if v[SUBFRAMES] > 7 {
+        return 0;
+    }
+    grid::length(v[SUBFRAMES])
+}
+
+pub fn control_region(v: &Values) -> u64 {
+    v[CONTROL]
+}
