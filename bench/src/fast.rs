@@ -1,0 +1,58 @@
+//! The questions in plain Rust, as fast as we can write them. Nothing is kept between calls: each call judges its cell and
+//! its grant. No loop runs over subframes or elements, but for the fill, which writes its numbers once.
+//! Cells, grants and answers are in the order of include/nbiot.h.
+
+mod cell;
+mod downlink;
+mod elements;
+mod fill;
+mod uplink;
+
+pub use cell::judge;
+pub use downlink::{backward_control, backward_down, forward_control, forward_down, plan_control, plan_down, step_control, step_down};
+pub use fill::{element, fill};
+pub use uplink::{backward_up, forward_up, plan_up, step_up};
+
+pub type Cell = [u64; 8];
+pub type UpGrant = [u64; 7];
+pub type DownGrant = [u64; 5];
+pub type ControlGrant = [u64; 4];
+pub type UpWalk = [u64; 8];
+pub type DownWalk = [u64; 14];
+pub type ControlWalk = [u64; 13];
+
+const LAST_SUBFRAME: u64 = (1 << 30) - 1;
+const LENGTHS: [u32; 8] = [1, 2, 3, 4, 5, 6, 8, 10];
+
+/// An answer of a refused question: its number, and zeros.
+#[inline(always)]
+fn refused<const N: usize>(no: u64) -> [u64; N] {
+    let mut answer = [0; N];
+    answer[0] = no;
+    answer
+}
+
+/// Backward's answers.
+#[inline(always)]
+fn ours(symbol: u64, position: u64) -> [u64; 5] {
+    [0, 1, symbol, position, 0]
+}
+
+#[inline(always)]
+fn other(kind: u64) -> [u64; 5] {
+    [0, 0, 0, 0, kind]
+}
+
+/// A step from forward's answer at the walk's position: the answer, and the position moved on.
+#[inline(always)]
+fn stepped(p: &mut u64, no: u64, places: u64, at: [u64; 5]) -> [u64; 7] {
+    if no == 0 {
+        *p += 1;
+        let [t, slot, l, k, symbol] = at;
+        return [0, 0, t, slot, l, k, symbol];
+    }
+    if no == 14 && *p == places {
+        return [0, 1, 0, 0, 0, 0, 0];
+    }
+    refused(no)
+}

@@ -1,0 +1,222 @@
+//! A cell: its refusals, and its usable subframes as spans of forty.
+
+use super::Cell;
+
+const ALL: u64 = 0xff_ffff_ffff;
+const FOUR_TIMES: u64 = 0x4010_0401;
+const PLAIN: u64 = 0xf7_9def_79de;
+const NOT_EVEN: u64 = 0xf7_9cef_79ce;
+const NOT_ODD: u64 = 0xf3_9def_39de;
+
+const ONES: u64 = 0x0101_0101_0101_0101;
+const HIGH: u64 = 0x8080_8080_8080_8080;
+
+/// The usable subframes: `1 << shift` spans to a period, with SIB1 in the four from `first` on.
+pub struct Pattern {
+    shift: u32,
+    first: u32,
+    plain: u64,
+    sib1: u64,
+    in_plain: u32,
+    in_sib1: u32,
+}
+
+/// Refusals 1 to 6.
+#[inline(always)]
+fn numbers(cell: &Cell) -> u64 {
+    let [mode, carrier, identity, nports, cports, control, sib1, _] = *cell;
+    let (ports, regions) = if mode < 2 { (0b10110, 0b1110) } else { (1, 1) };
+    if mode > 3 || carrier > 1 {
+        return 1;
+    }
+    if identity > 503 {
+        return 2;
+    }
+    if nports.wrapping_sub(1) > 1 {
+        return 3;
+    }
+    if cports > 4 || (ports >> cports) & 1 == 0 {
+        return 4;
+    }
+    if control > 3 || (regions >> control) & 1 == 0 {
+        return 5;
+    }
+    if sib1 > 11 {
+        return 6;
+    }
+    0
+}
+
+/// The bits of each byte in reverse.
+#[inline(always)]
+fn reversed(m: u64) -> u64 {
+    let m = (m >> 1) & 0x5555_5555_5555_5555 | (m & 0x5555_5555_5555_5555) << 1;
+    let m = (m >> 2) & 0x3333_3333_3333_3333 | (m & 0x3333_3333_3333_3333) << 2;
+    (m >> 4) & 0x0f0f_0f0f_0f0f_0f0f | (m & 0x0f0f_0f0f_0f0f_0f0f) << 4
+}
+
+/// The bitmap as a number, subframe i of forty at digit i; none for refusal 7.
+#[inline(always)]
+fn bitmap(bits: u64, own: &[u8]) -> Option<u64> {
+    match bits {
+        0 => Some(ALL),
+        10 => {
+            let &[a, b] = own.first_chunk::<2>()?;
+            let m = reversed(a as u64 | (b as u64) << 8);
+            (b & 63 == 0).then_some(m * FOUR_TIMES)
+        }
+        40 => {
+            let &[a, b, c, d, e] = own.first_chunk::<5>()?;
+            Some(reversed(u64::from_le_bytes([a, b, c, d, e, 0, 0, 0])))
+        }
+        _ => None,
+    }
+}
+
+/// A cell's refusal, or the bitmap's mask and the pattern without counts.
+#[inline(always)]
+fn masks(cell: &Cell, anchor: &[u8], others: &[u8]) -> Result<Pattern, u64> {
+    let no = numbers(cell);
+    if no != 0 {
+        return Err(no);
+    }
+    let &[_, carrier, identity, _, _, _, schedule, bits] = cell;
+    let own = if carrier == 0 { anchor } else { others };
+    let m = bitmap(bits, own).ok_or(7u64)?;
+    let mut p = Pattern { shift: 2, first: 0, plain: m, sib1: m, in_plain: 0, in_sib1: 0 };
+    if carrier == 0 {
+        let identity = identity as u32;
+        p.plain = m & PLAIN;
+        p.sib1 = m & NOT_EVEN;
+        match schedule as u32 % 3 {
+            0 => (p.shift, p.first) = (4, 4 * (identity & 3)),
+            1 => (p.shift, p.first) = (3, 4 * (identity & 1)),
+            _ if identity & 1 == 1 => p.sib1 = m & NOT_ODD,
+            _ => {}
+        }
+    }
+    if p.sib1 == 0 && (p.shift == 2 || p.plain == 0) {
+        return Err(8);
+    }
+    Ok(p)
+}
+
+#[inline(never)]
+pub fn judge(cell: &Cell, anchor: &[u8], others: &[u8]) -> u64 {
+    match masks(cell, anchor, others) {
+        Ok(_) => 0,
+        Err(no) => no,
+    }
+}
+
+/// A cell's refusal, or its pattern.
+#[inline(always)]
+pub fn judged(cell: &Cell, anchor: &[u8], others: &[u8]) -> Result<Pattern, u64> {
+    let mut p = masks(cell, anchor, others)?;
+    p.in_plain = p.plain.count_ones();
+    p.in_sib1 = p.sib1.count_ones();
+    Ok(p)
+}
+
+/// The place of the k-th one of a mask: the byte by prefix sums of its bytes' counts, then a table.
+#[inline(always)]
+fn select(m: u64, k: u32) -> u32 {
+    let s = m - ((m >> 1) & 0x5555_5555_5555_5555);
+    let s = (s & 0x3333_3333_3333_3333) + ((s >> 2) & 0x3333_3333_3333_3333);
+    let s = ((s + (s >> 4)) & 0x0f0f_0f0f_0f0f_0f0f).wrapping_mul(ONES);
+    let passed = ((k as u64 * ONES | HIGH) - s) & HIGH;
+    let place = ((passed >> 7).wrapping_mul(ONES) >> 56) * 8;
+    let rest = k as u64 - ((s << 8) >> place & 0xff);
+    place as u32 + IN_BYTE[((m >> place & 0xff) << 3 | rest) as usize] as u32
+}
+
+/// Place of the k-th one of a byte, at 8 times the byte plus k.
+const IN_BYTE: [u8; 2048] = {
+    let mut table = [0; 2048];
+    let mut byte = 0;
+    while byte < 256 {
+        let (mut k, mut i) = (0, 0);
+        while i < 8 {
+            if byte >> i & 1 == 1 {
+                table[byte * 8 + k] = i as u8;
+                k += 1;
+            }
+            i += 1;
+        }
+        byte += 1;
+    }
+    table
+};
+
+/// Division of numbers below 640 by 1 to 40, as a product.
+const INVERSES: [u32; 41] = {
+    let mut table = [0; 41];
+    let mut n = 1;
+    while n <= 40 {
+        table[n] = 65535 / n as u32 + 1;
+        n += 1;
+    }
+    table
+};
+
+impl Pattern {
+    #[inline(always)]
+    fn mask(&self, span: u64) -> u64 {
+        let x = span as u32 & ((1 << self.shift) - 1);
+        if x.wrapping_sub(self.first) < 4 { self.sib1 } else { self.plain }
+    }
+
+    /// How many usable subframes lie before subframe t.
+    #[inline(always)]
+    fn rank(&self, t: u64) -> u64 {
+        let (s, i) = (t / 40, t % 40);
+        let x = s as u32 & ((1 << self.shift) - 1);
+        let h = (s >> self.shift) * 4 + x.saturating_sub(self.first).min(4) as u64;
+        let part = (self.mask(s) & ((1 << i) - 1)).count_ones() as u64;
+        h * self.in_sib1 as u64 + (s - h) * self.in_plain as u64 + part
+    }
+
+    /// The subframe of the first period before which k usable ones lie.
+    #[inline(always)]
+    fn pick(&self, k: u32) -> u32 {
+        let lead = self.first * self.in_plain;
+        let (mask, n, s, k) = if k < lead {
+            (self.plain, self.in_plain, 0, k)
+        } else if k - lead < 4 * self.in_sib1 {
+            (self.sib1, self.in_sib1, self.first, k - lead)
+        } else {
+            (self.plain, self.in_plain, self.first + 4, k - lead - 4 * self.in_sib1)
+        };
+        let q = k * INVERSES[n as usize] >> 16;
+        40 * (s + q) + select(mask, k - q * n)
+    }
+
+    /// The usable subframe before which k usable ones lie.
+    #[inline(always)]
+    fn at(&self, k: u64) -> u64 {
+        let per = 4 * self.in_sib1 + ((1 << self.shift) - 4) * self.in_plain;
+        let k = k as u32;
+        ((k / per) as u64) * (40 << self.shift) + self.pick(k % per) as u64
+    }
+
+    /// The j-th usable subframe from a given one on, and the last of `many` from that on.
+    #[inline(always)]
+    pub fn ends(&self, from: u64, j: u64, many: u64) -> (u64, u64) {
+        let k = self.rank(from) + j;
+        (self.at(k), self.at(k + many - 1))
+    }
+
+    #[inline(always)]
+    pub fn nth(&self, from: u64, j: u64) -> u64 {
+        self.at(self.rank(from) + j)
+    }
+
+    /// Which usable subframe from a given one on t is; none where it is not usable or lies before.
+    #[inline(always)]
+    pub fn index(&self, from: u64, t: u64) -> Option<u64> {
+        if t < from || self.mask(t / 40) >> (t % 40) & 1 == 0 {
+            return None;
+        }
+        Some(self.rank(t) - self.rank(from))
+    }
+}

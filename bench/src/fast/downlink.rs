@@ -1,0 +1,166 @@
+//! NPDSCH and NPDCCH.
+
+use super::cell::{judged, Pattern};
+use super::elements::Layout;
+use super::{other, ours, refused, stepped, Cell, ControlGrant, ControlWalk, DownGrant, DownWalk, LAST_SUBFRAME, LENGTHS};
+
+const COPIES: [u32; 16] = [1, 2, 4, 8, 16, 32, 64, 128, 192, 256, 384, 512, 768, 1024, 1536, 2048];
+const DELAYS: [[u32; 8]; 2] = [[0, 4, 8, 12, 16, 32, 64, 128], [0, 16, 32, 64, 128, 256, 512, 1024]];
+
+/// An accepted question.
+pub struct Burst {
+    pub pattern: Pattern,
+    pub layout: Layout,
+    from: u64,
+    skip: u64,
+    /// Subframes of the codeword, copies, and the logarithm of the copies sent in a row.
+    pub length: u32,
+    copies: u32,
+    row: u32,
+}
+
+#[inline(always)]
+fn is_repetition(x: u64) -> bool {
+    x <= 2048 && x.is_power_of_two()
+}
+
+#[inline(always)]
+pub fn down(cell: &Cell, anchor: &[u8], others: &[u8], grant: &DownGrant) -> Result<Burst, u64> {
+    let pattern = judged(cell, anchor, others)?;
+    let &[n, delay, rmax, length, copies] = grant;
+    if n > LAST_SUBFRAME {
+        return Err(9);
+    }
+    if delay > 7 || length > 7 || copies > 15 {
+        return Err(10);
+    }
+    if !is_repetition(rmax) {
+        return Err(12);
+    }
+    let layout = Layout::new(cell, 0, 12);
+    let skip = DELAYS[(rmax >= 128) as usize][delay as usize] as u64;
+    let (length, row) = (LENGTHS[length as usize], (copies as u32).min(2));
+    let copies = COPIES[copies as usize];
+    Ok(Burst { pattern, layout, from: n + 5, skip, length, copies, row })
+}
+
+#[inline(always)]
+fn control(cell: &Cell, anchor: &[u8], others: &[u8], grant: &ControlGrant) -> Result<Burst, u64> {
+    let pattern = judged(cell, anchor, others)?;
+    let &[n, r, format, ncce] = grant;
+    if n > LAST_SUBFRAME {
+        return Err(9);
+    }
+    if format > 1 || ncce > 1 || format & ncce == 1 {
+        return Err(10);
+    }
+    if !is_repetition(r) {
+        return Err(12);
+    }
+    let layout = Layout::new(cell, 6 * ncce, 6 + 6 * format);
+    Ok(Burst { pattern, layout, from: n, skip: 0, length: 1, copies: r as u32, row: 0 })
+}
+
+impl Burst {
+    #[inline(always)]
+    pub fn sent(&self) -> u64 {
+        (self.copies * self.length) as u64
+    }
+
+    /// The codeword subframe that transmitted subframe i carries.
+    #[inline(always)]
+    pub fn carried(&self, i: u64) -> u64 {
+        ((i as u32 >> self.row) % self.length) as u64
+    }
+
+    #[inline(always)]
+    fn plan(&self) -> [u64; 5] {
+        let sent = self.sent();
+        let (first, last) = self.pattern.ends(self.from, self.skip, sent);
+        [0, first, last, self.copies as u64, sent * self.layout.count()]
+    }
+
+    #[inline(always)]
+    fn forward(&self, p: u64) -> [u64; 6] {
+        let w = self.layout.count();
+        if p >= self.sent() * w {
+            return refused(14);
+        }
+        let (i, e) = ((p as u32 / w as u32) as u64, (p as u32 % w as u32) as u64);
+        let t = self.pattern.nth(self.from, self.skip + i);
+        let (slot, l, k) = self.layout.element(e);
+        [0, t, slot, l, k, self.carried(i) * w + e]
+    }
+
+    #[inline(always)]
+    fn step(&self, p: &mut u64) -> [u64; 7] {
+        let [no, t, slot, l, k, symbol] = self.forward(*p);
+        stepped(p, no, self.sent() * self.layout.count(), [t, slot, l, k, symbol])
+    }
+
+    #[inline(always)]
+    fn backward(&self, t: u64, slot: u64, l: u64, k: u64) -> [u64; 5] {
+        if slot > 1 || l > 6 || k > 11 {
+            return refused(14);
+        }
+        let Some(i) = self.pattern.index(self.from, t) else {
+            return other(0);
+        };
+        let i = i.wrapping_sub(self.skip);
+        if i >= self.sent() {
+            return other(0);
+        }
+        if !self.layout.is_used(slot, l, k) {
+            return other(self.layout.kind(l, k));
+        }
+        let w = self.layout.count();
+        let e = self.layout.number(slot, l, k);
+        ours(self.carried(i) * w + e, i * w + e)
+    }
+}
+
+#[inline(never)]
+pub fn plan_down(cell: &Cell, anchor: &[u8], others: &[u8], grant: &DownGrant) -> [u64; 5] {
+    down(cell, anchor, others, grant).map_or_else(refused, |b| b.plan())
+}
+
+#[inline(never)]
+pub fn forward_down(cell: &Cell, anchor: &[u8], others: &[u8], grant: &DownGrant, p: u64) -> [u64; 6] {
+    down(cell, anchor, others, grant).map_or_else(refused, |b| b.forward(p))
+}
+
+#[inline(never)]
+pub fn backward_down(cell: &Cell, anchor: &[u8], others: &[u8], grant: &DownGrant, at: [u64; 4]) -> [u64; 5] {
+    let [t, slot, l, k] = at;
+    down(cell, anchor, others, grant).map_or_else(refused, |b| b.backward(t, slot, l, k))
+}
+
+#[inline(never)]
+pub fn plan_control(cell: &Cell, anchor: &[u8], others: &[u8], grant: &ControlGrant) -> [u64; 5] {
+    control(cell, anchor, others, grant).map_or_else(refused, |b| b.plan())
+}
+
+#[inline(never)]
+pub fn forward_control(cell: &Cell, anchor: &[u8], others: &[u8], grant: &ControlGrant, p: u64) -> [u64; 6] {
+    control(cell, anchor, others, grant).map_or_else(refused, |b| b.forward(p))
+}
+
+#[inline(never)]
+pub fn backward_control(cell: &Cell, anchor: &[u8], others: &[u8], grant: &ControlGrant, at: [u64; 4]) -> [u64; 5] {
+    let [t, slot, l, k] = at;
+    control(cell, anchor, others, grant).map_or_else(refused, |b| b.backward(t, slot, l, k))
+}
+
+#[inline(never)]
+pub fn step_down(walk: &mut DownWalk, anchor: &[u8], others: &[u8]) -> [u64; 7] {
+    let (p, rest) = walk.split_first_mut().expect("14 numbers");
+    let (cell, grant) = rest.split_first_chunk().expect("13 numbers");
+    down(cell, anchor, others, grant.first_chunk().expect("5 numbers")).map_or_else(refused, |b| b.step(p))
+}
+
+#[inline(never)]
+pub fn step_control(walk: &mut ControlWalk, anchor: &[u8], others: &[u8]) -> [u64; 7] {
+    let (p, rest) = walk.split_first_mut().expect("13 numbers");
+    let (cell, grant) = rest.split_first_chunk().expect("12 numbers");
+    control(cell, anchor, others, grant.first_chunk().expect("4 numbers")).map_or_else(refused, |b| b.step(p))
+}

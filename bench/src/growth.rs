@@ -1,0 +1,65 @@
+//! The second table: what a call costs as one number of its grant, or the bitmap's ones, change.
+
+use crate::measure::versus;
+use crate::ours;
+use crate::scene::{Random, Scene};
+
+const SCENES: usize = 256;
+
+/// Nanoseconds a call of plan, forward and backward.
+fn times(scenes: &mut [Scene]) -> [f64; 3] {
+    let (mut plan, mut place, mut back) = ([0; 5], [0; 6], [0; 5]);
+    let (planned, _) = versus(scenes, |s| ours::plan_down(&s.cell, &s.anchor, &s.other, &s.down, &mut plan), |_| 0);
+    let (forward, _) = versus(scenes, |s| ours::forward_down(&s.cell, &s.anchor, &s.other, &s.down, s.p[1], &mut place), |_| 0);
+    let (backward, _) = versus(
+        scenes,
+        |s| {
+            let [t, slot, l, k] = s.at_down;
+            ours::backward_down(&s.cell, &s.anchor, &s.other, &s.down, t, slot, l, k, &mut back)
+        },
+        |_| 0,
+    );
+    [planned, forward, backward]
+}
+
+fn line(name: &str, value: u64, mut scenes: Vec<Scene>) {
+    let [plan, forward, backward] = times(&mut scenes);
+    println!("| {name} | {value} | {plan:.1} | {forward:.1} | {backward:.1} |");
+}
+
+/// Standalone anchors of all identities, two ports and no bitmap, with one change to the grant, at random positions.
+fn scenes(r: &mut Random, change: impl Fn(&mut Scene)) -> Vec<Scene> {
+    let made = (0..SCENES).map(|_| {
+        let mut scene = Scene::accepted(r);
+        scene.cell = [3, 0, r.below(504), 2, 0, 0, r.below(12), 0];
+        scene.down = [100 + r.below(1000), 0, 2048, 7, 15];
+        change(&mut scene);
+        scene.aim(r);
+        scene
+    });
+    made.collect()
+}
+
+pub fn table(r: &mut Random) {
+    println!("\n| NPDSCH grows by | to | plan, ns | forward, ns | backward, ns |\n|---|---|---|---|---|");
+    for (field, copies) in [1, 2, 4, 8, 16, 32, 64, 128].into_iter().enumerate() {
+        line("copies", copies, scenes(r, |s| s.down[4] = field as u64));
+    }
+    for (field, copies) in [(9, 256), (11, 512), (13, 1024), (15, 2048)] {
+        line("copies", copies, scenes(r, |s| s.down[4] = field));
+    }
+    for (field, delay) in [0, 16, 32, 64, 128, 256, 512, 1024].into_iter().enumerate() {
+        line("delay", delay, scenes(r, |s| s.down[1] = field as u64));
+    }
+    for log in [0, 6, 12, 18, 24, 29] {
+        line("n", 1 << log, scenes(r, |s| s.down[0] = 1 << log));
+    }
+    for log in [0, 4, 8, 12, 16, 20] {
+        let mut at = scenes(r, |_| ());
+        at.iter_mut().for_each(|s| s.place(1 << log));
+        line("p", 1 << log, at);
+    }
+    for ones in [40, 20, 10, 5, 2, 1] {
+        line("bitmap with ones", ones, scenes(r, |s| s.sparse(ones)));
+    }
+}

@@ -1,0 +1,35 @@
+//! Times of two versions of a question, side by side in one run.
+
+use crate::scene::Scene;
+use std::hint::black_box;
+use std::time::Instant;
+
+const ROUNDS: usize = 601;
+
+fn median(mut times: Vec<f64>) -> f64 {
+    times.sort_by(f64::total_cmp);
+    times[times.len() / 2]
+}
+
+/// Nanoseconds a call over all scenes, the median of many rounds, of ours and of fast by turns.
+pub fn versus<A, B>(
+    scenes: &mut [Scene],
+    mut ours: impl FnMut(&mut Scene) -> A,
+    mut fast: impl FnMut(&mut Scene) -> B,
+) -> (f64, f64) {
+    let (mut first, mut second) = (Vec::new(), Vec::new());
+    let calls = scenes.len() as f64;
+    for _ in 0..ROUNDS {
+        let start = Instant::now();
+        for scene in scenes.iter_mut() {
+            black_box(&ours(black_box(scene)));
+        }
+        let middle = Instant::now();
+        for scene in scenes.iter_mut() {
+            black_box(&fast(black_box(scene)));
+        }
+        first.push((middle - start).as_nanos() as f64 / calls);
+        second.push(middle.elapsed().as_nanos() as f64 / calls);
+    }
+    (median(first), median(second))
+}

@@ -1,0 +1,134 @@
+//! The proved library, through its C functions. A call is safe: each buffer goes with its own length.
+
+use crate::fast::{Cell, ControlGrant, ControlWalk, DownGrant, DownWalk, UpGrant, UpWalk};
+
+extern "C" {
+    fn nbiot_judge(cell: *const u64, cells: usize, anchor: *const u8, anchors: usize, other: *const u8, others: usize) -> u64;
+    fn nbiot_plan_up(grant: *const u64, grants: usize, answer: *mut u64, answers: usize) -> u64;
+    fn nbiot_forward_up(grant: *const u64, grants: usize, p: u64, answer: *mut u64, answers: usize) -> u64;
+    fn nbiot_backward_up(grant: *const u64, grants: usize, slot: u64, l: u64, k: u64, answer: *mut u64, answers: usize) -> u64;
+    fn nbiot_step_up(walk: *mut u64, walks: usize, answer: *mut u64, answers: usize) -> u64;
+    fn nbiot_step_down(
+        walk: *mut u64, walks: usize, anchor: *const u8, anchors: usize, other: *const u8, others: usize, answer: *mut u64, answers: usize,
+    ) -> u64;
+    fn nbiot_step_control(
+        walk: *mut u64, walks: usize, anchor: *const u8, anchors: usize, other: *const u8, others: usize, answer: *mut u64, answers: usize,
+    ) -> u64;
+    fn nbiot_fill(
+        cell: *const u64, cells: usize, anchor: *const u8, anchors: usize, other: *const u8, others: usize,
+        grant: *const u64, grants: usize, i: u64, bits: *const u8, bytes: usize, level: f32, output: *mut f32, outputs: usize,
+    ) -> u64;
+    fn nbiot_element(
+        cell: *const u64, cells: usize, anchor: *const u8, anchors: usize, other: *const u8, others: usize,
+        grant: *const u64, grants: usize, i: u64, slot: u64, l: u64, k: u64, bits: *const u8, bytes: usize, level: f32,
+        answer: *mut u64, answers: usize, amplitudes: *mut f32, pairs: usize,
+    ) -> u64;
+}
+
+macro_rules! downlink {
+    ($($name:ident $extern:ident ($($number:ident),*) $grant:ty, $columns:literal;)*) => {
+        extern "C" {
+            $(fn $extern(
+                cell: *const u64, cells: usize, anchor: *const u8, anchors: usize, other: *const u8, others: usize,
+                grant: *const u64, grants: usize, $($number: u64,)* answer: *mut u64, answers: usize,
+            ) -> u64;)*
+        }
+        $(#[inline(always)]
+        pub fn $name(cell: &Cell, anchor: &[u8], other: &[u8], grant: &$grant, $($number: u64,)* answer: &mut [u64; $columns]) -> u64 {
+            // SAFETY: the pointers and lengths are those of slices, and only `answer` is written.
+            unsafe {
+                $extern(
+                    cell.as_ptr(), cell.len(), anchor.as_ptr(), anchor.len(), other.as_ptr(), other.len(),
+                    grant.as_ptr(), grant.len(), $($number,)* answer.as_mut_ptr(), answer.len(),
+                )
+            }
+        })*
+    };
+}
+
+downlink! {
+    plan_down nbiot_plan_down () DownGrant, 5;
+    plan_control nbiot_plan_control () ControlGrant, 5;
+    forward_down nbiot_forward_down (p) DownGrant, 6;
+    forward_control nbiot_forward_control (p) ControlGrant, 6;
+    backward_down nbiot_backward_down (t, slot, l, k) DownGrant, 5;
+    backward_control nbiot_backward_control (t, slot, l, k) ControlGrant, 5;
+}
+
+#[inline(always)]
+pub fn judge(cell: &Cell, anchor: &[u8], other: &[u8]) -> u64 {
+    // SAFETY: the pointers and lengths are those of slices, and nothing is written.
+    unsafe { nbiot_judge(cell.as_ptr(), cell.len(), anchor.as_ptr(), anchor.len(), other.as_ptr(), other.len()) }
+}
+
+#[inline(always)]
+pub fn plan_up(grant: &UpGrant, answer: &mut [u64; 7]) -> u64 {
+    // SAFETY: as above; only `answer` is written.
+    unsafe { nbiot_plan_up(grant.as_ptr(), grant.len(), answer.as_mut_ptr(), answer.len()) }
+}
+
+#[inline(always)]
+pub fn forward_up(grant: &UpGrant, p: u64, answer: &mut [u64; 5]) -> u64 {
+    // SAFETY: as above; only `answer` is written.
+    unsafe { nbiot_forward_up(grant.as_ptr(), grant.len(), p, answer.as_mut_ptr(), answer.len()) }
+}
+
+#[inline(always)]
+pub fn backward_up(grant: &UpGrant, slot: u64, l: u64, k: u64, answer: &mut [u64; 5]) -> u64 {
+    // SAFETY: as above; only `answer` is written.
+    unsafe { nbiot_backward_up(grant.as_ptr(), grant.len(), slot, l, k, answer.as_mut_ptr(), answer.len()) }
+}
+
+#[inline(always)]
+pub fn step_up(walk: &mut UpWalk, answer: &mut [u64; 7]) -> u64 {
+    // SAFETY: as above; only `walk` and `answer` are written.
+    unsafe { nbiot_step_up(walk.as_mut_ptr(), walk.len(), answer.as_mut_ptr(), answer.len()) }
+}
+
+#[inline(always)]
+pub fn step_down(walk: &mut DownWalk, anchor: &[u8], other: &[u8], answer: &mut [u64; 7]) -> u64 {
+    // SAFETY: as above; only `walk` and `answer` are written.
+    unsafe {
+        nbiot_step_down(
+            walk.as_mut_ptr(), walk.len(), anchor.as_ptr(), anchor.len(), other.as_ptr(), other.len(), answer.as_mut_ptr(), answer.len(),
+        )
+    }
+}
+
+#[inline(always)]
+pub fn step_control(walk: &mut ControlWalk, anchor: &[u8], other: &[u8], answer: &mut [u64; 7]) -> u64 {
+    // SAFETY: as above; only `walk` and `answer` are written.
+    unsafe {
+        nbiot_step_control(
+            walk.as_mut_ptr(), walk.len(), anchor.as_ptr(), anchor.len(), other.as_ptr(), other.len(), answer.as_mut_ptr(), answer.len(),
+        )
+    }
+}
+
+#[inline(always)]
+pub fn fill(cell: &Cell, lent: [&[u8]; 2], grant: &DownGrant, i: u64, bits: &[u8], level: f32, out: &mut [f32]) -> u64 {
+    let [anchor, other] = lent;
+    // SAFETY: as above; only `out` is written.
+    unsafe {
+        nbiot_fill(
+            cell.as_ptr(), cell.len(), anchor.as_ptr(), anchor.len(), other.as_ptr(), other.len(), grant.as_ptr(), grant.len(),
+            i, bits.as_ptr(), bits.len(), level, out.as_mut_ptr(), out.len(),
+        )
+    }
+}
+
+#[inline(always)]
+pub fn element(
+    cell: &Cell, lent: [&[u8]; 2], grant: &DownGrant, at: [u64; 4], bits: &[u8], level: f32,
+    answer: &mut [u64; 2], amplitudes: &mut [f32; 2],
+) -> u64 {
+    let ([anchor, other], [i, slot, l, k]) = (lent, at);
+    // SAFETY: as above; only `answer` and `amplitudes` are written.
+    unsafe {
+        nbiot_element(
+            cell.as_ptr(), cell.len(), anchor.as_ptr(), anchor.len(), other.as_ptr(), other.len(), grant.as_ptr(), grant.len(),
+            i, slot, l, k, bits.as_ptr(), bits.len(), level,
+            answer.as_mut_ptr(), answer.len(), amplitudes.as_mut_ptr(), amplitudes.len(),
+        )
+    }
+}

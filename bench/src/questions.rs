@@ -1,0 +1,190 @@
+//! The first table: each question, ours beside fast.
+
+use crate::fast;
+use crate::measure::versus;
+use crate::ours;
+use crate::scene::Scene;
+
+/// One question with an answer of numbers: a line of the table.
+macro_rules! line {
+    ($name:literal, $timed:expr, $compared:expr, $columns:literal, |$s:ident, $a:ident| $ours:expr, $fast:expr) => {{
+        let mut buffer = [0u64; $columns];
+        let (ours_ns, fast_ns) = versus(
+            $timed,
+            |$s| {
+                let $a = &mut buffer;
+                $ours
+            },
+            |$s| $fast,
+        );
+        let mut agreed = 0;
+        for $s in $compared.iter_mut() {
+            let mut answer = [0u64; $columns];
+            let $a = &mut answer;
+            let no = $ours;
+            agreed += (no == answer[0] && answer == $fast) as usize;
+        }
+        report($name, ours_ns, fast_ns, agreed, $compared.len());
+    }};
+}
+
+fn report(name: &str, ours: f64, fast: f64, agreed: usize, compared: usize) {
+    println!("| {name} | {ours:.1} | {fast:.1} | {:.2} | {agreed} of {compared} |", ours / fast);
+    assert_eq!(agreed, compared, "{name}: the answers differ");
+}
+
+/// `timed` are accepted scenes, `ported` those of them with one port, `compared` any scenes.
+pub fn table(timed: &mut [Scene], ported: &mut [Scene], compared: &mut [Scene]) {
+    println!("| question | ours, ns | fast, ns | ours / fast | answers agree |\n|---|---|---|---|---|");
+    judge(timed, compared);
+    plans(timed, compared);
+    forwards(timed, compared);
+    backwards(timed, compared);
+    steps(timed, compared);
+    element(ported, compared);
+    fill(ported, compared);
+}
+
+fn judge(timed: &mut [Scene], compared: &[Scene]) {
+    let (ns, fs) = versus(
+        timed,
+        |s| ours::judge(&s.cell, &s.anchor, &s.other),
+        |s| fast::judge(&s.cell, &s.anchor, &s.other),
+    );
+    let same = |s: &&Scene| ours::judge(&s.cell, &s.anchor, &s.other) == fast::judge(&s.cell, &s.anchor, &s.other);
+    report("judge", ns, fs, compared.iter().filter(same).count(), compared.len());
+}
+
+fn plans(timed: &mut [Scene], compared: &mut [Scene]) {
+    line!("plan up", timed, compared, 7, |s, a| ours::plan_up(&s.up, a), fast::plan_up(&s.up));
+    line!(
+        "plan down", timed, compared, 5,
+        |s, a| ours::plan_down(&s.cell, &s.anchor, &s.other, &s.down, a),
+        fast::plan_down(&s.cell, &s.anchor, &s.other, &s.down)
+    );
+    line!(
+        "plan control", timed, compared, 5,
+        |s, a| ours::plan_control(&s.cell, &s.anchor, &s.other, &s.control, a),
+        fast::plan_control(&s.cell, &s.anchor, &s.other, &s.control)
+    );
+}
+
+fn forwards(timed: &mut [Scene], compared: &mut [Scene]) {
+    line!(
+        "forward up", timed, compared, 5,
+        |s, a| ours::forward_up(&s.up, s.p[0], a),
+        fast::forward_up(&s.up, s.p[0])
+    );
+    line!(
+        "forward down", timed, compared, 6,
+        |s, a| ours::forward_down(&s.cell, &s.anchor, &s.other, &s.down, s.p[1], a),
+        fast::forward_down(&s.cell, &s.anchor, &s.other, &s.down, s.p[1])
+    );
+    line!(
+        "forward control", timed, compared, 6,
+        |s, a| ours::forward_control(&s.cell, &s.anchor, &s.other, &s.control, s.p[2], a),
+        fast::forward_control(&s.cell, &s.anchor, &s.other, &s.control, s.p[2])
+    );
+}
+
+fn backwards(timed: &mut [Scene], compared: &mut [Scene]) {
+    line!(
+        "backward up", timed, compared, 5,
+        |s, a| ours::backward_up(&s.up, s.at_up[0], s.at_up[1], s.at_up[2], a),
+        fast::backward_up(&s.up, s.at_up)
+    );
+    line!(
+        "backward down", timed, compared, 5,
+        |s, a| {
+            let [t, slot, l, k] = s.at_down;
+            ours::backward_down(&s.cell, &s.anchor, &s.other, &s.down, t, slot, l, k, a)
+        },
+        fast::backward_down(&s.cell, &s.anchor, &s.other, &s.down, s.at_down)
+    );
+    line!(
+        "backward control", timed, compared, 5,
+        |s, a| {
+            let [t, slot, l, k] = s.at_control;
+            ours::backward_control(&s.cell, &s.anchor, &s.other, &s.control, t, slot, l, k, a)
+        },
+        fast::backward_control(&s.cell, &s.anchor, &s.other, &s.control, s.at_control)
+    );
+}
+
+/// A step from the scene's position: the record's position is set before each, and shifted into the answer to compare it too.
+macro_rules! step {
+    ($name:literal, $timed:expr, $compared:expr, $walk:ident, $p:literal, |$s:ident, $a:ident| $ours:expr, $fast:expr) => {{
+        line!(
+            $name, $timed, $compared, 7,
+            |$s, $a| {
+                $s.$walk[0] = $s.p[$p];
+                $ours
+            },
+            {
+                $s.$walk[0] = $s.p[$p];
+                $fast
+            }
+        );
+        for $s in $compared.iter_mut() {
+            $s.record();
+            let $a = &mut [0; 7];
+            $ours;
+            let moved = $s.$walk;
+            $s.record();
+            $fast;
+            assert_eq!(moved, $s.$walk, concat!($name, ": the records differ"));
+            $s.record();
+        }
+    }};
+}
+
+fn steps(timed: &mut [Scene], compared: &mut [Scene]) {
+    step!("step up", timed, compared, walk_up, 0, |s, a| ours::step_up(&mut s.walk_up, a), fast::step_up(&mut s.walk_up));
+    step!(
+        "step down", timed, compared, walk_down, 1,
+        |s, a| ours::step_down(&mut s.walk_down, &s.anchor, &s.other, a),
+        fast::step_down(&mut s.walk_down, &s.anchor, &s.other)
+    );
+    step!(
+        "step control", timed, compared, walk_control, 2,
+        |s, a| ours::step_control(&mut s.walk_control, &s.anchor, &s.other, a),
+        fast::step_control(&mut s.walk_control, &s.anchor, &s.other)
+    );
+}
+
+fn elements(s: &Scene) -> [u64; 4] {
+    [s.i, s.at_down[1], s.at_down[2], s.at_down[3]]
+}
+
+fn element(timed: &mut [Scene], compared: &[Scene]) {
+    let (mut answer, mut pair) = ([0; 2], [0.0; 2]);
+    let mut ours = |s: &Scene| {
+        let no = ours::element(
+            &s.cell, [&s.anchor, &s.other], &s.down, elements(s), &s.bits, s.level, &mut answer, &mut pair,
+        );
+        (no, answer[1], pair)
+    };
+    let fast = |s: &Scene| fast::element(&s.cell, [&s.anchor, &s.other], &s.down, elements(s), &s.bits, s.level);
+    let (ns, fs) = versus(timed, |s| ours(s), |s| fast(s));
+    let patterns = |(no, state, [re, im]): (u64, u64, [f32; 2])| (no, state, re.to_bits(), im.to_bits());
+    let agreed = compared.iter().chain(timed.iter()).filter(|s| patterns(ours(s)) == patterns(fast(s))).count();
+    report("element", ns, fs, agreed, compared.len() + timed.len());
+}
+
+fn fill(timed: &mut [Scene], compared: &[Scene]) {
+    let mut out = [0.0f32; 336];
+    let mut also = [0.0f32; 336];
+    let (ns, fs) = versus(
+        timed,
+        |s| ours::fill(&s.cell, [&s.anchor, &s.other], &s.down, s.i, &s.bits, s.level, &mut out),
+        |s| fast::fill(&s.cell, [&s.anchor, &s.other], &s.down, s.i, &s.bits, s.level, &mut also),
+    );
+    let mut agreed = 0;
+    for s in compared.iter().chain(timed.iter()) {
+        (out, also) = ([7.0; 336], [7.0; 336]);
+        let no = ours::fill(&s.cell, [&s.anchor, &s.other], &s.down, s.i, &s.bits, s.level, &mut out);
+        let same = no == fast::fill(&s.cell, [&s.anchor, &s.other], &s.down, s.i, &s.bits, s.level, &mut also);
+        agreed += (same && out.map(f32::to_bits) == also.map(f32::to_bits)) as usize;
+    }
+    report("fill", ns, fs, agreed, compared.len() + timed.len());
+}

@@ -1,0 +1,223 @@
+//! Inputs: cells and grants at random, accepted ones for the times and any for the comparison.
+
+use crate::fast::{self, Cell, ControlGrant, ControlWalk, DownGrant, DownWalk, UpGrant, UpWalk};
+
+/// xorshift64*: the same numbers in every run.
+pub struct Random(u64);
+
+impl Random {
+    pub fn new(seed: u64) -> Random {
+        Random(seed)
+    }
+
+    fn next(&mut self) -> u64 {
+        self.0 ^= self.0 >> 12;
+        self.0 ^= self.0 << 25;
+        self.0 ^= self.0 >> 27;
+        self.0.wrapping_mul(0x2545_f491_4f6c_dd1d) >> 16
+    }
+
+    pub fn below(&mut self, n: u64) -> u64 {
+        self.next() % n
+    }
+
+    fn one_of(&mut self, list: &[u64]) -> u64 {
+        list[self.below(list.len() as u64) as usize]
+    }
+
+    /// Mostly a number below n; now and then one out of range.
+    fn wild(&mut self, n: u64) -> u64 {
+        match self.below(24) {
+            0 => n,
+            1 => n + self.below(64),
+            2 => u64::MAX - self.below(2),
+            _ => self.below(n),
+        }
+    }
+}
+
+/// One cell and a grant of each kind, with a position, a place and a walk for each; a transmitted subframe, and bits and a level to fill it.
+#[derive(Clone)]
+pub struct Scene {
+    pub cell: Cell,
+    pub anchor: [u8; 5],
+    pub other: [u8; 5],
+    pub up: UpGrant,
+    pub down: DownGrant,
+    pub control: ControlGrant,
+    pub p: [u64; 3],
+    pub at_up: [u64; 3],
+    pub at_down: [u64; 4],
+    pub at_control: [u64; 4],
+    pub walk_up: UpWalk,
+    pub walk_down: DownWalk,
+    pub walk_control: ControlWalk,
+    pub i: u64,
+    pub bits: Vec<u8>,
+    pub level: f32,
+}
+
+/// Parts one after the other.
+fn joined<const N: usize>(parts: &[&[u64]]) -> [u64; N] {
+    parts.concat().try_into().expect("the parts fill the record")
+}
+
+fn cell(r: &mut Random) -> Cell {
+    let mode = r.below(4);
+    let in_band = mode < 2;
+    let cports = if in_band { r.one_of(&[1, 2, 4]) } else { 0 };
+    let control = if in_band { 1 + r.below(3) } else { 0 };
+    [mode, r.below(2), r.below(504), 1 + r.below(2), cports, control, r.below(12), r.one_of(&[0, 10, 40])]
+}
+
+/// A bitmap of 10 or 40 bits, about half of them ones.
+fn bitmap(r: &mut Random, bits: u64) -> [u8; 5] {
+    let mut bytes = [0; 5];
+    for byte in &mut bytes {
+        *byte = r.below(256) as u8;
+    }
+    if bits == 10 {
+        bytes[1] &= 0xc0;
+    }
+    bytes
+}
+
+fn up(r: &mut Random) -> UpGrant {
+    let spacing = r.below(2);
+    let fields = if spacing == 0 { 48 } else { 19 };
+    [r.below(1 << 30), spacing, r.below(fields), r.below(8), r.below(8), r.below(4), r.below(5)]
+}
+
+fn down(r: &mut Random) -> DownGrant {
+    [r.below(1 << 30), r.below(8), 1 << r.below(12), r.below(8), r.below(16)]
+}
+
+fn control(r: &mut Random) -> ControlGrant {
+    let format = r.below(2);
+    [r.below(1 << 30), 1 << r.below(12), format, if format == 0 { r.below(2) } else { 0 }]
+}
+
+impl Scene {
+    fn plain(r: &mut Random) -> Scene {
+        let cell = cell(r);
+        let (anchor, other) = (bitmap(r, cell[7]), bitmap(r, cell[7]));
+        let (up, down, control) = (up(r), down(r), control(r));
+        let (at_up, at_down, at_control) = ([0; 3], [0; 4], [0; 4]);
+        let (walk_up, walk_down, walk_control) = ([0; 8], [0; 14], [0; 13]);
+        let (i, bits, level) = (0, Vec::new(), 1.0);
+        Scene {
+            cell, anchor, other, up, down, control, p: [0; 3], at_up, at_down, at_control,
+            walk_up, walk_down, walk_control, i, bits, level,
+        }
+    }
+
+    /// The walks' records, at the positions.
+    pub fn record(&mut self) {
+        let Scene { cell, up, down, control, p, .. } = self;
+        self.walk_up = joined(&[&p[..1], &up[..]]);
+        self.walk_down = joined(&[&p[1..2], &cell[..], &down[..]]);
+        self.walk_control = joined(&[&p[2..], &cell[..], &control[..]]);
+    }
+
+    /// Bits of the whole codeword, and a transmitted subframe, from the plan of the downlink grant.
+    pub fn load(&mut self, r: &mut Random) {
+        let plan = fast::plan_down(&self.cell, &self.anchor, &self.other, &self.down);
+        let lengths = [1, 2, 3, 4, 5, 6, 8, 10];
+        let sent = plan[3] * lengths[self.down[3].min(7) as usize];
+        let symbols = if sent == 0 { 0 } else { plan[4] / plan[3] };
+        self.bits = (0..symbols.div_ceil(4)).map(|_| r.below(256) as u8).collect();
+        self.i = r.below(sent.max(1));
+        self.level = 1.0 / (1.0 + r.below(1000) as f32);
+    }
+
+    /// Positions below the places, and every other place one that is ours.
+    pub fn aim(&mut self, r: &mut Random) {
+        let s = &*self;
+        let plans = [
+            fast::plan_up(&s.up)[4],
+            fast::plan_down(&s.cell, &s.anchor, &s.other, &s.down)[4],
+            fast::plan_control(&s.cell, &s.anchor, &s.other, &s.control)[4],
+        ];
+        let p = plans.map(|places| r.below(places.max(1)));
+        let [_, slot, l, k, _] = fast::forward_up(&s.up, p[0]);
+        let [_, t, a, b, c, _] = fast::forward_down(&s.cell, &s.anchor, &s.other, &s.down, p[1]);
+        let [_, u, d, e, f, _] = fast::forward_control(&s.cell, &s.anchor, &s.other, &s.control, p[2]);
+        (self.at_up, self.at_down, self.at_control) = ([slot, l, k], [t, a, b, c], [u, d, e, f]);
+        if r.below(2) == 0 {
+            let (slot, l, k) = (r.below(2), r.below(7), r.below(12));
+            self.at_up = [self.at_up[0] + r.below(3), l, k];
+            self.at_down = [t + r.below(3), slot, l, k];
+            self.at_control = [u + r.below(3), slot, l, k];
+        }
+        self.p = p;
+    }
+
+    /// Position p of the downlink grant, and its place.
+    pub fn place(&mut self, p: u64) {
+        self.p[1] = p;
+        let [_, t, slot, l, k, _] = fast::forward_down(&self.cell, &self.anchor, &self.other, &self.down, p);
+        self.at_down = [t, slot, l, k];
+    }
+
+    /// On a non-anchor, a bitmap of 40 bits with so many ones, evenly spread.
+    pub fn sparse(&mut self, ones: u64) {
+        self.cell[1] = 1;
+        self.cell[7] = 40;
+        self.other = [0; 5];
+        for one in 0..ones {
+            let bit = (one * 40 / ones + self.cell[2]) % 40;
+            self.other[(bit / 8) as usize] |= 0x80 >> (bit % 8);
+        }
+    }
+
+    /// A cell and grants that are accepted.
+    pub fn accepted(r: &mut Random) -> Scene {
+        loop {
+            let mut scene = Scene::plain(r);
+            if fast::judge(&scene.cell, &scene.anchor, &scene.other) == 0 {
+                scene.aim(r);
+                scene.load(r);
+                scene.record();
+                return scene;
+            }
+        }
+    }
+
+    /// Any numbers: now and then a field out of range.
+    pub fn any(r: &mut Random) -> Scene {
+        let mut scene = Scene::plain(r);
+        scene.aim(r);
+        scene.load(r);
+        let limits = [4, 2, 504, 3, 5, 4, 12, 41];
+        let i = r.below(24) as usize;
+        if i < 8 {
+            scene.cell[i] = r.wild(limits[i]);
+        }
+        scene.anchor[1] |= (r.below(8) == 0) as u8;
+        let i = r.below(14) as usize;
+        if i < 7 {
+            scene.up[i] = r.wild([1 << 30, 2, 64, 8, 8, 4, 16][i]);
+            scene.down[i % 5] = r.wild([1 << 30, 8, 2049, 8, 16][i % 5]);
+            scene.control[i % 4] = r.wild([1 << 30, 2049, 2, 2][i % 4]);
+        }
+        if r.below(3) == 0 {
+            scene.p = scene.p.map(|p| r.wild(p + 1));
+            let (slot, l, k) = (r.wild(2), r.wild(7), r.wild(48));
+            scene.at_up = [r.wild(scene.at_up[0] + 2), l, k];
+            scene.at_down = [r.wild(scene.at_down[0] + 2), slot, l, k % 13];
+            scene.at_control = [r.wild(scene.at_control[0] + 2), slot, l, k % 13];
+            scene.i = r.wild(scene.i + 1);
+            scene.level = f32::from_bits(r.next() as u32);
+            scene.bits.truncate(r.wild(scene.bits.len() as u64 + 1) as usize);
+        }
+        scene.record();
+        scene
+    }
+
+    /// With one narrowband port, as a fill asks it.
+    pub fn with_one_port(mut self, r: &mut Random) -> Scene {
+        self.cell[3] = 1;
+        self.load(r);
+        self
+    }
+}

@@ -1,0 +1,2 @@
+mod Replies
+pub mod Bitmap

@@ -1,0 +1,34 @@
+use mathlib.Core.Path.{ap, ap₂, _∙_}
+use borrow.Author.Needs.{needs}
+use lib.ListN.{getD}
+use Rattle.cell.specs.declared.Cell.{Cell}
+use Rattle.downlink.specs.declared.DownlinkGrant.{DownlinkGrant}
+use Rattle.walk.specs.declared.Grant.the-variants.{Down}
+use Rattle.nbiot_c.specs.Buffers.{cellOf, downGrantOf, walkOf}
+use Rattle.nbiot_c.proofs.Replies.{part-from}
+use Rattle.nbiot_c.proofs.buffers.down_walk_of.Statement.{statement}
+use Rattle.nbiot_c.proofs.buffers.down_walk_of.Tie as tie
+
+returns : tie.Need-returns
+returns c =
+    let asked = c .before in
+    let first = asked .before .before in
+    let s = first .before .before .before .args .s .now in
+    ap₂ (λ (d : Cell) (g : DownlinkGrant). walkOf d (Down g) (getD s 0 0))
+    (first .cell-of .ensures ∙ ap cellOf (part-from 1 s))
+    (asked .down-grant-of .ensures ∙ ap downGrantOf (part-from 9 s))
+
+pub down-walk-of-spec : {M : Type 1} → statement M
+down-walk-of-spec =
+    tie.close
+    (tie.spec
+    (λ c. search needs)
+    (λ c. search needs)
+    (λ c. search needs)
+    (λ c κs. search needs)
+    (λ c. search needs)
+    (λ c. search needs)
+    (λ c. search needs)
+    (λ c κs. search needs)
+    (λ c. search needs)
+    returns)

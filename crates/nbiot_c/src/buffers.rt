@@ -1,0 +1,206 @@
+// Buffers of numbers: cells and grants read from them, answers put at their front.
+ghost use mathlib.Core.List.{[], _∷_};
+ghost use mathlib.Core.Path.{_≡_};
+ghost use Prim.Native.Nat.{_≤_};
+ghost use lib.ListN.{length};
+ghost use Rattle.nbiot_c.specs.Buffers.{cellOf, upGrantOf, downGrantOf, controlGrantOf, upWalkOf, downWalkOf, controlWalkOf, Short2, Short3, laid};
+use cell::Cell;
+use control::ControlGrant;
+use downlink::DownlinkGrant;
+use uplink::UplinkGrant;
+use walk::Grant;
+use walk::Walk;
+
+// A buffer has fewer numbers than it needs; of two buffers, and of three.
+pub fn short2(m: usize, n: usize, s: usize, t: usize) -> bool
+    ensures { λ r. ⌜ Short2 m n s t r ⌝ }
+{
+    (s < m) | (t < n)
+}
+
+pub fn short3(m: usize, n: usize, k: usize, s: usize, t: usize, u: usize) -> bool
+    ensures { λ r. ⌜ Short3 m n k s t u r ⌝ }
+{
+    (s < m) | ((t < n) | (u < k))
+}
+
+pub fn cell_of(s: &[u64]) -> Cell
+    requires { ⌜ 8 ≤ length (now s) ⌝ }
+    ensures { λ r. ⌜ r ≡ cellOf (now (s .entry)) ⌝ }
+{
+    Cell {
+        mode: s[0],
+        carrier: s[1],
+        identity: s[2],
+        nports: s[3],
+        cports: s[4],
+        control: s[5],
+        sib1: s[6],
+        bits: s[7],
+    }
+}
+
+pub fn up_grant_of(s: &[u64]) -> UplinkGrant
+    requires { ⌜ 7 ≤ length (now s) ⌝ }
+    ensures { λ r. ⌜ r ≡ upGrantOf (now (s .entry)) ⌝ }
+{
+    UplinkGrant {
+        n: s[0],
+        spacing: s[1],
+        subcarrier: s[2],
+        units: s[3],
+        copies: s[4],
+        delay: s[5],
+        mcs: s[6],
+    }
+}
+
+pub fn down_grant_of(s: &[u64]) -> DownlinkGrant
+    requires { ⌜ 5 ≤ length (now s) ⌝ }
+    ensures { λ r. ⌜ r ≡ downGrantOf (now (s .entry)) ⌝ }
+{
+    DownlinkGrant {
+        n: s[0],
+        delay: s[1],
+        rmax: s[2],
+        subframes: s[3],
+        copies: s[4],
+    }
+}
+
+pub fn control_grant_of(s: &[u64]) -> ControlGrant
+    requires { ⌜ 4 ≤ length (now s) ⌝ }
+    ensures { λ r. ⌜ r ≡ controlGrantOf (now (s .entry)) ⌝ }
+{
+    ControlGrant {
+        n: s[0],
+        r: s[1],
+        format: s[2],
+        ncce: s[3],
+    }
+}
+
+// A walk's record: the position, the cell of a downlink grant, and the grant.
+pub fn up_walk_of(s: &[u64]) -> Walk
+    requires { ⌜ 8 ≤ length (now s) ⌝ }
+    ensures { λ r. ⌜ r ≡ upWalkOf (now (s .entry)) ⌝ }
+{
+    let cell = Cell {
+        mode: 0,
+        carrier: 0,
+        identity: 0,
+        nports: 0,
+        cports: 0,
+        control: 0,
+        sib1: 0,
+        bits: 0,
+    };
+    let grant = Grant::Up(up_grant_of(&s[1..]));
+    Walk {
+        cell,
+        grant,
+        p: s[0],
+    }
+}
+
+pub fn down_walk_of(s: &[u64]) -> Walk
+    requires { ⌜ 14 ≤ length (now s) ⌝ }
+    ensures { λ r. ⌜ r ≡ downWalkOf (now (s .entry)) ⌝ }
+{
+    let cell = cell_of(&s[1..]);
+    let grant = Grant::Down(down_grant_of(&s[9..]));
+    Walk {
+        cell,
+        grant,
+        p: s[0],
+    }
+}
+
+pub fn control_walk_of(s: &[u64]) -> Walk
+    requires { ⌜ 13 ≤ length (now s) ⌝ }
+    ensures { λ r. ⌜ r ≡ controlWalkOf (now (s .entry)) ⌝ }
+{
+    let cell = cell_of(&s[1..]);
+    let grant = Grant::Control(control_grant_of(&s[9..]));
+    Walk {
+        cell,
+        grant,
+        p: s[0],
+    }
+}
+
+// Numbers at the front of a buffer; the first is returned.
+pub fn put1(s: &mut [u64], a: u64) -> u64
+    requires { ⌜ 1 ≤ length (now s) ⌝ }
+    ensures { λ r. ⌜ (r ≡ a) × (now (s .exit) ≡ laid (a ∷ []) (now (s .entry))) ⌝ }
+{
+    s[0] = a;
+    a
+}
+
+pub fn put2(s: &mut [u64], a: u64, b: u64) -> u64
+    requires { ⌜ 2 ≤ length (now s) ⌝ }
+    ensures { λ r. ⌜ (r ≡ a) × (now (s .exit) ≡ laid (a ∷ b ∷ []) (now (s .entry))) ⌝ }
+{
+    s[0] = a;
+    s[1] = b;
+    a
+}
+
+pub fn put3(s: &mut [u64], a: u64, b: u64, c: u64) -> u64
+    requires { ⌜ 3 ≤ length (now s) ⌝ }
+    ensures { λ r. ⌜ (r ≡ a) × (now (s .exit) ≡ laid (a ∷ b ∷ c ∷ []) (now (s .entry))) ⌝ }
+{
+    s[0] = a;
+    s[1] = b;
+    s[2] = c;
+    a
+}
+
+pub fn put5(s: &mut [u64], a: u64, b: u64, c: u64, d: u64, e: u64) -> u64
+    requires { ⌜ 5 ≤ length (now s) ⌝ }
+    ensures { λ r. ⌜ (r ≡ a) × (now (s .exit) ≡ laid (a ∷ b ∷ c ∷ d ∷ e ∷ []) (now (s .entry))) ⌝ }
+{
+    s[0] = a;
+    s[1] = b;
+    s[2] = c;
+    s[3] = d;
+    s[4] = e;
+    a
+}
+
+pub fn put6(s: &mut [u64], a: u64, b: u64, c: u64, d: u64, e: u64, f: u64) -> u64
+    requires { ⌜ 6 ≤ length (now s) ⌝ }
+    ensures { λ r. ⌜ (r ≡ a) × (now (s .exit) ≡ laid (a ∷ b ∷ c ∷ d ∷ e ∷ f ∷ []) (now (s .entry))) ⌝ }
+{
+    s[0] = a;
+    s[1] = b;
+    s[2] = c;
+    s[3] = d;
+    s[4] = e;
+    s[5] = f;
+    a
+}
+
+pub fn put7(s: &mut [u64], a: u64, b: u64, c: u64, d: u64, e: u64, f: u64, g: u64) -> u64
+    requires { ⌜ 7 ≤ length (now s) ⌝ }
+    ensures { λ r. ⌜ (r ≡ a) × (now (s .exit) ≡ laid (a ∷ b ∷ c ∷ d ∷ e ∷ f ∷ g ∷ []) (now (s .entry))) ⌝ }
+{
+    s[0] = a;
+    s[1] = b;
+    s[2] = c;
+    s[3] = d;
+    s[4] = e;
+    s[5] = f;
+    s[6] = g;
+    a
+}
+
+// Amplitudes at the front of a buffer.
+pub fn put_amplitudes(s: &mut [f32], re: f32, im: f32)
+    requires { ⌜ 2 ≤ length (now s) ⌝ }
+    ensures { λ _. ⌜ now (s .exit) ≡ laid (re ∷ im ∷ []) (now (s .entry)) ⌝ }
+{
+    s[0] = re;
+    s[1] = im;
+}

@@ -1,0 +1,395 @@
+// The public questions for C: numbers and slices in, answers into lent buffers. include/nbiot.h says the order of the numbers.
+// A buffer that is too short gets 255, before anything else is judged, and nothing is written.
+ghost use mathlib.Core.Path.{_≡_};
+ghost use Rattle.nbiot_c.specs.Calls as calls;
+
+mod buffers;
+
+const TOO_SHORT: u64 = 255;
+
+// Judge a cell: the refusal number, or 0.
+#[no_mangle]
+pub extern "C" fn nbiot_judge(cell: &[u64], anchor: &[u8], other: &[u8]) -> u64
+    ensures { λ r. ⌜ r ≡ calls.judge (now (cell .entry)) (now (anchor .entry)) (now (other .entry)) ⌝ }
+{
+    if cell.len() < 8 {
+        return TOO_SHORT;
+    }
+    nbiot::judge(buffers::cell_of(cell), anchor, other)
+}
+
+// The bitmap in force: the buffer that it is a part of, and its bytes.
+#[no_mangle]
+pub extern "C" fn nbiot_bitmap<'a>(
+    cell: &[u64],
+    anchor: &'a [u8],
+    other: &'a [u8],
+    answer: &mut [u64],
+) -> u64
+    ensures { λ r. ⌜ (r ≡ calls.bitmap (now (cell .entry)) (now (anchor .entry)) (now (other .entry)) (now (answer .entry)) .number) × (now (answer .exit) ≡ calls.bitmap (now (cell .entry)) (now (anchor .entry)) (now (other .entry)) (now (answer .entry)) .answer) ⌝ }
+{
+    if buffers::short2(8, 3, cell.len(), answer.len()) {
+        return TOO_SHORT;
+    }
+    let c = buffers::cell_of(cell);
+    let no = nbiot::judge(c, anchor, other);
+    if no != 0 {
+        return buffers::put3(answer, no, 0, 0);
+    }
+    let part = nbiot::bitmap(c, anchor, other);
+    buffers::put3(answer, 0, c.carrier, part.len() as u64)
+}
+
+// First and last slot, copies, places, size and order.
+#[no_mangle]
+pub extern "C" fn nbiot_plan_up(grant: &[u64], answer: &mut [u64]) -> u64
+    ensures { λ r. ⌜ (r ≡ calls.planUp (now (grant .entry)) (now (answer .entry)) .number) × (now (answer .exit) ≡ calls.planUp (now (grant .entry)) (now (answer .entry)) .answer) ⌝ }
+{
+    if buffers::short2(7, 7, grant.len(), answer.len()) {
+        return TOO_SHORT;
+    }
+    let a = nbiot::plan_up(buffers::up_grant_of(grant));
+    buffers::put7(
+        answer,
+        a.no,
+        a.first,
+        a.last,
+        a.copies,
+        a.places,
+        a.size,
+        a.order,
+    )
+}
+
+// First and last subframe, copies and places.
+#[no_mangle]
+pub extern "C" fn nbiot_plan_down(
+    cell: &[u64],
+    anchor: &[u8],
+    other: &[u8],
+    grant: &[u64],
+    answer: &mut [u64],
+) -> u64
+    ensures { λ r. ⌜ (r ≡ calls.planDown (now (cell .entry)) (now (anchor .entry)) (now (other .entry)) (now (grant .entry)) (now (answer .entry)) .number) × (now (answer .exit) ≡ calls.planDown (now (cell .entry)) (now (anchor .entry)) (now (other .entry)) (now (grant .entry)) (now (answer .entry)) .answer) ⌝ }
+{
+    if buffers::short3(8, 5, 5, cell.len(), grant.len(), answer.len()) {
+        return TOO_SHORT;
+    }
+    let a = nbiot::plan_down(
+        buffers::cell_of(cell),
+        anchor,
+        other,
+        buffers::down_grant_of(grant),
+    );
+    buffers::put5(answer, a.no, a.first, a.last, a.copies, a.places)
+}
+
+// First and last subframe, copies and places.
+#[no_mangle]
+pub extern "C" fn nbiot_plan_control(
+    cell: &[u64],
+    anchor: &[u8],
+    other: &[u8],
+    grant: &[u64],
+    answer: &mut [u64],
+) -> u64
+    ensures { λ r. ⌜ (r ≡ calls.planControl (now (cell .entry)) (now (anchor .entry)) (now (other .entry)) (now (grant .entry)) (now (answer .entry)) .number) × (now (answer .exit) ≡ calls.planControl (now (cell .entry)) (now (anchor .entry)) (now (other .entry)) (now (grant .entry)) (now (answer .entry)) .answer) ⌝ }
+{
+    if buffers::short3(8, 4, 5, cell.len(), grant.len(), answer.len()) {
+        return TOO_SHORT;
+    }
+    let a = nbiot::plan_control(
+        buffers::cell_of(cell),
+        anchor,
+        other,
+        buffers::control_grant_of(grant),
+    );
+    buffers::put5(answer, a.no, a.first, a.last, a.copies, a.places)
+}
+
+// The place of position p, and the symbol there.
+#[no_mangle]
+pub extern "C" fn nbiot_forward_up(grant: &[u64], p: u64, answer: &mut [u64]) -> u64
+    ensures { λ r. ⌜ (r ≡ calls.forwardUp (now (grant .entry)) p (now (answer .entry)) .number) × (now (answer .exit) ≡ calls.forwardUp (now (grant .entry)) p (now (answer .entry)) .answer) ⌝ }
+{
+    if buffers::short2(7, 5, grant.len(), answer.len()) {
+        return TOO_SHORT;
+    }
+    let a = nbiot::forward_up(buffers::up_grant_of(grant), p);
+    buffers::put5(answer, a.no, a.slot, a.l, a.k, a.symbol)
+}
+
+// The place of position p, and the symbol there.
+#[no_mangle]
+pub extern "C" fn nbiot_forward_down(
+    cell: &[u64],
+    anchor: &[u8],
+    other: &[u8],
+    grant: &[u64],
+    p: u64,
+    answer: &mut [u64],
+) -> u64
+    ensures { λ r. ⌜ (r ≡ calls.forwardDown (now (cell .entry)) (now (anchor .entry)) (now (other .entry)) (now (grant .entry)) p (now (answer .entry)) .number) × (now (answer .exit) ≡ calls.forwardDown (now (cell .entry)) (now (anchor .entry)) (now (other .entry)) (now (grant .entry)) p (now (answer .entry)) .answer) ⌝ }
+{
+    if buffers::short3(8, 5, 6, cell.len(), grant.len(), answer.len()) {
+        return TOO_SHORT;
+    }
+    let a = nbiot::forward_down(
+        buffers::cell_of(cell),
+        anchor,
+        other,
+        buffers::down_grant_of(grant),
+        p,
+    );
+    buffers::put6(answer, a.no, a.t, a.slot, a.l, a.k, a.symbol)
+}
+
+// The place of position p, and the symbol there.
+#[no_mangle]
+pub extern "C" fn nbiot_forward_control(
+    cell: &[u64],
+    anchor: &[u8],
+    other: &[u8],
+    grant: &[u64],
+    p: u64,
+    answer: &mut [u64],
+) -> u64
+    ensures { λ r. ⌜ (r ≡ calls.forwardControl (now (cell .entry)) (now (anchor .entry)) (now (other .entry)) (now (grant .entry)) p (now (answer .entry)) .number) × (now (answer .exit) ≡ calls.forwardControl (now (cell .entry)) (now (anchor .entry)) (now (other .entry)) (now (grant .entry)) p (now (answer .entry)) .answer) ⌝ }
+{
+    if buffers::short3(8, 4, 6, cell.len(), grant.len(), answer.len()) {
+        return TOO_SHORT;
+    }
+    let a = nbiot::forward_control(
+        buffers::cell_of(cell),
+        anchor,
+        other,
+        buffers::control_grant_of(grant),
+        p,
+    );
+    buffers::put6(answer, a.no, a.t, a.slot, a.l, a.k, a.symbol)
+}
+
+// What stands at symbol l and subcarrier k of a slot.
+#[no_mangle]
+pub extern "C" fn nbiot_backward_up(
+    grant: &[u64],
+    slot: u64,
+    l: u64,
+    k: u64,
+    answer: &mut [u64],
+) -> u64
+    ensures { λ r. ⌜ (r ≡ calls.backwardUp (now (grant .entry)) slot l k (now (answer .entry)) .number) × (now (answer .exit) ≡ calls.backwardUp (now (grant .entry)) slot l k (now (answer .entry)) .answer) ⌝ }
+{
+    if buffers::short2(7, 5, grant.len(), answer.len()) {
+        return TOO_SHORT;
+    }
+    let a = nbiot::backward_up(buffers::up_grant_of(grant), slot, l, k);
+    buffers::put5(answer, a.no, a.ours, a.symbol, a.position, a.kind)
+}
+
+// What stands at symbol l and subcarrier k of a slot of subframe t.
+#[no_mangle]
+pub extern "C" fn nbiot_backward_down(
+    cell: &[u64],
+    anchor: &[u8],
+    other: &[u8],
+    grant: &[u64],
+    t: u64,
+    slot: u64,
+    l: u64,
+    k: u64,
+    answer: &mut [u64],
+) -> u64
+    ensures { λ r. ⌜ (r ≡ calls.backwardDown (now (cell .entry)) (now (anchor .entry)) (now (other .entry)) (now (grant .entry)) t slot l k (now (answer .entry)) .number) × (now (answer .exit) ≡ calls.backwardDown (now (cell .entry)) (now (anchor .entry)) (now (other .entry)) (now (grant .entry)) t slot l k (now (answer .entry)) .answer) ⌝ }
+{
+    if buffers::short3(8, 5, 5, cell.len(), grant.len(), answer.len()) {
+        return TOO_SHORT;
+    }
+    let a = nbiot::backward_down(
+        buffers::cell_of(cell),
+        anchor,
+        other,
+        buffers::down_grant_of(grant),
+        t,
+        slot,
+        l,
+        k,
+    );
+    buffers::put5(answer, a.no, a.ours, a.symbol, a.position, a.kind)
+}
+
+// What stands at symbol l and subcarrier k of a slot of subframe t.
+#[no_mangle]
+pub extern "C" fn nbiot_backward_control(
+    cell: &[u64],
+    anchor: &[u8],
+    other: &[u8],
+    grant: &[u64],
+    t: u64,
+    slot: u64,
+    l: u64,
+    k: u64,
+    answer: &mut [u64],
+) -> u64
+    ensures { λ r. ⌜ (r ≡ calls.backwardControl (now (cell .entry)) (now (anchor .entry)) (now (other .entry)) (now (grant .entry)) t slot l k (now (answer .entry)) .number) × (now (answer .exit) ≡ calls.backwardControl (now (cell .entry)) (now (anchor .entry)) (now (other .entry)) (now (grant .entry)) t slot l k (now (answer .entry)) .answer) ⌝ }
+{
+    if buffers::short3(8, 4, 5, cell.len(), grant.len(), answer.len()) {
+        return TOO_SHORT;
+    }
+    let a = nbiot::backward_control(
+        buffers::cell_of(cell),
+        anchor,
+        other,
+        buffers::control_grant_of(grant),
+        t,
+        slot,
+        l,
+        k,
+    );
+    buffers::put5(answer, a.no, a.ours, a.symbol, a.position, a.kind)
+}
+
+// One step of a walk: the answer at its position, which moves on.
+#[no_mangle]
+pub extern "C" fn nbiot_step_up(walk: &mut [u64], answer: &mut [u64]) -> u64
+    ensures { λ r. ⌜ (r ≡ calls.stepUp (now (walk .entry)) (now (answer .entry)) .number) × (now (walk .exit) ≡ calls.stepUp (now (walk .entry)) (now (answer .entry)) .walk) × (now (answer .exit) ≡ calls.stepUp (now (walk .entry)) (now (answer .entry)) .answer) ⌝ }
+{
+    if buffers::short2(8, 7, walk.len(), answer.len()) {
+        return TOO_SHORT;
+    }
+    let s = walk::step_value(buffers::up_walk_of(walk), b"", b"");
+    buffers::put1(walk, s.walk.p);
+    buffers::put7(
+        answer,
+        s.answer.no,
+        s.answer.finished,
+        s.answer.t,
+        s.answer.slot,
+        s.answer.l,
+        s.answer.k,
+        s.answer.symbol,
+    )
+}
+
+// One step of a walk: the answer at its position, which moves on.
+#[no_mangle]
+pub extern "C" fn nbiot_step_down(
+    walk: &mut [u64],
+    anchor: &[u8],
+    other: &[u8],
+    answer: &mut [u64],
+) -> u64
+    ensures { λ r. ⌜ (r ≡ calls.stepDown (now (walk .entry)) (now (anchor .entry)) (now (other .entry)) (now (answer .entry)) .number) × (now (walk .exit) ≡ calls.stepDown (now (walk .entry)) (now (anchor .entry)) (now (other .entry)) (now (answer .entry)) .walk) × (now (answer .exit) ≡ calls.stepDown (now (walk .entry)) (now (anchor .entry)) (now (other .entry)) (now (answer .entry)) .answer) ⌝ }
+{
+    if buffers::short2(14, 7, walk.len(), answer.len()) {
+        return TOO_SHORT;
+    }
+    let s = walk::step_value(buffers::down_walk_of(walk), anchor, other);
+    buffers::put1(walk, s.walk.p);
+    buffers::put7(
+        answer,
+        s.answer.no,
+        s.answer.finished,
+        s.answer.t,
+        s.answer.slot,
+        s.answer.l,
+        s.answer.k,
+        s.answer.symbol,
+    )
+}
+
+// One step of a walk: the answer at its position, which moves on.
+#[no_mangle]
+pub extern "C" fn nbiot_step_control(
+    walk: &mut [u64],
+    anchor: &[u8],
+    other: &[u8],
+    answer: &mut [u64],
+) -> u64
+    ensures { λ r. ⌜ (r ≡ calls.stepControl (now (walk .entry)) (now (anchor .entry)) (now (other .entry)) (now (answer .entry)) .number) × (now (walk .exit) ≡ calls.stepControl (now (walk .entry)) (now (anchor .entry)) (now (other .entry)) (now (answer .entry)) .walk) × (now (answer .exit) ≡ calls.stepControl (now (walk .entry)) (now (anchor .entry)) (now (other .entry)) (now (answer .entry)) .answer) ⌝ }
+{
+    if buffers::short2(13, 7, walk.len(), answer.len()) {
+        return TOO_SHORT;
+    }
+    let s = walk::step_value(buffers::control_walk_of(walk), anchor, other);
+    buffers::put1(walk, s.walk.p);
+    buffers::put7(
+        answer,
+        s.answer.no,
+        s.answer.finished,
+        s.answer.t,
+        s.answer.slot,
+        s.answer.l,
+        s.answer.k,
+        s.answer.symbol,
+    )
+}
+
+// The 336 numbers of transmitted subframe i.
+#[no_mangle]
+pub extern "C" fn nbiot_fill(
+    cell: &[u64],
+    anchor: &[u8],
+    other: &[u8],
+    grant: &[u64],
+    i: u64,
+    bits: &[u8],
+    level: f32,
+    output: &mut [f32],
+) -> u64
+    ensures { λ r. ⌜ (r ≡ calls.fill (now (cell .entry)) (now (anchor .entry)) (now (other .entry)) (now (grant .entry)) i (now (bits .entry)) level (now (output .entry)) .number) × (now (output .exit) ≡ calls.fill (now (cell .entry)) (now (anchor .entry)) (now (other .entry)) (now (grant .entry)) i (now (bits .entry)) level (now (output .entry)) .output) ⌝ }
+{
+    if buffers::short2(8, 5, cell.len(), grant.len()) {
+        return TOO_SHORT;
+    }
+    fill::fill(
+        buffers::cell_of(cell),
+        anchor,
+        other,
+        buffers::down_grant_of(grant),
+        i,
+        bits,
+        level,
+        output,
+    )
+}
+
+// One element of transmitted subframe i.
+#[no_mangle]
+pub extern "C" fn nbiot_element(
+    cell: &[u64],
+    anchor: &[u8],
+    other: &[u8],
+    grant: &[u64],
+    i: u64,
+    slot: u64,
+    l: u64,
+    k: u64,
+    bits: &[u8],
+    level: f32,
+    answer: &mut [u64],
+    amplitudes: &mut [f32],
+) -> u64
+    ensures { λ r. ⌜ (r ≡ calls.element (now (cell .entry)) (now (anchor .entry)) (now (other .entry)) (now (grant .entry)) i slot l k (now (bits .entry)) level (now (answer .entry)) (now (amplitudes .entry)) .number) × (now (answer .exit) ≡ calls.element (now (cell .entry)) (now (anchor .entry)) (now (other .entry)) (now (grant .entry)) i slot l k (now (bits .entry)) level (now (answer .entry)) (now (amplitudes .entry)) .answer) × (now (amplitudes .exit) ≡ calls.element (now (cell .entry)) (now (anchor .entry)) (now (other .entry)) (now (grant .entry)) i slot l k (now (bits .entry)) level (now (answer .entry)) (now (amplitudes .entry)) .amplitudes) ⌝ }
+{
+    if buffers::short2(8, 5, cell.len(), grant.len())
+        | buffers::short2(2, 2, answer.len(), amplitudes.len())
+    {
+        return TOO_SHORT;
+    }
+    let e = fill::element(
+        buffers::cell_of(cell),
+        anchor,
+        other,
+        buffers::down_grant_of(grant),
+        i,
+        slot,
+        l,
+        k,
+        bits,
+        level,
+    );
+    let a = symbol::numbers(e);
+    buffers::put_amplitudes(amplitudes, a.re, a.im);
+    buffers::put2(answer, a.no, a.state)
+}

@@ -1,0 +1,283 @@
+/*
+ * Where each symbol of an NB-IoT grant stands, and what stands at each place of the grid.
+ *
+ * Link with libnbiot_c.a. Nothing is kept between calls and nothing is allocated; calls may run side by side.
+ * Any numbers may be passed, in any buffers.
+ *
+ * Buffers. Each goes with the number of its elements. A pointer points to that many; where there are none it may be any, NULL too.
+ * Buffers that are written overlap no other buffer of the call.
+ *
+ * Every function returns a refusal number, 0 if there is none. Of those that apply the smallest is returned:
+ *
+ *     1  mode above 3 or carrier above 1
+ *     2  identity above 503
+ *     3  narrowband ports not 1 or 2
+ *     4  cell ports not 1, 2 or 4 in-band, or not 0 in the other modes
+ *     5  control region not 1 to 3 in-band, or not 0 in the other modes
+ *     6  SIB1 schedule above 11
+ *     7  bitmap length not 0, 10 or 40, its buffer too short, or spare bits set
+ *     8  no usable subframe among the 2,560
+ *     9  n above 2^30 - 1
+ *    10  a field above its largest number, or NCCE 1 with format 1
+ *    11  subcarrier field 48 to 63 at 3.75 kHz, 19 to 63 at 15 kHz
+ *    12  Rmax or NPDCCH copies not a power of two, 1 to 2048
+ *    13  MCS 5 to 15
+ *    14  position or transmitted subframe past the end, or a place outside the grid
+ *    15  bits not ceil(N * E / 4) bytes, or output not 336 numbers
+ *    16  level not from 2^-20 to 2^20
+ *    17  fill asked for two ports
+ *   255  a cell, grant, walk, answer or amplitudes buffer is too short: judged first, and nothing is written
+ *
+ * A refused call answers its number and zeros in the answer; output and walk stay as they were. A buffer that is longer than
+ * needed keeps its rest, so that a later version may answer more numbers.
+ */
+#ifndef NBIOT_H
+#define NBIOT_H
+
+#include <stddef.h>
+#include <stdint.h>
+
+#ifdef __cplusplus
+extern "C" {
+#endif
+
+#define NBIOT_TOO_SHORT 255
+
+/* A cell's numbers. */
+enum {
+    NBIOT_CELL_MODE,     /* 0 in-band same identity, 1 in-band different identity, 2 guard band, 3 standalone */
+    NBIOT_CELL_CARRIER,  /* 0 anchor, 1 non-anchor */
+    NBIOT_CELL_IDENTITY, /* 0 to 503 */
+    NBIOT_CELL_NPORTS,   /* narrowband reference ports, 1 or 2 */
+    NBIOT_CELL_CPORTS,   /* cell reference ports: 1, 2 or 4 in-band, else 0 */
+    NBIOT_CELL_CONTROL,  /* control region: 1 to 3 in-band, else 0 */
+    NBIOT_CELL_SIB1,     /* SIB1 schedule, 0 to 11 */
+    NBIOT_CELL_BITS,     /* bitmap length: 0, 10 or 40 */
+    NBIOT_CELL_NUMBERS
+};
+
+/* An NPUSCH format 1 grant. It ends in subframe n; the rest are fields of the grant. */
+enum {
+    NBIOT_UP_N,
+    NBIOT_UP_SPACING,    /* 0: 3.75 kHz, 1: 15 kHz */
+    NBIOT_UP_SUBCARRIER,
+    NBIOT_UP_UNITS,
+    NBIOT_UP_COPIES,
+    NBIOT_UP_DELAY,
+    NBIOT_UP_MCS,
+    NBIOT_UP_NUMBERS
+};
+
+/* An NPDSCH grant that ends in subframe n. Delay, subframes and copies are fields, rmax is the number itself. */
+enum {
+    NBIOT_DOWN_N,
+    NBIOT_DOWN_DELAY,
+    NBIOT_DOWN_RMAX,
+    NBIOT_DOWN_SUBFRAMES,
+    NBIOT_DOWN_COPIES,
+    NBIOT_DOWN_NUMBERS
+};
+
+/* An NPDCCH sent r times from subframe n on. */
+enum {
+    NBIOT_CONTROL_N,
+    NBIOT_CONTROL_R,
+    NBIOT_CONTROL_FORMAT, /* 0: one NCCE, 1: both */
+    NBIOT_CONTROL_NCCE,
+    NBIOT_CONTROL_NUMBERS
+};
+
+/*
+ * Judge a cell. The anchor's bitmap and the non-anchor's are lent; only the carrier's own is read. The first bit is the
+ * highest of byte 0.
+ */
+uint64_t nbiot_judge(const uint64_t *cell, size_t cell_len,
+                     const uint8_t *anchor, size_t anchor_len,
+                     const uint8_t *other, size_t other_len);
+
+/*
+ * The bitmap in force. It is not copied: the answer names the buffer that it is a part of and its bytes, from the buffer's
+ * first on.
+ */
+enum {
+    NBIOT_BITMAP_NO,
+    NBIOT_BITMAP_BUFFER, /* 0 anchor, 1 other */
+    NBIOT_BITMAP_BYTES,  /* 0, 2 or 5 */
+    NBIOT_BITMAP_NUMBERS
+};
+
+uint64_t nbiot_bitmap(const uint64_t *cell, size_t cell_len,
+                      const uint8_t *anchor, size_t anchor_len,
+                      const uint8_t *other, size_t other_len,
+                      uint64_t *answer, size_t answer_len);
+
+/* Plan a grant. An uplink plan counts slots, a downlink plan subframes and has no size and order. */
+enum {
+    NBIOT_PLAN_NO,
+    NBIOT_PLAN_FIRST,
+    NBIOT_PLAN_LAST,
+    NBIOT_PLAN_COPIES,
+    NBIOT_PLAN_PLACES,
+    NBIOT_PLAN_DOWN_NUMBERS,
+    NBIOT_PLAN_SIZE = NBIOT_PLAN_DOWN_NUMBERS, /* transport block size */
+    NBIOT_PLAN_ORDER,                          /* modulation order */
+    NBIOT_PLAN_UP_NUMBERS
+};
+
+uint64_t nbiot_plan_up(const uint64_t *grant, size_t grant_len,
+                       uint64_t *answer, size_t answer_len);
+
+uint64_t nbiot_plan_down(const uint64_t *cell, size_t cell_len,
+                         const uint8_t *anchor, size_t anchor_len,
+                         const uint8_t *other, size_t other_len,
+                         const uint64_t *grant, size_t grant_len,
+                         uint64_t *answer, size_t answer_len);
+
+uint64_t nbiot_plan_control(const uint64_t *cell, size_t cell_len,
+                            const uint8_t *anchor, size_t anchor_len,
+                            const uint8_t *other, size_t other_len,
+                            const uint64_t *grant, size_t grant_len,
+                            uint64_t *answer, size_t answer_len);
+
+/* Forward: the place of position p, counted in time order and then element order, and the codeword symbol there. */
+enum {
+    NBIOT_PLACE_UP_NO,
+    NBIOT_PLACE_UP_SLOT,
+    NBIOT_PLACE_UP_L,
+    NBIOT_PLACE_UP_K,
+    NBIOT_PLACE_UP_SYMBOL,
+    NBIOT_PLACE_UP_NUMBERS
+};
+
+enum {
+    NBIOT_PLACE_NO,
+    NBIOT_PLACE_T, /* subframe */
+    NBIOT_PLACE_SLOT,
+    NBIOT_PLACE_L,
+    NBIOT_PLACE_K,
+    NBIOT_PLACE_SYMBOL,
+    NBIOT_PLACE_NUMBERS
+};
+
+uint64_t nbiot_forward_up(const uint64_t *grant, size_t grant_len, uint64_t p,
+                          uint64_t *answer, size_t answer_len);
+
+uint64_t nbiot_forward_down(const uint64_t *cell, size_t cell_len,
+                            const uint8_t *anchor, size_t anchor_len,
+                            const uint8_t *other, size_t other_len,
+                            const uint64_t *grant, size_t grant_len, uint64_t p,
+                            uint64_t *answer, size_t answer_len);
+
+uint64_t nbiot_forward_control(const uint64_t *cell, size_t cell_len,
+                               const uint8_t *anchor, size_t anchor_len,
+                               const uint8_t *other, size_t other_len,
+                               const uint64_t *grant, size_t grant_len, uint64_t p,
+                               uint64_t *answer, size_t answer_len);
+
+/* Backward: what stands at symbol l and subcarrier k of a slot, in the downlink of a slot of subframe t. */
+enum {
+    NBIOT_BACK_NO,
+    NBIOT_BACK_OURS,     /* 1: one of the grant's places, with its symbol and position; 0: not */
+    NBIOT_BACK_SYMBOL,
+    NBIOT_BACK_POSITION,
+    NBIOT_BACK_KIND,     /* not ours: 0 plain, 1 narrowband or uplink reference, 2 cell reference, 3 both */
+    NBIOT_BACK_NUMBERS
+};
+
+uint64_t nbiot_backward_up(const uint64_t *grant, size_t grant_len,
+                           uint64_t slot, uint64_t l, uint64_t k,
+                           uint64_t *answer, size_t answer_len);
+
+uint64_t nbiot_backward_down(const uint64_t *cell, size_t cell_len,
+                             const uint8_t *anchor, size_t anchor_len,
+                             const uint8_t *other, size_t other_len,
+                             const uint64_t *grant, size_t grant_len,
+                             uint64_t t, uint64_t slot, uint64_t l, uint64_t k,
+                             uint64_t *answer, size_t answer_len);
+
+uint64_t nbiot_backward_control(const uint64_t *cell, size_t cell_len,
+                                const uint8_t *anchor, size_t anchor_len,
+                                const uint8_t *other, size_t other_len,
+                                const uint64_t *grant, size_t grant_len,
+                                uint64_t t, uint64_t slot, uint64_t l, uint64_t k,
+                                uint64_t *answer, size_t answer_len);
+
+/*
+ * Walk: the places of a grant one after the other. The record is the caller's: the position, which starts at 0, in the
+ * downlink the cell's numbers, then the grant's. A step judges the record anew, answers what forward answers at the position
+ * and moves the position on; the other numbers stay. At the end it answers finished and moves nothing. An uplink step has t 0.
+ */
+enum {
+    NBIOT_WALK_P,
+    NBIOT_WALK_UP_GRANT,
+    NBIOT_WALK_CELL = NBIOT_WALK_UP_GRANT,
+    NBIOT_WALK_GRANT = NBIOT_WALK_CELL + NBIOT_CELL_NUMBERS,
+    NBIOT_WALK_UP_NUMBERS = NBIOT_WALK_UP_GRANT + NBIOT_UP_NUMBERS,
+    NBIOT_WALK_DOWN_NUMBERS = NBIOT_WALK_GRANT + NBIOT_DOWN_NUMBERS,
+    NBIOT_WALK_CONTROL_NUMBERS = NBIOT_WALK_GRANT + NBIOT_CONTROL_NUMBERS
+};
+
+enum {
+    NBIOT_STEP_NO,
+    NBIOT_STEP_FINISHED, /* 1 at the end, with zeros */
+    NBIOT_STEP_T,
+    NBIOT_STEP_SLOT,
+    NBIOT_STEP_L,
+    NBIOT_STEP_K,
+    NBIOT_STEP_SYMBOL,
+    NBIOT_STEP_NUMBERS
+};
+
+uint64_t nbiot_step_up(uint64_t *walk, size_t walk_len,
+                       uint64_t *answer, size_t answer_len);
+
+uint64_t nbiot_step_down(uint64_t *walk, size_t walk_len,
+                         const uint8_t *anchor, size_t anchor_len,
+                         const uint8_t *other, size_t other_len,
+                         uint64_t *answer, size_t answer_len);
+
+uint64_t nbiot_step_control(uint64_t *walk, size_t walk_len,
+                            const uint8_t *anchor, size_t anchor_len,
+                            const uint8_t *other, size_t other_len,
+                            uint64_t *answer, size_t answer_len);
+
+/*
+ * Fill transmitted subframe i of an NPDSCH on one port: QPSK from the codeword's bits, the first bit the highest of byte 0.
+ * Element (slot * 7 + l) * 12 + k has its real number at twice its number and its imaginary one after it; +0 where not ours.
+ */
+enum { NBIOT_FILL_NUMBERS = 336 };
+
+uint64_t nbiot_fill(const uint64_t *cell, size_t cell_len,
+                    const uint8_t *anchor, size_t anchor_len,
+                    const uint8_t *other, size_t other_len,
+                    const uint64_t *grant, size_t grant_len,
+                    uint64_t i, const uint8_t *bits, size_t bits_len, float level,
+                    float *output, size_t output_len);
+
+/* One element of transmitted subframe i. */
+enum {
+    NBIOT_ELEMENT_NO,
+    NBIOT_ELEMENT_STATE, /* 0 silent, 1 to 3 a reference of that kind, 4 a symbol */
+    NBIOT_ELEMENT_NUMBERS
+};
+
+enum {
+    NBIOT_AMPLITUDE_RE, /* a symbol's two numbers, else +0 */
+    NBIOT_AMPLITUDE_IM,
+    NBIOT_AMPLITUDES
+};
+
+uint64_t nbiot_element(const uint64_t *cell, size_t cell_len,
+                       const uint8_t *anchor, size_t anchor_len,
+                       const uint8_t *other, size_t other_len,
+                       const uint64_t *grant, size_t grant_len,
+                       uint64_t i, uint64_t slot, uint64_t l, uint64_t k,
+                       const uint8_t *bits, size_t bits_len, float level,
+                       uint64_t *answer, size_t answer_len,
+                       float *amplitudes, size_t amplitudes_len);
+
+#ifdef __cplusplus
+}
+#endif
+
+#endif
