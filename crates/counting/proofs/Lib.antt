@@ -5,3 +5,4 @@ pub mod Rows
 pub mod Select
 pub mod Period
 pub mod Ones
+mod Fours

@@ -68,18 +68,6 @@ module _ (u : ℕ → Bool) (m s n : ℕ) (mask : (i : ℕ) → i < n → bitAt 
   pub span-whole : m < 2 ^ n → rank u s + ones m ≡ rank u (s + n)
   span-whole h = rw (← mod-eq-of-lt h) (span-part n (omega arith))
 
--- ---- one digit on, for a search by digits
-
-pub rank-digit : (m i : ℕ) → rank (bitAt m) (i + 1) ≡ rank (bitAt m) i + m / 2 ^ i % 2
-rank-digit m i = omega (arith, rank-on (bitAt m) i, byte-digit (m / 2 ^ i % 2) (omega arith))
-
-pub half-on : (m i rest : ℕ) → rest ≡ m / 2 ^ i → rest / 2 ≡ m / 2 ^ (i + 1)
-half-on m i rest e = ap (λ (x : ℕ). x / 2) e ∙ shr-shr m i 1
-
-pub digit-found : (m k i left rest : ℕ) → rest ≡ m / 2 ^ i → rank (bitAt m) i + left ≡ k → left < rest % 2 → NthOne m k i
-digit-found m k i left rest e f l =
-    record { set = eq-eqb (m / 2 ^ i % 2) 1 (omega (arith, ap (λ (x : ℕ). x % 2) e)); before = omega (arith, ap (λ (x : ℕ). x % 2) e) }
-
 -- ---- what is set in both of two masks
 
 both-digits : (x y : ℕ) → x < 2 → y < 2 → eqb (bitAnd x y) 1 ≡ (eqb x 1 && eqb y 1)
