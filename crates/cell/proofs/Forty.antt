@@ -6,7 +6,7 @@ use mathlib.Core.Logic.{_⊎_, inl, inr, ⊎-elim}
 use Prim.Native.Nat.{ℕ, zero, suc, _+_, _-_, _*_, _/_, _%_, _^_, _≤_, _<_}
 use native.Mathlib.Nat.{zero-add}
 use native.Mathlib.Omega.{arith}
-use lib.Dec.{T, eqb, ltb, ltb→lt}
+use lib.Dec.{T, eqb, ltb, ltb→lt, eqb→eq}
 use lib.ListN.{getD, take}
 use lib.Seq.{getD-take}
 use borrow.Author.Tests.{eqb-true}
@@ -32,11 +32,13 @@ small-table : T (each 256 (λ x. ltb (reversedByte x) 256))
 unfolding reversedByte
 small-table = tt
 
-nibble-table : T (each 16 (λ x. ltb (getD reversedNibbles x 0) 16))
-nibble-table = tt
+packed-table : T (each 16 (λ x. eqb (0xf7b3d591e6a2c480 / 2 ^ (4 * x) % 16) (getD reversedNibbles x 0)))
+packed-table = tt
 
-pub nibble-small : (x : ℕ) → x < 16 → getD reversedNibbles x 0 < 16
-nibble-small x h = ltb→lt (getD reversedNibbles x 0) 16 (each-at 16 (λ x. ltb (getD reversedNibbles x 0) 16) nibble-table x h)
+pub nibble-packed : (x : ℕ) → x < 16 → 0xf7b3d591e6a2c480 / 2 ^ (4 * x) % 16 ≡ getD reversedNibbles x 0
+nibble-packed x h =
+    eqb→eq (0xf7b3d591e6a2c480 / 2 ^ (4 * x) % 16) (getD reversedNibbles x 0)
+    (each-at 16 (λ x. eqb (0xf7b3d591e6a2c480 / 2 ^ (4 * x) % 16) (getD reversedNibbles x 0)) packed-table x h)
 
 pub reversed-small : (x : ℕ) → x < 256 → reversedByte x < 256
 reversed-small x h = ltb→lt (reversedByte x) 256 (each-at 256 (λ x. ltb (reversedByte x) 256) small-table x h)

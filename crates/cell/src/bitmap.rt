@@ -7,7 +7,8 @@ ghost use lib.ListN.{getD};
 ghost use Rattle.cell.specs.Bitmap.{bytesOf, listedLength, badBitmap};
 ghost use Rattle.cell.specs.Quick.{reversedNibbles, reversedByte, BitmapFits, Loaded};
 
-const REVERSED_NIBBLES: [u64; 16] = [0, 8, 4, 12, 2, 10, 6, 14, 1, 9, 5, 13, 3, 11, 7, 15];
+// The four digits of each number below 16 in reverse, at four times the number.
+const REVERSED_NIBBLES: u64 = 0xf7b3_d591_e6a2_c480;
 
 // Forty ones.
 const ALL: u64 = 0xff_ffff_ffff;
@@ -70,7 +71,7 @@ fn nibble(x: u64) -> u64
     requires { ⌜ x < 16 ⌝ }
     ensures { λ r. ⌜ (r ≡ getD reversedNibbles x 0) × (r < 16) ⌝ }
 {
-    REVERSED_NIBBLES[x as usize]
+    (REVERSED_NIBBLES >> (4 * x)) % 16
 }
 
 // A byte with its digits in reverse.
