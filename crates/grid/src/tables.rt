@@ -3,9 +3,9 @@ ghost use mathlib.Core.Path.{_≡_};
 ghost use Prim.Native.Nat.{_<_};
 ghost use Rattle.grid.specs.Tables.{entry, lengths, downlinkCopies, downlinkDelay, uplinkCopies, uplinkDelays, sizeOf, singleToneRows, singleToneOrders, upToFour, isRepetition};
 
-const LENGTHS: [u64; 8] = [1, 2, 3, 4, 5, 6, 8, 10];
+const LENGTHS: [u8; 8] = [1, 2, 3, 4, 5, 6, 8, 10];
 
-const DOWNLINK_COPIES: [u64; 16] = [
+const DOWNLINK_COPIES: [u16; 16] = [
     1,
     2,
     4,
@@ -24,15 +24,15 @@ const DOWNLINK_COPIES: [u64; 16] = [
     2048,
 ];
 
-const SHORT_DELAYS: [u64; 8] = [0, 4, 8, 12, 16, 32, 64, 128];
+const SHORT_DELAYS: [u8; 8] = [0, 4, 8, 12, 16, 32, 64, 128];
 
-const LONG_DELAYS: [u64; 8] = [0, 16, 32, 64, 128, 256, 512, 1024];
+const LONG_DELAYS: [u16; 8] = [0, 16, 32, 64, 128, 256, 512, 1024];
 
-const UPLINK_COPIES: [u64; 8] = [1, 2, 4, 8, 16, 32, 64, 128];
+const UPLINK_COPIES: [u8; 8] = [1, 2, 4, 8, 16, 32, 64, 128];
 
-const UPLINK_DELAYS: [u64; 4] = [8, 16, 32, 64];
+const UPLINK_DELAYS: [u8; 4] = [8, 16, 32, 64];
 
-const SIZES: [[u64; 8]; 5] = [
+const SIZES: [[u16; 8]; 5] = [
     [16, 32, 56, 88, 120, 152, 208, 256],
     [24, 56, 88, 144, 176, 208, 256, 344],
     [32, 72, 144, 176, 208, 256, 328, 424],
@@ -40,23 +40,36 @@ const SIZES: [[u64; 8]; 5] = [
     [56, 120, 208, 256, 328, 408, 552, 680],
 ];
 
-const SINGLE_TONE_ROWS: [u64; 5] = [0, 2, 1, 3, 4];
+const SINGLE_TONE_ROWS: [u8; 5] = [0, 2, 1, 3, 4];
 
-const SINGLE_TONE_ORDERS: [u64; 5] = [1, 1, 2, 2, 2];
+const SINGLE_TONE_ORDERS: [u8; 5] = [1, 1, 2, 2, 2];
+
+// An entry as a wider number.
+fn byte(x: u8) -> u64
+    ensures { λ r. ⌜ r ≡ x ⌝ }
+{
+    x as u64
+}
+
+fn wide(x: u16) -> u64
+    ensures { λ r. ⌜ r ≡ x ⌝ }
+{
+    x as u64
+}
 
 // Subframes of an NPDSCH, resource units of an NPUSCH.
 pub fn length(field: u64) -> u64
     requires { ⌜ field < 8 ⌝ }
     ensures { λ r. ⌜ r ≡ entry lengths field ⌝ }
 {
-    LENGTHS[field as usize]
+    byte(LENGTHS[field as usize])
 }
 
 pub fn downlink_copies(field: u64) -> u64
     requires { ⌜ field < 16 ⌝ }
     ensures { λ r. ⌜ r ≡ entry downlinkCopies field ⌝ }
 {
-    DOWNLINK_COPIES[field as usize]
+    wide(DOWNLINK_COPIES[field as usize])
 }
 
 // The delay in usable subframes.
@@ -65,16 +78,16 @@ pub fn downlink_delay(rmax: u64, field: u64) -> u64
     ensures { λ r. ⌜ r ≡ downlinkDelay rmax field ⌝ }
 {
     if rmax < 128 {
-        return SHORT_DELAYS[field as usize];
+        return byte(SHORT_DELAYS[field as usize]);
     }
-    LONG_DELAYS[field as usize]
+    wide(LONG_DELAYS[field as usize])
 }
 
 pub fn uplink_copies(field: u64) -> u64
     requires { ⌜ field < 8 ⌝ }
     ensures { λ r. ⌜ r ≡ entry uplinkCopies field ⌝ }
 {
-    UPLINK_COPIES[field as usize]
+    byte(UPLINK_COPIES[field as usize])
 }
 
 // The delay in subframes.
@@ -82,7 +95,7 @@ pub fn uplink_delay(field: u64) -> u64
     requires { ⌜ field < 4 ⌝ }
     ensures { λ r. ⌜ r ≡ entry uplinkDelays field ⌝ }
 {
-    UPLINK_DELAYS[field as usize]
+    byte(UPLINK_DELAYS[field as usize])
 }
 
 // The size of a transport block.
@@ -90,21 +103,21 @@ pub fn size(row: u64, units: u64) -> u64
     requires { ⌜ (row < 5) × (units < 8) ⌝ }
     ensures { λ r. ⌜ r ≡ sizeOf row units ⌝ }
 {
-    SIZES[row as usize][units as usize]
+    wide(SIZES[row as usize][units as usize])
 }
 
 pub fn single_tone_row(mcs: u64) -> u64
     requires { ⌜ mcs < 5 ⌝ }
     ensures { λ r. ⌜ r ≡ entry singleToneRows mcs ⌝ }
 {
-    SINGLE_TONE_ROWS[mcs as usize]
+    byte(SINGLE_TONE_ROWS[mcs as usize])
 }
 
 pub fn single_tone_order(mcs: u64) -> u64
     requires { ⌜ mcs < 5 ⌝ }
     ensures { λ r. ⌜ r ≡ entry singleToneOrders mcs ⌝ }
 {
-    SINGLE_TONE_ORDERS[mcs as usize]
+    byte(SINGLE_TONE_ORDERS[mcs as usize])
 }
 
 // min(x, 4).
