@@ -2,3 +2,4 @@ pub mod Masks
 pub mod Rows
 pub mod Laws
 pub mod Cases
+pub mod Closed

@@ -33,17 +33,17 @@ right : (a b : Bool) → T (a && b) → T b
 right true b t = t
 right false b t = absurd t
 
-abbrev every : (Bool → Bool) → Bool
+abbrev pub every : (Bool → Bool) → Bool
 every f = f true && f false
 
 every-at : (f : Bool → Bool) → T (every f) → (b : Bool) → T (f b)
 every-at f t true = left (f true) (f false) t
 every-at f t false = right (f true) (f false) t
 
-abbrev every4 : (Bool → Bool → Bool → Bool → Bool) → Bool
+abbrev pub every4 : (Bool → Bool → Bool → Bool → Bool) → Bool
 every4 f = every (λ a. every (λ b. every (λ c. every (f a b c))))
 
-every4-at : (f : Bool → Bool → Bool → Bool → Bool) → T (every4 f) → (a b c d : Bool) → T (f a b c d)
+pub every4-at : (f : Bool → Bool → Bool → Bool → Bool) → T (every4 f) → (a b c d : Bool) → T (f a b c d)
 every4-at f t a b c d =
     every-at (f a b c)
     (every-at (λ c. every (f a b c))
@@ -67,7 +67,7 @@ reference-spread g l k h =
 
 -- ---- a part from its answers in each half
 
-parts : (P : ℕ → ℕ → Type 0) → P 0 subcarriers → P 0 ncceWidth → P ncceWidth ncceWidth → (from width : ℕ) → Part from width → P from width
+pub parts : (P : ℕ → ℕ → Type 0) → P 0 subcarriers → P 0 ncceWidth → P ncceWidth ncceWidth → (from width : ℕ) → Part from width → P from width
 parts P a b c from width h = ⊎-elim first second (order from 1)
   where
     first : from < 1 → P from width

@@ -38,7 +38,7 @@ module _ (g : Layout) (from width row : ℕ) (hr : row < rows) where
     bits = λ k l. alike-eq (bitAt 0 k) false (each-at subcarriers (λ k. alike (bitAt 0 k) false) tt k l) ∙ sym (row-used k l ∙ (rw e refl));
   }
 
-  open-mask : g .v < 6 → Part from width → controlRegion g (row / symbols) (row % symbols) ≡ false
+  pub open-mask : g .v < 6 → Part from width → controlRegion g (row / symbols) (row % symbols) ≡ false
       → RowMask g from width row
       (maskOf (g .v) (referenceOn g (row % symbols) true false) (referenceOn g (row % symbols) false true) (inRange from width 0) (inRange from width 6))
   open-mask h p e =

@@ -1,11 +1,11 @@
 // Which elements of a downlink subframe carry data, counted row by row.
 ghost use mathlib.Core.Path.{_≡_};
-ghost use Prim.Native.Nat.{_*_, _<_, _≤_};
+ghost use Prim.Native.Nat.{_+_, _*_, _/_, _<_, _≤_};
 ghost use mir.Val.{boolByte};
-ghost use Rattle.grid.specs.Grid.{subcarriers, elements};
+ghost use Rattle.grid.specs.Grid.{subcarriers, symbols, elements};
 ghost use Rattle.counting.specs.Counting.{inRange};
-ghost use Rattle.elements.specs.Elements.{near, far, nrsOn, crsOn, controlRegion, used, kindOf, countOf, elementAt, numberOf, npdcchFrom, npdcchWidth, Valid, Part};
-ghost use Rattle.elements.specs.Quick.{rows, referenceOn, freeOf, RowMask};
+ghost use Rattle.elements.specs.Elements.{near, far, nrsOn, crsOn, controlRegion, used, kindOf, countOf, elementAt, numberOf, ncceWidth, npdcchFrom, npdcchWidth, Valid, Part};
+ghost use Rattle.elements.specs.Quick.{rows, referenceOn, freeOf, RowMask, takenAt0, takenAt1, sixBefore, sixInRows};
 use grid::Grid;
 
 // The layout of a subframe, apart from the cell: identity mod 6, narrowband and cell reference ports, control region.
@@ -105,18 +105,59 @@ pub fn row_mask(g: Layout, from: u64, width: u64, row: u64) -> u64
     six * (lower + 64 * upper)
 }
 
+// References in six subcarriers of symbols 0 and 4, and of symbol 1.
+fn taken_at_0(cports: u64) -> u64
+    ensures { λ r. ⌜ (r ≡ takenAt0 cports) × (r ≤ 2) ⌝ }
+{
+    if cports < 2 {
+        return cports;
+    }
+    2
+}
+
+fn taken_at_1(cports: u64) -> u64
+    ensures { λ r. ⌜ (r ≡ takenAt1 cports) × (r ≤ 2) ⌝ }
+{
+    if cports < 4 {
+        return 0;
+    }
+    2
+}
+
+// How many of six subcarriers carry no reference, in all symbols of a slot before l.
+fn six_before(g: Layout, l: u64) -> u64
+    requires { ⌜ Valid g × (l ≤ symbols) ⌝ }
+    ensures { λ r. ⌜ (r ≡ sixBefore (g .nports) (g .cports) l) × (r ≤ 42) ⌝ }
+{
+    let n = g.nports;
+    let c = taken_at_0(g.cports);
+    let d = taken_at_1(g.cports);
+    let cell = c * (one(l > 0) + one(l > 4)) + d * one(l > 1);
+    6 * l - cell - n * (one(l > 5) + one(l > 6))
+}
+
+// The same over the rows of a subframe, without the control region.
+fn six_in_rows(g: Layout, n: u64) -> u64
+    requires { ⌜ Valid g × (n ≤ rows) ⌝ }
+    ensures { λ r. ⌜ (r ≡ sixInRows g n) × (r ≤ 84) ⌝ }
+{
+    let control = g.control;
+    let skipped = six_before(g, control);
+    if n < control {
+        return 0;
+    }
+    if n < Grid::SYMBOLS {
+        return six_before(g, n) - skipped;
+    }
+    six_before(g, Grid::SYMBOLS) + six_before(g, n - Grid::SYMBOLS) - skipped
+}
+
 // How many elements of the first rows are used.
 fn before(g: Layout, from: u64, width: u64, n: u64) -> u64
     requires { ⌜ Valid g × Part from width × (n ≤ rows) ⌝ }
     ensures { λ r. ⌜ r ≡ numberOf g from width (subcarriers * n) ⌝ }
 {
-    let mut sum: u64 = 0;
-    let mut row: u64 = 0;
-    while row < n {
-        sum += counting::ones_of(row_mask(g, from, width, row));
-        row += 1;
-    }
-    sum
+    width / NCCE_WIDTH * six_in_rows(g, n)
 }
 
 // E: how many elements are used.
@@ -137,23 +178,50 @@ pub fn number(g: Layout, from: u64, width: u64, x: u64) -> u64
     before(g, from, width, row) + counting::ones_of(counting::low(mask, x % Grid::SUBCARRIERS))
 }
 
+// The symbol of a slot with the y-th of the subcarriers that six_before counts.
+fn symbol_with(g: Layout, y: u64) -> u64
+    requires { ⌜ Valid g × (y < sixBefore (g .nports) (g .cports) symbols) ⌝ }
+    ensures { λ r. ⌜ (r < symbols) × (sixBefore (g .nports) (g .cports) r ≤ y) × (y < sixBefore (g .nports) (g .cports) (r + 1)) ⌝ }
+{
+    let early = one(six_before(g, 1) <= y)
+        + one(six_before(g, 2) <= y)
+        + one(six_before(g, 3) <= y);
+    let late = one(six_before(g, 4) <= y) + one(six_before(g, 5) <= y) + one(six_before(g, 6) <= y);
+    early + late
+}
+
+// The row with the q-th of the subcarriers that six_in_rows counts.
+fn row_with(g: Layout, q: u64) -> u64
+    requires { ⌜ Valid g × (q < sixInRows g rows) ⌝ }
+    ensures { λ r. ⌜ (r < rows) × (sixInRows g r ≤ q) × (q < sixInRows g (r + 1)) ⌝ }
+{
+    let y = q + six_before(g, g.control);
+    let slot = six_before(g, Grid::SYMBOLS);
+    if y < slot {
+        return symbol_with(g, y);
+    }
+    Grid::SYMBOLS + symbol_with(g, y - slot)
+}
+
+// e over the NCCEs of a part.
+fn over_ncces(from: u64, width: u64, e: u64) -> u64
+    requires { ⌜ Part from width ⌝ }
+    ensures { λ r. ⌜ r ≡ e / (width / ncceWidth) ⌝ }
+{
+    if width == NCCE_WIDTH {
+        return e;
+    }
+    e / 2
+}
+
 // The e-th used element.
 pub fn element_at(g: Layout, from: u64, width: u64, e: u64) -> u64
     requires { ⌜ Valid g × Part from width × (e < countOf g from width) ⌝ }
     ensures { λ r. ⌜ r ≡ elementAt g from width e ⌝ }
 {
-    let mut left = e;
-    let mut row: u64 = 0;
-    while row < ROWS {
-        let mask = row_mask(g, from, width, row);
-        let n = counting::ones_of(mask);
-        if left < n {
-            return Grid::SUBCARRIERS * row + counting::nth_one(mask, left);
-        }
-        left -= n;
-        row += 1;
-    }
-    0
+    let row = row_with(g, over_ncces(from, width, e));
+    let left = e - before(g, from, width, row);
+    Grid::SUBCARRIERS * row + counting::nth_one(row_mask(g, from, width, row), left)
 }
 
 pub fn is_used(g: Layout, from: u64, width: u64, x: u64) -> bool
