@@ -149,7 +149,7 @@ fn judged_own(c: Cell, own: &[u8]) -> Verdict
         return refused(no);
     }
     let p = pattern(c, own);
-    if spans::in_period(p) == 0 {
+    if spans::is_empty(p) {
         return refused(8);
     }
     Verdict { no: 0, pattern: p }

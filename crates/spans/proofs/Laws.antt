@@ -1,26 +1,37 @@
 -- A regular pattern: how many subframes it allows before any span, and that it repeats.
-use mathlib.Core.Bool.{Bool, true, false, cond}
+use mathlib.Core.Bool.{Bool, true, false, cond, _&&_, _||_}
 use mathlib.Core.Path.{_≡_, refl, sym, ap, ap₂, _∙_, subst}
-use mathlib.Core.Logic.{⊎-elim}
+use mathlib.Core.Logic.{_⊎_, inl, inr, ⊎-elim}
 use Prim.Native.Nat.{ℕ, zero, suc, _+_, _-_, _*_, _/_, _%_, _^_, _≤_, _<_}
-use native.Mathlib.Nat.{add-mod-right, add-comm, zero-add, mod-eq-of-lt, mod-lt, add-mul, zero-mul, mul-zero, div-add-mod', div-lt-iff-lt-mul}
+use native.Mathlib.Nat.{add-mod-right, add-comm, zero-add, mod-eq-of-lt, mod-lt, add-mul, zero-mul, mul-zero, mul-le-mul, pow-succ', div-add-mod', div-lt-iff-lt-mul}
 use native.Mathlib.Omega.{arith}
-use lib.Count.{ones}
-use lib.Dec.{leb}
+use lib.Count.{ones, ones-step}
+use lib.Dec.{leb, eqb}
 use mir.Val.{boolByte}
-use borrow.Author.Tests.{le-leb, lt-leb, lt-ltb, le-ltb}
+use borrow.Author.Tests.{le-leb, lt-leb, lt-ltb, le-ltb, eq-eqb, ne-eqb}
 use Rattle.counting.specs.Counting.{rank, count, select, amongFirst, inRange}
 use Rattle.counting.specs.Bits.{bitAt, NthOne}
 use Rattle.counting.proofs.Facts.{order}
 use Rattle.counting.proofs.Rank.{rank-zero, rank-suc, rank-le, rank-mono, rank-strict, rank-later, rank-same, count-between}
 use Rattle.counting.proofs.Range.{in-range, below-range, above-range, and-none, rank-before, rank-inside, rank-after}
 use Rattle.counting.proofs.Ones.{ones-low, span-part, span-whole, one-below}
-use Rattle.counting.proofs.Select.{among-parts}
-use Rattle.counting.proofs.Period.{rank-split, select-is, select-jump}
+use Rattle.counting.proofs.Select.{nth-of, among-parts}
+use Rattle.counting.proofs.Period.{rank-split, rank-periods, repeats-times, select-is, is-select}
 use Rattle.spans.specs.declared.Pattern.{Pattern}
 use Rattle.spans.specs.declared.Found.{Found}
 use Rattle.spans.specs.declared.Found.the-variants.{At, Nothing}
 use Rattle.spans.specs.Pattern.{span, withSib1, maskAt, allows, periodOf, Regular, Landed, Picked, foundAt}
+
+-- ---- a number has no ones only if it is 0
+
+ones-none : ones 0 ≡ 0
+unfolding ones
+ones-none = refl
+
+ones-some : (k m : ℕ) → m < 2 ^ k → 0 < m → 0 < ones m
+ones-some zero m h l = absurd (omega arith)
+ones-some (suc k) m h l =
+    ⊎-elim (λ e. omega (arith, ones-step m, ones-some k (m / 2) (omega (arith, pow-succ' 2 k)) e)) (λ e. omega (arith, ones-step m)) (order 0 (m / 2))
 
 -- digit i of a span's mask is its subframe i
 pub mask-bits : (p : Pattern) (s i : ℕ) → i < span → bitAt (maskAt p s) i ≡ allows p (span * s + i)
@@ -31,7 +42,7 @@ mask-bits p s i h =
     rw (q, r) refl
 
 module _ (p : Pattern) (ok : Regular p) where
-  some-spans : 0 < p .spans
+  pub some-spans : 0 < p .spans
   some-spans = omega (arith, ok .fits)
 
   -- ---- spans with SIB1
@@ -96,7 +107,7 @@ module _ (p : Pattern) (ok : Regular p) where
       let r : (t + span * p .spans) % span ≡ t % span = omega arith in
       rw (q, r, add-mod-right (t / span) (p .spans)) refl
 
-  some-of-period : rank (allows p) (periodOf p) ≡ 4 * ones (p .sib1) + (p .spans - 4) * ones (p .plain)
+  pub some-of-period : rank (allows p) (periodOf p) ≡ 4 * ones (p .sib1) + (p .spans - 4) * ones (p .plain)
   some-of-period = spans-rank (p .spans) ∙ ap (λ (h : ℕ). h * ones (p .sib1) + (p .spans - h) * ones (p .plain)) four-a-period
 
   -- ---- spans with SIB1 before span s: none, some, or all four of its period
@@ -238,11 +249,64 @@ module _ (p : Pattern) (ok : Regular p) where
       let e : span * (t / span) + t % span ≡ t = omega arith in
       omega (arith, span-front (t / span) (t % span) (omega arith), ap (rank (allows p)) e)
 
-  pub nth-quick : (f j per k r : ℕ) → 0 < rank (allows p) (periodOf p) → per ≡ rank (allows p) (periodOf p) → k ≡ rank (allows p) f
-      → Picked p ((k + j) % per) r → (k + j) / per * periodOf p + r ≡ select (allows p) (periodOf p) f j
-  nth-quick f j per k r some hp hk h =
-      add-comm ((k + j) / per * periodOf p) r ∙ ap₂ (λ (x y : ℕ). r + (x + j) / y * periodOf p) hk hp
-      ∙ select-jump (allows p) (periodOf p) repeats some f j r (h .passes) (h .before ∙ ap₂ (λ (x y : ℕ). (x + j) % y) hk hp)
+  -- the subframe of the first period, then whole periods on
+  pub at-quick : (k per r : ℕ) → per ≡ rank (allows p) (periodOf p) → Picked p (k % per) r
+      → (allows p (k / per * periodOf p + r) ≡ true) × (rank (allows p) (k / per * periodOf p + r) ≡ k)
+  at-quick k per r e h =
+      let q : ℕ = k / per in
+      let c : q * periodOf p + r ≡ r + q * periodOf p = add-comm (q * periodOf p) r in (
+        ap (allows p) c ∙ repeats-times (allows p) (periodOf p) repeats q r ∙ h .passes,
+        omega (
+          arith,
+          ap (rank (allows p)) c,
+          rank-periods (allows p) (periodOf p) repeats q r,
+          h .before,
+          ap (λ (x : ℕ). q * x) e,
+          div-add-mod' k per,
+        ),
+      )
+
+  pub nth-is : (f j k r : ℕ) → 0 < rank (allows p) (periodOf p) → k ≡ rank (allows p) f + j → (allows p r ≡ true) × (rank (allows p) r ≡ k)
+      → r ≡ select (allows p) (periodOf p) f j
+  nth-is f j k r some e h = is-select (allows p) (periodOf p) repeats some f j r (nth-of (allows p) f j r (h .0) (h .1 ∙ e))
+
+  -- ---- nothing is allowed
+
+  pub empty-is : (eqb (p .sib1) 0 && (eqb (p .spans) 4 || eqb (p .plain) 0)) ≡ eqb (rank (allows p) (periodOf p)) 0
+  empty-is = ⊎-elim sib1-some sib1-none (order 0 (p .sib1))
+    where
+      all : ℕ
+      all = 4 * ones (p .sib1) + (p .spans - 4) * ones (p .plain)
+
+      is : (b : Bool) → b ≡ eqb all 0 → b ≡ eqb (rank (allows p) (periodOf p)) 0
+      is b e = e ∙ ap (λ (x : ℕ). eqb x 0) (sym some-of-period)
+
+      sib1-some : 0 < p .sib1 → (eqb (p .sib1) 0 && (eqb (p .spans) 4 || eqb (p .plain) 0)) ≡ eqb (rank (allows p) (periodOf p)) 0
+      sib1-some h =
+          let o = ones-some 40 (p .sib1) (ok .sib1-small) h in
+          let z : eqb (p .sib1) 0 ≡ false = ne-eqb (p .sib1) 0 (λ e. omega arith) in
+          is _ (rw (z, ne-eqb all 0 (λ e. omega arith)) refl)
+
+      plain-by : ones (p .sib1) ≡ 0 → (4 < p .spans) ⊎ (p .spans ≤ 4) → (0 < p .plain) ⊎ (p .plain ≤ 0) → (eqb (p .spans) 4 || eqb (p .plain) 0) ≡ eqb all 0
+      plain-by n (inr f) q =
+          let e : p .spans ≡ 4 = omega (arith, ok .fits) in
+          let y : p .spans - 4 ≡ 0 = omega arith in
+          rw (eq-eqb (p .spans) 4 e) (sym (eq-eqb all 0 (omega (arith, ap (λ (x : ℕ). x * ones (p .plain)) y, zero-mul (ones (p .plain))))))
+      plain-by n (inl f) (inr q) =
+          let e : p .plain ≡ 0 = omega arith in
+          let m : ones (p .plain) ≡ 0 = ap ones e ∙ ones-none in
+          rw (ne-eqb (p .spans) 4 (λ z. omega arith), eq-eqb (p .plain) 0 e) (sym (eq-eqb all 0 (omega (arith, ap (λ (x : ℕ). (p .spans - 4) * x) m, mul-zero (p .spans - 4)))))
+      plain-by n (inl f) (inl q) =
+          let o = ones-some 40 (p .plain) (ok .plain-small) q in
+          rw (ne-eqb (p .spans) 4 (λ z. omega arith), ne-eqb (p .plain) 0 (λ z. omega arith))
+          (sym (ne-eqb all 0 (λ z. omega (arith, mul-le-mul {n₁ = 1} {m₁ = 1} {n₂ = p .spans - 4} {m₂ = ones (p .plain)} (omega arith) o))))
+
+      sib1-none : p .sib1 ≤ 0 → (eqb (p .sib1) 0 && (eqb (p .spans) 4 || eqb (p .plain) 0)) ≡ eqb (rank (allows p) (periodOf p)) 0
+      sib1-none h =
+          let s : p .sib1 ≡ 0 = omega arith in
+          let n : ones (p .sib1) ≡ 0 = ap ones s ∙ ones-none in
+          let z : eqb (p .sib1) 0 ≡ true = eq-eqb (p .sib1) 0 s in
+          is _ (rw z (plain-by n (order 4 (p .spans)) (order 0 (p .plain))))
 
   -- ---- the index of a subframe among those that follow the skip-th from f on
 

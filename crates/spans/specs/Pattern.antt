@@ -3,6 +3,7 @@
 use mathlib.Core.Bool.{Bool, true, cond}
 use mathlib.Core.Path.{_≡_}
 use Prim.Native.Nat.{ℕ, _+_, _-_, _*_, _/_, _%_, _^_, _≤_, _<_}
+use lib.Count.{ones}
 use Rattle.counting.specs.Counting.{rank, count, amongFirst, inRange}
 use Rattle.counting.specs.Bits.{bitAt, NthOne}
 use Rattle.spans.specs.declared.Pattern.{Pattern}
@@ -33,6 +34,11 @@ pub record Regular (p : Pattern) : Type 0 where
   pub few : p .spans ≤ 16
   pub plain-small : p .plain < 2 ^ 40
   pub sib1-small : p .sib1 < 2 ^ 40
+
+-- a and b are the ones of the two masks
+pub record Counts (p : Pattern) (a b : ℕ) : Type 0 where
+  pub sib1 : a ≡ ones (p .sib1)
+  pub plain : b ≡ ones (p .plain)
 
 -- r is the k-th subframe of a stretch of spans from span s on, all with one mask of n ones
 pub record Landed (mask n s k r : ℕ) : Type 0 where

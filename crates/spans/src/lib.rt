@@ -1,9 +1,11 @@
 // The quick search among usable subframes: whole periods by division, spans of forty by a count of ones, the last span by its digits.
+ghost use mathlib.Core.Bool.{true};
 ghost use mathlib.Core.Path.{_≡_};
 ghost use Prim.Native.Nat.{ℕ, _+_, _*_, _/_, _%_, _<_, _≤_, _^_};
 ghost use lib.Count.{ones};
+ghost use lib.Dec.{eqb};
 ghost use Rattle.counting.specs.Counting.{rank, select};
-ghost use Rattle.spans.specs.Pattern.{span, withSib1, maskAt, allows, periodOf, Regular, Landed, Picked, foundAt};
+ghost use Rattle.spans.specs.Pattern.{span, withSib1, maskAt, allows, periodOf, Regular, Counts, Landed, Picked, foundAt};
 
 // Spans of forty subframes, digit i of a mask for subframe i of the span. The pattern repeats after `spans` spans; in the four from
 // `first` on SIB1 stands and `sib1` is their mask, `plain` is that of the others.
@@ -14,10 +16,49 @@ pub struct Pattern {
     pub sib1: u64,
 }
 
+// The first and the last of a run of allowed subframes.
+pub struct Ends {
+    pub first: u64,
+    pub last: u64,
+}
+
 // The index of a subframe among those that are sent.
 pub enum Found {
     At(u64),
     Nothing,
+}
+
+// s over the spans of a period, and the rest: a division by a constant where a period has 4, 8 or 16 spans.
+fn whole_periods(spans: u64, s: u64) -> u64
+    requires { ⌜ 0 < spans ⌝ }
+    ensures { λ r. ⌜ r ≡ s / spans ⌝ }
+{
+    if spans == 4 {
+        return s / 4;
+    }
+    if spans == 8 {
+        return s / 8;
+    }
+    if spans == 16 {
+        return s / 16;
+    }
+    s / spans
+}
+
+fn rest_of_period(spans: u64, s: u64) -> u64
+    requires { ⌜ 0 < spans ⌝ }
+    ensures { λ r. ⌜ r ≡ s % spans ⌝ }
+{
+    if spans == 4 {
+        return s % 4;
+    }
+    if spans == 8 {
+        return s % 8;
+    }
+    if spans == 16 {
+        return s % 16;
+    }
+    s % spans
 }
 
 // How many spans before span s have SIB1.
@@ -25,10 +66,9 @@ fn sib1_before(p: Pattern, s: u64) -> u64
     requires { ⌜ Regular p ⌝ }
     ensures { λ r. ⌜ r ≡ rank (withSib1 p) s ⌝ }
 {
-    let spans = p.spans;
     let first = p.first;
-    let whole = s / spans * 4;
-    let x = s % spans;
+    let whole = whole_periods(p.spans, s) * 4;
+    let x = rest_of_period(p.spans, s);
     if x <= first {
         return whole;
     }
@@ -43,34 +83,31 @@ fn mask_at(p: Pattern, s: u64) -> u64
     requires { ⌜ Regular p ⌝ }
     ensures { λ r. ⌜ r ≡ maskAt p s ⌝ }
 {
-    let spans = p.spans;
     let first = p.first;
-    let x = s % spans;
+    let x = rest_of_period(p.spans, s);
     if (first <= x) & (x < first + 4) {
         return p.sib1;
     }
     p.plain
 }
 
-// How many allowed subframes lie before span s.
-fn whole_spans(p: Pattern, s: u64) -> u64
-    requires { ⌜ Regular p × (span * s < 2 ^ 64) ⌝ }
+// How many allowed subframes lie before span s; a and b are the ones of the two masks, as in what follows.
+fn whole_spans(p: Pattern, a: u64, b: u64, s: u64) -> u64
+    requires { ⌜ Regular p × Counts p a b × (span * s < 2 ^ 64) ⌝ }
     ensures { λ r. ⌜ r ≡ rank (allows p) (span * s) ⌝ }
 {
-    let plain = counting::ones_of(p.plain);
-    let sib1 = counting::ones_of(p.sib1);
     let h = sib1_before(p, s);
-    h * sib1 + (s - h) * plain
+    h * a + (s - h) * b
 }
 
 // How many allowed subframes lie before subframe t.
-pub fn rank_of(p: Pattern, t: u64) -> u64
-    requires { ⌜ Regular p ⌝ }
+fn rank_of(p: Pattern, a: u64, b: u64, t: u64) -> u64
+    requires { ⌜ Regular p × Counts p a b ⌝ }
     ensures { λ r. ⌜ r ≡ rank (allows p) t ⌝ }
 {
     let s = t / 40;
     let part = counting::ones_of(counting::low(mask_at(p, s), t % 40));
-    whole_spans(p, s) + part
+    whole_spans(p, a, b, s) + part
 }
 
 // Whether subframe t is allowed.
@@ -83,11 +120,20 @@ pub fn is_allowed(p: Pattern, t: u64) -> bool
 }
 
 // How many subframes of a period are allowed.
-pub fn in_period(p: Pattern) -> u64
-    requires { ⌜ Regular p ⌝ }
-    ensures { λ r. ⌜ r ≡ rank (allows p) (periodOf p) ⌝ }
+fn in_period(p: Pattern, a: u64, b: u64) -> u64
+    requires { ⌜ Regular p × Counts p a b ⌝ }
+    ensures { λ r. ⌜ (r ≡ rank (allows p) (periodOf p)) × (r ≤ 640) ⌝ }
 {
-    whole_spans(p, p.spans)
+    let spans = p.spans;
+    4 * a + (spans - 4) * b
+}
+
+// No subframe is allowed.
+pub fn is_empty(p: Pattern) -> bool
+    requires { ⌜ Regular p ⌝ }
+    ensures { λ r. ⌜ r ≡ eqb (rank (allows p) (periodOf p)) 0 ⌝ }
+{
+    (p.sib1 == 0) & ((p.spans == 4) | (p.plain == 0))
 }
 
 // The k-th allowed subframe of a stretch of spans from span s on, all with one mask of n ones.
@@ -99,15 +145,13 @@ fn in_stretch(mask: u64, n: u64, s: u64, k: u64) -> u64
 }
 
 // The subframe of the first period before which k allowed ones lie.
-fn pick(p: Pattern, k: u64) -> u64
-    requires { ⌜ Regular p × (k < rank (allows p) (periodOf p)) ⌝ }
+fn pick(p: Pattern, a: u64, b: u64, k: u64) -> u64
+    requires { ⌜ Regular p × Counts p a b × (k < rank (allows p) (periodOf p)) ⌝ }
     ensures { λ r. ⌜ Picked p k r ⌝ }
 {
     let first = p.first;
     let plain = p.plain;
     let sib1 = p.sib1;
-    let a = counting::ones_of(sib1);
-    let b = counting::ones_of(plain);
     let lead = first * b;
     if k < lead {
         return in_stretch(plain, b, 0, k);
@@ -119,15 +163,37 @@ fn pick(p: Pattern, k: u64) -> u64
     in_stretch(plain, b, first + 4, j - 4 * a)
 }
 
+// The allowed subframe before which k allowed ones lie: whole periods, then the rest.
+fn at(p: Pattern, a: u64, b: u64, k: u64) -> u64
+    requires { ⌜ Regular p × Counts p a b × (0 < rank (allows p) (periodOf p)) × (k < 2 ^ 42) ⌝ }
+    ensures { λ r. ⌜ (allows p r ≡ true) × (rank (allows p) r ≡ k) ⌝ }
+{
+    let spans = p.spans;
+    let per = in_period(p, a, b);
+    k / per * (40 * spans) + pick(p, a, b, k % per)
+}
+
 // The j-th allowed subframe from a given one on, counted from 0.
 pub fn nth(p: Pattern, from: u64, j: u64) -> u64
     requires { ⌜ Regular p × (0 < rank (allows p) (periodOf p)) × (from < 2 ^ 40) × (j < 2 ^ 32) ⌝ }
     ensures { λ r. ⌜ r ≡ select (allows p) (periodOf p) from j ⌝ }
 {
-    let spans = p.spans;
-    let per = in_period(p);
-    let k = rank_of(p, from) + j;
-    k / per * (40 * spans) + pick(p, k % per)
+    let a = counting::ones_of(p.sib1);
+    let b = counting::ones_of(p.plain);
+    at(p, a, b, rank_of(p, a, b, from) + j)
+}
+
+// The j-th from a given one on, and the one that follows it after `more`.
+pub fn first_and_last(p: Pattern, from: u64, j: u64, more: u64) -> Ends
+    requires { ⌜ Regular p × (0 < rank (allows p) (periodOf p)) × (from < 2 ^ 40) × (j + more < 2 ^ 32) ⌝ }
+    ensures { λ r. ⌜ (r .first ≡ select (allows p) (periodOf p) from j) × (r .last ≡ select (allows p) (periodOf p) from (j + more)) ⌝ }
+{
+    let a = counting::ones_of(p.sib1);
+    let b = counting::ones_of(p.plain);
+    let k = rank_of(p, a, b, from) + j;
+    let first = at(p, a, b, k);
+    let last = at(p, a, b, k + more);
+    Ends { first, last }
 }
 
 // The index of subframe t among the first `many` allowed ones that follow the `skip`-th from a given one on.
@@ -139,7 +205,9 @@ pub fn locate(p: Pattern, from: u64, skip: u64, many: u64, t: u64) -> Found
         return Found::Nothing;
     }
     if is_allowed(p, t) {
-        let i = rank_of(p, t) - rank_of(p, from);
+        let a = counting::ones_of(p.sib1);
+        let b = counting::ones_of(p.plain);
+        let i = rank_of(p, a, b, t) - rank_of(p, a, b, from);
         if skip <= i {
             let index = i - skip;
             if index < many {

@@ -15,16 +15,16 @@ returns : tie.Need-returns
 returns c =
     let o = c .before in
     let a = o .before .before .before in
-    rank-quick (a .args .p) (a .pre) (a .args .t) (c .whole-spans .result) (o .ones-of .result) (c .whole-spans .ensures)
+    rank-quick (a .args .p) (a .pre .0) (a .args .t) (c .whole-spans .result) (o .ones-of .result) (c .whole-spans .ensures)
     (o .ones-of .ensures ∙ ap ones (o .before .low .ensures ∙ ap (λ (m : ℕ). m % 2 ^ (a .args .t % span)) (o .before .before .mask-at .ensures)))
 
 pub rank-of-spec : {M : Type 1} → statement M
 rank-of-spec =
     tie.close
     (tie.spec
-    (λ c κs. search needs)
+    (λ c κs. c .pre .0)
     (λ c κs. search needs)
     (λ c κs. tt)
-    (λ c κs. search needs)
+    (λ c κs. let a = c .before .before .before in (a .pre .0, a .pre .1, omega arith))
     (λ c. let a = c .before .before .before .before in omega (arith, returns c, rank-le (allows (a .args .p)) (a .args .t)))
     returns)
