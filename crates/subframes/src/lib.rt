@@ -148,12 +148,11 @@ fn burst_plan(p: Pattern, b: Burst) -> DownlinkPlan
 {
     let sent = sent_subframes(b);
     let w = used_elements(b);
-    let first = subframe_at(p, b, 0);
-    let last = subframe_at(p, b, sent - 1);
+    let ends = spans::first_and_last(p, b.from, b.skip, sent - 1);
     DownlinkPlan {
         no: 0,
-        first,
-        last,
+        first: ends.first,
+        last: ends.last,
         copies: b.copies,
         places: sent * w,
     }
