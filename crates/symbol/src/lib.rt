@@ -51,11 +51,12 @@ fn bit(b: u8, i: u64) -> bool
     (b >> i) % 2 == 1
 }
 
-// Plus for bit 0, minus for bit 1.
+// Plus for bit 0, minus for bit 1; looked up, since the bits of a codeword are hard to foresee.
 fn sign(bit: bool, x: f32) -> f32
     ensures { λ r. ⌜ r ≡ signed bit x ⌝ }
 {
-    if bit { -x } else { x }
+    let both = [x, -x];
+    both[bit as usize]
 }
 
 // The symbol of two bits at a level.
