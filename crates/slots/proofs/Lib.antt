@@ -2,4 +2,5 @@ pub mod Spacing
 pub mod Rounds
 pub mod Lines
 pub mod Joined
+pub mod Splitting
 pub mod Lawfulness
