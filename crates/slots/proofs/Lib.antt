@@ -4,3 +4,4 @@ pub mod Lines
 pub mod Joined
 pub mod Splitting
 pub mod Lawfulness
+pub mod Sizes

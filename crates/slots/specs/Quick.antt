@@ -27,3 +27,22 @@ splitOf s p = record {
 pub record Located (s : Shape) (slot : ℕ) (r : Turn) : Type 0 where
   pub says : r .sent ≡ isSent s slot
   pub index : isSent s slot ≡ true → r .i ≡ indexOf s slot
+
+-- a shape with another size and order; forward and backward do not ask for them
+abbrev pub sized : Shape → ℕ → ℕ → Shape
+sized s size order = record {
+  first = s .first;
+  subcarriers = s .subcarriers;
+  block = s .block;
+  gap = s .gap;
+  tone = s .tone;
+  tones = s .tones;
+  codeword = s .codeword;
+  copies = s .copies;
+  row = s .row;
+  group = s .group;
+  reference = s .reference;
+  references = s .references;
+  size = size;
+  order = order;
+}
