@@ -1,25 +1,27 @@
 -- The parts of an answer, joined: an equation for each number that the code works out, and no path through the code.
 use mathlib.Core.Bool.{Bool, true, false, _&&_}
-use mathlib.Core.Path.{_≡_, refl, sym, ap, _∙_}
-use Prim.Native.Nat.{ℕ, _+_, _-_, _*_, _/_, _%_, _^_, _≤_, _<_}
-use native.Mathlib.Nat.{mul-le-mul, mod-lt, div-lt-iff-lt-mul}
+use mathlib.Core.Path.{_≡_, refl, sym, ap, ap₂, _∙_}
+use Prim.Native.Nat.{ℕ, _+_, _-_, _*_, _/_, _^_, _≤_, _<_}
+use native.Mathlib.Nat.{mul-le-mul, div-lt-iff-lt-mul}
 use native.Mathlib.Omega.{arith}
-use lib.Dec.{leb, ltb}
+use lib.Dec.{ltb}
 use mir.Val.{boolByte}
-use borrow.Author.Tests.{le-leb, lt-leb, lt-ltb, le-ltb, leb-true}
+use borrow.Author.Tests.{le-leb, lt-leb, lt-ltb, le-ltb}
 use Rattle.counting.specs.Counting.{rank}
 use Rattle.counting.proofs.Facts.{both-parts}
 use Rattle.counting.proofs.Select.{among-from-zero}
-use Rattle.grid.specs.Grid.{symbols, uplinkElementOf, uplinkSymbolOf, uplinkSubcarrierOf}
+use Rattle.grid.specs.Grid.{symbols, uplinkElementOf}
 use Rattle.sending.specs.CopyOrder.{carried}
 use Rattle.sending.specs.Sending.{ours, other}
 use Rattle.sending.specs.Answer.{backOf, refusedBack}
 use Rattle.slots.specs.declared.Shape.{Shape}
+use Rattle.slots.specs.declared.Split.{Split}
 use Rattle.slots.specs.declared.UplinkPlace.{UplinkPlace}
 use Rattle.slots.specs.Fits.{Fits}
 use Rattle.slots.specs.Timing.{active, sentSlots, slotAt, isSent, indexOf}
-use Rattle.slots.specs.Elements.{carriesData, carriesReference, slotData, elementAt, numberOf}
+use Rattle.slots.specs.Elements.{carriesData, carriesReference, slotData, numberOf}
 use Rattle.slots.specs.Mapping.{places}
+use Rattle.slots.specs.Quick.{splitOf}
 use Rattle.slots.specs.Answers.{refusedPlace, shapeForward, shapeBackward}
 use Rattle.slots.proofs.Lines.{some-data}
 
@@ -41,9 +43,9 @@ unfolding isSent
 sent-is s slot a n K h ha hn hK =
     rw (ha, hn, hK, le-leb (s .first) slot h) (sym (among-from-zero (active s) (sentSlots s) (slot - s .first)))
 
-pub sent-late : (s : Shape) (slot : ℕ) → isSent s slot ≡ true → s .first ≤ slot
-unfolding isSent
-sent-late s slot h = leb-true (s .first) slot (both-parts (leb (s .first) slot) _ h .0)
+pub sent-active : (s : Shape) (slot : ℕ) → s .first ≤ slot → isSent s slot ≡ true → active s (slot - s .first) ≡ true
+sent-active s slot h e =
+    both-parts (active s (slot - s .first)) _ (sent-is s slot _ _ _ h refl refl refl ∙ e) .0
 
 -- ---- forward
 
@@ -52,30 +54,24 @@ module _ (s : Shape) (p : ℕ) where
   unfolding shapeForward
   forward-refused h = rw (le-ltb p (places s) h) refl
 
-  module _ (f : Fits s) (w : ℕ) (h : p < places s) (hw : w ≡ slotData s) where
-    pub unit-small : p / w < 2 ^ 32
-    unit-small =
-        let l : p / slotData s < sentSlots s = div-lt-iff-lt-mul (some-data s f) .1 h in
-        omega (arith, ap (λ (y : ℕ). p / y) hw, sent-small s f)
+  module _ (f : Fits s) (h : p < places s) where
+    pub unit-small : p / slotData s < 2 ^ 32
+    unit-small = omega (arith, div-lt-iff-lt-mul (some-data s f) .1 h, sent-small s f)
 
-    pub rest-below : p % w < slotData s
-    rest-below = omega (arith, ap (λ (y : ℕ). p % y) hw, mod-lt p (some-data s f))
-
-  pub forward-is : (w slot l k unit symbol : ℕ) → p < places s → w ≡ slotData s → slot ≡ slotAt s (p / w)
-      → l ≡ uplinkSymbolOf (s .subcarriers) (elementAt s (p % w)) → k ≡ uplinkSubcarrierOf (s .subcarriers) (elementAt s (p % w))
-      → unit ≡ carried (s .row) (s .group) (s .codeword) (p / w) → symbol ≡ unit * w + p % w
-      → _≡_ {A = UplinkPlace} (record { no = 0; slot = slot; l = l; k = k; symbol = symbol }) (shapeForward s p)
+  pub forward-is : (at : Split) (w slot unit symbol : ℕ) → p < places s → w ≡ slotData s → at ≡ splitOf s p → slot ≡ slotAt s (at .i)
+      → unit ≡ carried (s .row) (s .group) (s .codeword) (at .i) → symbol ≡ unit * w + at .e
+      → _≡_ {A = UplinkPlace} (record { no = 0; slot = slot; l = at .l; k = at .k; symbol = symbol }) (shapeForward s p)
   unfolding shapeForward
-  forward-is w slot l k unit symbol h hw hs hl hk hu hy =
+  forward-is at w slot unit symbol h hw ha hs hu hy =
       rw (lt-ltb p (places s) h)
-      (λ i. record {
+      (λ j. record {
         no = 0;
-        slot = (hs ∙ ap (λ (y : ℕ). slotAt s (p / y)) hw) i;
-        l = (hl ∙ ap (λ (y : ℕ). uplinkSymbolOf (s .subcarriers) (elementAt s (p % y))) hw) i;
-        k = (hk ∙ ap (λ (y : ℕ). uplinkSubcarrierOf (s .subcarriers) (elementAt s (p % y))) hw) i;
+        slot = (hs ∙ ap (λ (a : Split). slotAt s (a .i)) ha) j;
+        l = ha j .l;
+        k = ha j .k;
         symbol =
-            (hy ∙ ap (λ (y : ℕ). y * w + p % w) hu
-            ∙ ap (λ (y : ℕ). carried (s .row) (s .group) (s .codeword) (p / y) * y + p % y) hw) i;
+            (hy ∙ ap (λ (y : ℕ). y * w + at .e) hu
+            ∙ ap₂ (λ (y : ℕ) (a : Split). carried (s .row) (s .group) (s .codeword) (a .i) * y + a .e) hw ha) j;
       })
 
 -- ---- backward

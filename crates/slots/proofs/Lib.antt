@@ -2,4 +2,6 @@ pub mod Spacing
 pub mod Rounds
 pub mod Lines
 pub mod Joined
+pub mod Splitting
 pub mod Lawfulness
+pub mod Sizes

@@ -54,9 +54,6 @@ module _ (s : Shape) (some : 0 < s .block) where
   pub before-in-block : (x : ℕ) → x % round s < s .block → x / round s * s .block + x % round s ≡ rank (active s) x
   before-in-block x h = omega (arith, by-rounds x, in-block (x % round s) (omega arith))
 
-  pub before-in-gap : (x : ℕ) → s .block ≤ x % round s → x / round s * s .block + s .block ≡ rank (active s) x
-  before-in-gap x h = omega (arith, by-rounds x, in-gap (x % round s) h (omega (arith, mod-lt x {m = round s} (omega arith))))
-
   -- blocks before x are no more than x
   pub blocks-below : (x : ℕ) → x / round s * s .block + x % round s ≤ x
   blocks-below x =

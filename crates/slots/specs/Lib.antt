@@ -4,3 +4,4 @@ pub mod Elements
 pub mod Mapping
 pub mod Answers
 pub mod Fits
+pub mod Quick

@@ -1,13 +1,15 @@
 // The elements of a slot: symbol l, subcarrier k. Data elements are counted along the subcarriers, then along the symbols.
 ghost use mathlib.Core.Path.{_≡_};
 ghost use mathlib.Core.Bool.{true};
-ghost use Prim.Native.Nat.{_^_, _<_};
+ghost use Prim.Native.Nat.{_+_, _/_, _^_, _<_};
 ghost use mir.Val.{boolByte};
 ghost use Rattle.counting.specs.Counting.{rank};
-ghost use Rattle.grid.specs.Grid.{symbols, uplinkElementOf, uplinkSymbolOf, uplinkSubcarrierOf};
+ghost use Rattle.grid.specs.Grid.{symbols, uplinkElementOf};
 ghost use Rattle.slots.specs.Fits.{Fits};
-ghost use Rattle.slots.specs.Elements.{isReference, isGranted, isDataSymbol, carriesData, carriesReference, slotData, elementAt, numberOf};
+ghost use Rattle.slots.specs.Elements.{isReference, isGranted, isDataSymbol, carriesData, carriesReference, slotData, numberOf};
+ghost use Rattle.slots.specs.Quick.{symbolOfLine, splitOf};
 use super::Shape;
+use super::Split;
 use grid::UplinkGrid;
 
 fn is_reference(s: Shape, l: u64) -> bool
@@ -53,28 +55,65 @@ pub fn slot_data(s: Shape) -> u64
     (UplinkGrid::SYMBOLS - references) * tones
 }
 
-// The symbol and the subcarrier of data element e.
-pub fn symbol_at(s: Shape, e: u64) -> u64
-    requires { ⌜ Fits s × (e < slotData s) ⌝ }
-    ensures { λ r. ⌜ r ≡ uplinkSymbolOf (s .subcarriers) (elementAt s e) ⌝ }
+// How often 3 is doubled to get the tones, if they are 3, 6 or 12.
+fn doublings(tones: u64) -> u64
+    ensures { λ r. ⌜ r < 3 ⌝ }
 {
-    let tones = s.tones;
+    if tones == 3 {
+        return 0;
+    }
+    if tones == 6 {
+        return 1;
+    }
+    2
+}
+
+// n over the tones, without a division by them if they are 1, 3, 6 or 12.
+fn over_tones(tones: u64, n: u64) -> u64
+    requires { ⌜ 0 < tones ⌝ }
+    ensures { λ r. ⌜ r ≡ n / tones ⌝ }
+{
+    let z = doublings(tones);
+    let thirds = (n / 3) >> z;
+    if tones == 1 {
+        return n;
+    }
+    if tones == 3 << z {
+        return thirds;
+    }
+    n / tones
+}
+
+// The symbol of a line of data elements.
+fn symbol_at(s: Shape, line: u64) -> u64
+    requires { ⌜ Fits s × (line + s .references < symbols) ⌝ }
+    ensures { λ r. ⌜ r ≡ symbolOfLine s line ⌝ }
+{
     let reference = s.reference;
     let references = s.references;
-    let line = e / tones;
     if line < reference {
         return line;
     }
     line + references
 }
 
-pub fn subcarrier_at(s: Shape, e: u64) -> u64
-    requires { ⌜ Fits s × (e < slotData s) ⌝ }
-    ensures { λ r. ⌜ r ≡ uplinkSubcarrierOf (s .subcarriers) (elementAt s e) ⌝ }
+// Where position p is: lines of `tones` elements, as many a slot as there are symbols with data.
+pub fn split(s: Shape, p: u64) -> Split
+    requires { ⌜ Fits s ⌝ }
+    ensures { λ r. ⌜ r ≡ splitOf s p ⌝ }
 {
     let tone = s.tone;
     let tones = s.tones;
-    tone + e % tones
+    let lines = UplinkGrid::SYMBOLS - s.references;
+    let line = over_tones(tones, p);
+    let i = line / lines;
+    let l = symbol_at(s, line - i * lines);
+    Split {
+        i,
+        e: p - i * (lines * tones),
+        l,
+        k: tone + (p - line * tones),
+    }
 }
 
 // How many symbols before l carry data.

@@ -1,11 +1,11 @@
 // Uplink questions on a shape: the numbers that place a grant's codeword on uplink slots, whatever kind of grant they are made from.
 ghost use mathlib.Core.Path.{_≡_};
-ghost use mathlib.Core.Bool.{true};
 ghost use Prim.Native.Nat.{_+_, _*_, _^_, _<_};
 ghost use Rattle.sending.specs.CopyOrder.{carried};
 ghost use Rattle.slots.specs.Fits.{Fits};
-ghost use Rattle.slots.specs.Timing.{sentSlots, slotAt, isSent, indexOf};
+ghost use Rattle.slots.specs.Timing.{sentSlots, slotAt};
 ghost use Rattle.slots.specs.Mapping.{places};
+ghost use Rattle.slots.specs.Quick.{Located};
 ghost use Rattle.slots.specs.Answers.{refusedPlan, refusedPlace, shapePlan, shapeForward, shapeBackward};
 use grid::UplinkGrid;
 use sending::Back;
@@ -60,6 +60,20 @@ pub struct UplinkPlace {
     pub symbol: u64,
 }
 
+// A position taken apart: the transmitted slot, the data element in it, and that element's symbol and subcarrier.
+struct Split {
+    i: u64,
+    e: u64,
+    l: u64,
+    k: u64,
+}
+
+// Whether a slot is sent, and if so which transmitted slot it is.
+struct Turn {
+    sent: bool,
+    i: u64,
+}
+
 pub fn refused_plan(no: u64) -> UplinkPlan
     ensures { λ r. ⌜ r ≡ refusedPlan no ⌝ }
 {
@@ -105,27 +119,27 @@ fn slot_at(s: Shape, i: u64) -> u64
     first + timing::active_at(s, i)
 }
 
-// The slot is sent.
-fn is_sent(s: Shape, slot: u64) -> bool
+// Whether a slot is sent, and which one it is.
+fn locate(s: Shape, slot: u64) -> Turn
     requires { ⌜ Fits s ⌝ }
-    ensures { λ r. ⌜ r ≡ isSent s slot ⌝ }
+    ensures { λ r. ⌜ Located s slot r ⌝ }
 {
     let first = s.first;
+    let block = s.block;
+    let gap = s.gap;
     if slot < first {
-        return false;
+        return Turn { sent: false, i: 0 };
     }
     let x = slot - first;
-    let before = timing::active_before(s, x);
-    timing::is_active(s, x) & (before < sent_slots(s))
-}
-
-// Which transmitted slot it is.
-fn index_of(s: Shape, slot: u64) -> u64
-    requires { ⌜ Fits s × (isSent s slot ≡ true) ⌝ }
-    ensures { λ r. ⌜ (r ≡ indexOf s slot) × (r < 2 ^ 32) ⌝ }
-{
-    let first = s.first;
-    timing::active_before(s, slot - first)
+    let round = block + gap;
+    let whole = timing::over_round(round, x);
+    let rest = x - whole * round;
+    let i = whole * block + rest;
+    let many = sent_slots(s);
+    Turn {
+        sent: (rest < block) & (i < many),
+        i,
+    }
 }
 
 // The codeword slot that transmitted slot i carries.
@@ -179,18 +193,15 @@ pub fn forward(s: Shape, p: u64) -> UplinkPlace
         return refused_place(14);
     }
     let w = data::slot_data(s);
-    let i = p / w;
-    let e = p % w;
-    let slot = slot_at(s, i);
-    let l = data::symbol_at(s, e);
-    let k = data::subcarrier_at(s, e);
-    let unit = carried_by(s, i);
+    let at = data::split(s, p);
+    let slot = slot_at(s, at.i);
+    let unit = carried_by(s, at.i);
     UplinkPlace {
         no: 0,
         slot,
-        l,
-        k,
-        symbol: item(unit, w, e),
+        l: at.l,
+        k: at.k,
+        symbol: item(unit, w, at.e),
     }
 }
 
@@ -204,14 +215,15 @@ pub fn backward(s: Shape, slot: u64, l: u64, k: u64) -> Back
     if !inside {
         return sending::refused(14);
     }
-    if !is_sent(s, slot) {
+    let turn = locate(s, slot);
+    if !turn.sent {
         return sending::other(0);
     }
     if !data::carries_data(s, l, k) {
         return sending::other(data::reference_kind(s, l, k));
     }
     let w = data::slot_data(s);
-    let i = index_of(s, slot);
+    let i = turn.i;
     let e = data::number_of(s, l, k);
     let unit = carried_by(s, i);
     sending::ours(item(unit, w, e), item(i, w, e))

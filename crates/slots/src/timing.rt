@@ -1,35 +1,35 @@
 // Which slots a shape may send, counted from the slot that the grant first names.
 ghost use mathlib.Core.Path.{_≡_};
-ghost use Prim.Native.Nat.{_^_, _<_};
-ghost use Rattle.counting.specs.Counting.{rank, select};
+ghost use Prim.Native.Nat.{_/_, _^_, _<_};
+ghost use Rattle.counting.specs.Counting.{select};
 ghost use Rattle.slots.specs.Fits.{Fits};
 ghost use Rattle.slots.specs.Timing.{active, period};
 use super::Shape;
 
-// Slot x may be sent.
-pub fn is_active(s: Shape, x: u64) -> bool
-    requires { ⌜ Fits s ⌝ }
-    ensures { λ r. ⌜ r ≡ active s x ⌝ }
+// n over the slots of a block: a shift for 128 and 512.
+fn over_block(block: u64, n: u64) -> u64
+    requires { ⌜ 0 < block ⌝ }
+    ensures { λ r. ⌜ r ≡ n / block ⌝ }
 {
-    let block = s.block;
-    let gap = s.gap;
-    x % (block + gap) < block
+    if block == 128 {
+        return n / 128;
+    }
+    if block == 512 {
+        return n / 512;
+    }
+    n / block
 }
 
-// How many slots before x may be sent.
-pub fn active_before(s: Shape, x: u64) -> u64
-    requires { ⌜ Fits s ⌝ }
-    ensures { λ r. ⌜ r ≡ rank (active s) x ⌝ }
+// n over the slots of a round: 148 and 592 are products of 37 and a power of two.
+pub fn over_round(round: u64, n: u64) -> u64
+    requires { ⌜ 0 < round ⌝ }
+    ensures { λ r. ⌜ r ≡ n / round ⌝ }
 {
-    let block = s.block;
-    let gap = s.gap;
-    let round = block + gap;
-    let whole = x / round * block;
-    let rest = x % round;
-    if rest < block {
-        return whole + rest;
+    let z = u64::trailing_zeros(round) as u64 % 8;
+    if 37 << z == round {
+        return (n / 37) >> z;
     }
-    whole + block
+    n / round
 }
 
 // The i-th slot that may be sent.
@@ -39,5 +39,5 @@ pub fn active_at(s: Shape, i: u64) -> u64
 {
     let block = s.block;
     let gap = s.gap;
-    i + gap * (i / block)
+    i + gap * over_block(block, i)
 }

@@ -1,7 +1,7 @@
 -- What the fields name, in closed form and in bounds.
 use mathlib.Core.Bool.{Bool, true, false, cond, _&&_}
 use mathlib.Core.Path.{_≡_, sym, ap, _∙_}
-use Prim.Native.Nat.{ℕ, zero, suc, _+_, _*_, _/_, _%_, _≤_, _<_}
+use Prim.Native.Nat.{ℕ, zero, suc, _+_, _-_, _*_, _/_, _%_, _≤_, _<_}
 use native.Mathlib.Nat.{mod-one, mul-assoc, mul-mod-left, div-add-mod'}
 use native.Mathlib.Omega.{arith}
 use lib.Dec.{T, eqb, leb, leb→le, eqb→eq}
@@ -10,30 +10,43 @@ use Rattle.grid.specs.Grid.{uplinkSubcarriers}
 use Rattle.grid.specs.Tables.{entry, uplinkCopies}
 use Rattle.grid.proofs.Rules.{parts, halfRowOf, uplink-row-splits, uplink-copies-bounds, row-pos, row-small}
 use Rattle.slots.specs.Numerology.{groupOf}
-use Rattle.slots.proofs.Spacing.{by-spacing-bounds}
-use Rattle.uplink.specs.Fields.{threeTones, toneFields, tonesOf, firstTone, unitSlots, rowOf}
+use Rattle.uplink.specs.Fields.{toneFields, tonesOf, firstTone, unitSlots, rowOf}
+use Rattle.uplink.specs.Quick.{firstField}
 
--- the single tones come before the first field of three
-pub three-tones-later : (spacing : ℕ) → threeTones ≤ uplinkSubcarriers spacing
-three-tones-later spacing = omega (arith, by-spacing-bounds spacing (uplinkSubcarriers 0) (uplinkSubcarriers 1) .0)
+-- a choice is below what both are below
+pub chosen-below : (b : Bool) (x y n : ℕ) → x < n → y < n → cond b x y < n
+chosen-below true x y n h k = h
+chosen-below false x y n h k = k
+
+pub slots-small : (tones : ℕ) → unitSlots tones ≤ 16
+unfolding unitSlots
+slots-small tones = by (eqb tones 1) (eqb tones 3) (eqb tones 6)
+  where
+    by : (a b c : Bool) → cond a 16 (cond b 8 (cond c 4 2)) ≤ 16
+    by true b c = omega arith
+    by false true c = omega arith
+    by false false true = omega arith
+    by false false false = omega arith
 
 -- ---- what holds of every field that names tones, by one computed test for each spacing
 
--- some tones, inside the grid, and a resource unit of whole groups
+-- the first tone by the first field of as many tones; some tones, inside the grid, and a resource unit of whole groups
 abbrev fieldFits : ℕ → ℕ → Bool
 fieldFits spacing field =
-    leb 1 (tonesOf spacing field)
+    leb (firstField spacing field) field
+    && (eqb (tonesOf spacing field * (field - firstField spacing field)) (firstTone spacing field)
+    && (leb 1 (tonesOf spacing field)
     && (leb (firstTone spacing field + tonesOf spacing field) (uplinkSubcarriers spacing)
     && (leb 1 (unitSlots (tonesOf spacing field))
     && (leb (unitSlots (tonesOf spacing field)) 16
-    && eqb (unitSlots (tonesOf spacing field) % groupOf spacing) 0)))
+    && eqb (unitSlots (tonesOf spacing field) % groupOf spacing) 0)))))
 
 narrow-fields : T (each (toneFields 0) (fieldFits 0))
-unfolding tonesOf firstTone unitSlots
+unfolding tonesOf firstTone firstField unitSlots
 narrow-fields = tt
 
 wide-fields : T (each (toneFields 1) (fieldFits 1))
-unfolding tonesOf firstTone unitSlots
+unfolding tonesOf firstTone firstField unitSlots
 wide-fields = tt
 
 field-fits : (spacing field : ℕ) → spacing ≤ 1 → field < toneFields spacing → T (fieldFits spacing field)
@@ -42,6 +55,8 @@ field-fits (suc zero) field h l = each-at (toneFields 1) (fieldFits 1) wide-fiel
 field-fits (suc (suc spacing)) field h l = absurd (omega arith)
 
 pub record ToneField (spacing field : ℕ) : Type 0 where
+  pub from : firstField spacing field ≤ field
+  pub first : tonesOf spacing field * (field - firstField spacing field) ≡ firstTone spacing field
   pub some : 0 < tonesOf spacing field
   pub inside : firstTone spacing field + tonesOf spacing field ≤ uplinkSubcarriers spacing
   pub slots : 0 < unitSlots (tonesOf spacing field)
@@ -51,11 +66,15 @@ pub record ToneField (spacing field : ℕ) : Type 0 where
 pub tone-field : (spacing field : ℕ) → spacing ≤ 1 → field < toneFields spacing → ToneField spacing field
 tone-field spacing field h l =
     let n : ℕ = tonesOf spacing field in
-    let a = parts (leb 1 n) _ (field-fits spacing field h l) in
+    let e = parts (leb (firstField spacing field) field) _ (field-fits spacing field h l) in
+    let f = parts (eqb (n * (field - firstField spacing field)) (firstTone spacing field)) _ (e .1) in
+    let a = parts (leb 1 n) _ (f .1) in
     let b = parts (leb (firstTone spacing field + n) (uplinkSubcarriers spacing)) _ (a .1) in
     let c = parts (leb 1 (unitSlots n)) _ (b .1) in
     let d = parts (leb (unitSlots n) 16) _ (c .1) in
     record {
+      from = leb→le _ _ (e .0);
+      first = eqb→eq _ _ (f .0);
       some = leb→le 1 n (a .0);
       inside = leb→le _ _ (b .0);
       slots = leb→le 1 (unitSlots n) (c .0);

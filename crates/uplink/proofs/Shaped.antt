@@ -5,6 +5,7 @@ use Rattle.grid.specs.Grid.{uplinkSubcarriers}
 use Rattle.grid.specs.Tables.{entry, lengths, uplinkDelays}
 use Rattle.slots.specs.declared.Shape.{Shape}
 use Rattle.uplink.specs.declared.UplinkGrant.{UplinkGrant}
+use Rattle.slots.specs.Quick.{sized}
 use Rattle.slots.specs.Numerology.{slotsIn, firstAfter, groupOf}
 use Rattle.uplink.specs.Fields.{firstTone, unitSlots, rowOf, referenceOf, blockSize, orderOf}
 use Rattle.uplink.specs.Shaping.{grantTones, grantCopies, shapeOf}
@@ -13,7 +14,7 @@ pub shape-is : (g : UplinkGrant) (first subcarriers block gap tone tones codewor
     → tones ≡ grantTones g → copies ≡ grantCopies g → first ≡ firstAfter (g .spacing) (g .n + entry uplinkDelays (g .delay))
     → subcarriers ≡ uplinkSubcarriers (g .spacing) → block ≡ slotsIn (g .spacing) 256 → gap ≡ slotsIn (g .spacing) 40
     → tone ≡ firstTone (g .spacing) (g .subcarrier) → codeword ≡ entry lengths (g .units) * unitSlots tones → row ≡ rowOf tones copies
-    → group ≡ groupOf (g .spacing) → reference ≡ referenceOf (g .spacing) → size ≡ blockSize tones (g .mcs) (g .units) → order ≡ orderOf tones (g .mcs)
+    → group ≡ groupOf (g .spacing) → reference ≡ referenceOf (g .spacing)
     → _≡_ {A = Shape}
     (record {
       first = first;
@@ -31,9 +32,9 @@ pub shape-is : (g : UplinkGrant) (first subcarriers block gap tone tones codewor
       size = size;
       order = order;
     })
-    (shapeOf g)
+    (sized (shapeOf g) size order)
 unfolding shapeOf
-shape-is g _ _ _ _ _ _ _ _ _ _ _ _ _ ht hc hf hs hb hg hk hw hr hq hl hz ho =
+shape-is g _ _ _ _ _ _ _ _ _ _ _ size order ht hc hf hs hb hg hk hw hr hq hl =
     λ i. record {
       first = hf i;
       subcarriers = hs i;
@@ -47,6 +48,13 @@ shape-is g _ _ _ _ _ _ _ _ _ _ _ _ _ ht hc hf hs hb hg hk hw hr hq hl hz ho =
       group = hq i;
       reference = hl i;
       references = 1;
-      size = (hz ∙ ap (λ (n : ℕ). blockSize n (g .mcs) (g .units)) ht) i;
-      order = (ho ∙ ap (λ (n : ℕ). orderOf n (g .mcs)) ht) i;
+      size = size;
+      order = order;
     }
+
+-- with its own size and order it is the grant's
+pub sized-own : (g : UplinkGrant) (tones size order : ℕ) → tones ≡ grantTones g → size ≡ blockSize tones (g .mcs) (g .units)
+    → order ≡ orderOf tones (g .mcs) → sized (shapeOf g) size order ≡ shapeOf g
+unfolding shapeOf
+sized-own g tones size order ht hz ho =
+    ap₂ (sized (shapeOf g)) (hz ∙ ap (λ (n : ℕ). blockSize n (g .mcs) (g .units)) ht) (ho ∙ ap (λ (n : ℕ). orderOf n (g .mcs)) ht)

@@ -1,9 +1,11 @@
 // What an uplink grant's fields name.
+ghost use mathlib.Core.Bool.{cond};
 ghost use mathlib.Core.Path.{_≡_};
 ghost use Prim.Native.Nat.{_+_, _*_, _^_, _<_, _≤_};
 ghost use Rattle.grid.specs.Tables.{entry, lengths, uplinkDelays};
 ghost use Rattle.slots.specs.Numerology.{firstAfter};
 ghost use Rattle.uplink.specs.Fields.{toneFields, tonesOf, firstTone, unitSlots, rowOf, referenceOf, blockSize, orderOf};
+ghost use Rattle.uplink.specs.Quick.{firstField};
 use grid::UplinkGrid;
 
 const THREE_TONES: u64 = 12;
@@ -11,6 +13,16 @@ const THREE_TONES: u64 = 12;
 const SIX_TONES: u64 = 16;
 
 const ALL_TONES: u64 = 18;
+
+// a where the test holds, else b.
+fn choose(test: bool, a: u64, b: u64) -> u64
+    ensures { λ r. ⌜ r ≡ cond test a b ⌝ }
+{
+    if test {
+        return a;
+    }
+    b
+}
 
 // How many subcarrier fields name tones.
 pub fn tone_fields(spacing: u64) -> u64
@@ -24,31 +36,33 @@ pub fn tones(spacing: u64, field: u64) -> u64
     ensures { λ r. ⌜ r ≡ tonesOf spacing field ⌝ }
 {
     let subcarriers = UplinkGrid::subcarriers(spacing);
-    if field < subcarriers {
-        return 1;
-    }
-    if field < SIX_TONES {
-        return 3;
-    }
-    if field < ALL_TONES {
-        return 6;
-    }
-    subcarriers
+    let several = choose(field < ALL_TONES, 6, subcarriers);
+    choose(
+        field < subcarriers,
+        1,
+        choose(field < SIX_TONES, 3, several),
+    )
 }
 
 pub fn first_tone(spacing: u64, field: u64) -> u64
+    requires { ⌜ (spacing ≤ 1) × (field < toneFields spacing) ⌝ }
     ensures { λ r. ⌜ r ≡ firstTone spacing field ⌝ }
 {
-    if field < UplinkGrid::subcarriers(spacing) {
-        return field;
-    }
-    if field < SIX_TONES {
-        return 3 * (field - THREE_TONES);
-    }
-    if field < ALL_TONES {
-        return 6 * (field - SIX_TONES);
-    }
-    0
+    let from = first_field(spacing, field);
+    tones(spacing, field) * (field - from)
+}
+
+// The first field that names as many tones.
+fn first_field(spacing: u64, field: u64) -> u64
+    ensures { λ r. ⌜ r ≡ firstField spacing field ⌝ }
+{
+    let subcarriers = UplinkGrid::subcarriers(spacing);
+    let several = choose(field < ALL_TONES, SIX_TONES, ALL_TONES);
+    choose(
+        field < subcarriers,
+        0,
+        choose(field < SIX_TONES, THREE_TONES, several),
+    )
 }
 
 // The slot that a grant first names.
@@ -63,16 +77,8 @@ pub fn start(spacing: u64, n: u64, delay: u64) -> u64
 fn unit_slots(tones: u64) -> u64
     ensures { λ r. ⌜ (r ≡ unitSlots tones) × (r ≤ 16) ⌝ }
 {
-    if tones == 1 {
-        return 16;
-    }
-    if tones == 3 {
-        return 8;
-    }
-    if tones == 6 {
-        return 4;
-    }
-    2
+    let several = choose(tones == 6, 4, 2);
+    choose(tones == 1, 16, choose(tones == 3, 8, several))
 }
 
 // Slots of the codeword.
@@ -88,11 +94,8 @@ pub fn row(tones: u64, copies: u64) -> u64
     requires { ⌜ copies < 2 ^ 16 ⌝ }
     ensures { λ r. ⌜ r ≡ rowOf tones copies ⌝ }
 {
-    if tones == 1 {
-        return 1;
-    }
     let half = (copies + 1) / 2;
-    grid::up_to_four(half)
+    choose(tones == 1, 1, grid::up_to_four(half))
 }
 
 // The reference symbol.
@@ -107,18 +110,13 @@ pub fn block_size(tones: u64, mcs: u64, units: u64) -> u64
     requires { ⌜ (mcs < 5) × (units < 8) ⌝ }
     ensures { λ r. ⌜ r ≡ blockSize tones mcs units ⌝ }
 {
-    if tones == 1 {
-        return grid::size(grid::single_tone_row(mcs), units);
-    }
-    grid::size(mcs, units)
+    let row = choose(tones == 1, grid::single_tone_row(mcs), mcs);
+    grid::size(row, units)
 }
 
 pub fn order(tones: u64, mcs: u64) -> u64
     requires { ⌜ mcs < 5 ⌝ }
     ensures { λ r. ⌜ r ≡ orderOf tones mcs ⌝ }
 {
-    if tones == 1 {
-        return grid::single_tone_order(mcs);
-    }
-    2
+    choose(tones == 1, grid::single_tone_order(mcs), 2)
 }

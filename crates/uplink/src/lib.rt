@@ -1,5 +1,6 @@
 // NPUSCH format 1: an uplink grant's refusals, its shape, and the questions on it.
 ghost use mathlib.Core.Path.{_≡_};
+ghost use Rattle.slots.specs.Quick.{sized};
 ghost use Rattle.uplink.specs.Refusals.{aboveLargest, refusalWithin, refusal};
 ghost use Rattle.uplink.specs.Shaping.{shapeOf};
 ghost use Rattle.uplink.specs.Questions.{planOf, forwardOf, backwardOf};
@@ -61,14 +62,13 @@ fn judge(limit: u64, g: UplinkGrant) -> u64
     0
 }
 
-// The shape of an accepted grant.
-fn shape(g: UplinkGrant) -> Shape
+// The shape of an accepted grant, with a size and an order: only a plan asks for the grant's own.
+fn shape(g: UplinkGrant, size: u64, order: u64) -> Shape
     requires { ⌜ refusal g ≡ 0 ⌝ }
-    ensures { λ r. ⌜ r ≡ shapeOf g ⌝ }
+    ensures { λ r. ⌜ r ≡ sized (shapeOf g) size order ⌝ }
 {
     let spacing = g.spacing;
     let units = g.units;
-    let mcs = g.mcs;
     let tones = fields::tones(spacing, g.subcarrier);
     let copies = grid::uplink_copies(g.copies);
     Shape {
@@ -84,8 +84,8 @@ fn shape(g: UplinkGrant) -> Shape
         group: slots::group(spacing),
         reference: fields::reference(spacing),
         references: 1,
-        size: fields::block_size(tones, mcs, units),
-        order: fields::order(tones, mcs),
+        size,
+        order,
     }
 }
 
@@ -97,7 +97,10 @@ pub fn plan(g: UplinkGrant) -> UplinkPlan
     if no != 0 {
         return slots::refused_plan(no);
     }
-    slots::plan(shape(g))
+    let tones = fields::tones(g.spacing, g.subcarrier);
+    let size = fields::block_size(tones, g.mcs, g.units);
+    let order = fields::order(tones, g.mcs);
+    slots::plan(shape(g, size, order))
 }
 
 // The place of position p, and the symbol there.
@@ -108,7 +111,7 @@ pub fn forward(g: UplinkGrant, p: u64) -> UplinkPlace
     if no != 0 {
         return slots::refused_place(no);
     }
-    slots::forward(shape(g), p)
+    slots::forward(shape(g, 0, 0), p)
 }
 
 // What stands at symbol l and subcarrier k of a slot.
@@ -119,5 +122,5 @@ pub fn backward(g: UplinkGrant, slot: u64, l: u64, k: u64) -> Back
     if no != 0 {
         return sending::refused(no);
     }
-    slots::backward(shape(g), slot, l, k)
+    slots::backward(shape(g, 0, 0), slot, l, k)
 }

@@ -11,6 +11,7 @@ use borrow.Author.Tests.{eq-eqb, ne-eqb, eqb-true, lt-ltb, le-ltb}
 use Rattle.counting.proofs.Facts.{order, both, both-parts}
 use Rattle.walk.specs.declared.WalkPlace.{WalkPlace}
 use Rattle.walk.specs.Step.{refusedStep, finishedStep, Asked, isEnd, onward, unmoved, moved}
+use Rattle.walk.specs.Quick.{stoppedAt}
 use Rattle.walk.proofs.Agreeing.{Agrees}
 
 true-false : true ≡ false → ⊥
@@ -56,7 +57,7 @@ module _ (q : Asked) (a : Agrees q) (p : ℕ) (r : WalkPlace) (e : r ≡ q .at p
 
   -- t is the test for the end
   module _ (t : Bool) (f : t ≡ isEnd q p) where
-    pub finished : t ≡ true → unmoved finishedStep p ≡ moved q p
+    finished : t ≡ true → unmoved finishedStep p ≡ moved q p
     finished y =
         let h = both-parts (eqb (q .no) 0) (eqb p (q .places)) (sym f ∙ y) in
         sym (ends q p (eqb-true (q .no) 0 (h .0)) (eqb-true p (q .places) (h .1)))
@@ -68,13 +69,18 @@ module _ (q : Asked) (a : Agrees q) (p : ℕ) (r : WalkPlace) (e : r ≡ q .at p
         by (inl x) = absurd (true-false (sym (both (eqb (q .no) 0) (eqb p (q .places)) (eq-eqb (q .no) 0 z) (eq-eqb p (q .places) (sym x))) ∙ sym f ∙ y))
         by (inr l) = l
 
-    pub refused : t ≡ false → (r .no ≡ 0 → ⊥) → unmoved r p ≡ moved q p
+    refused : t ≡ false → (r .no ≡ 0 → ⊥) → unmoved (refusedStep (r .no)) p ≡ moved q p
     refused y n = by (ℕ-discrete (q .no) 0) (order p (q .places))
       where
-        stays : (x : WalkPlace) → q .at p ≡ x → moved q p ≡ unmoved x p → unmoved r p ≡ moved q p
-        stays x g m = ap (λ (z : WalkPlace). unmoved z p) (e ∙ g) ∙ sym m
+        stays : (k : ℕ) → q .at p ≡ refusedStep k → moved q p ≡ unmoved (refusedStep k) p → unmoved (refusedStep (r .no)) p ≡ moved q p
+        stays k g m = ap (λ (x : ℕ). unmoved (refusedStep x) p) (number g) ∙ sym m
 
-        by : Dec (q .no ≡ 0) → (p < q .places) ⊎ (q .places ≤ p) → unmoved r p ≡ moved q p
+        by : Dec (q .no ≡ 0) → (p < q .places) ⊎ (q .places ≤ p) → unmoved (refusedStep (r .no)) p ≡ moved q p
         by (yes z) (inl h) = absurd (n (ap (λ (x : WalkPlace). x .no) e ∙ a .inside p z h))
-        by (yes z) (inr h) = stays (refusedStep 14) (a .past p z h) (overruns q p z (past-end y z h))
-        by (no m) o = stays (refusedStep (q .no)) (a .refused p m) (refuses q p m)
+        by (yes z) (inr h) = stays 14 (a .past p z h) (overruns q p z (past-end y z h))
+        by (no m) o = stays (q .no) (a .refused p m) (refuses q p m)
+
+  -- where it refuses, the step stops
+  pub stops : (t : Bool) → t ≡ isEnd q p → (r .no ≡ 0 → ⊥) → unmoved (stoppedAt (r .no) t) p ≡ moved q p
+  stops true f n = finished true f refl
+  stops false f n = refused false f refl n

@@ -3,7 +3,8 @@ ghost use mathlib.Core.Bool.{_&&_};
 ghost use mathlib.Core.Path.{_≡_};
 ghost use lib.Dec.{eqb};
 ghost use Prim.Native.Nat.{_^_, _<_};
-ghost use Rattle.walk.specs.Step.{fromUplink, fromDownlink, finishedStep, askedOf, isEnd, onward, unmoved, movedOf, steppedOf};
+ghost use Rattle.walk.specs.Step.{fromUplink, fromDownlink, refusedStep, finishedStep, askedOf, isEnd, onward, unmoved, movedOf, steppedOf};
+ghost use Rattle.walk.specs.Quick.{stoppedAt};
 use cell::Cell;
 use control::ControlGrant;
 use downlink::DownlinkGrant;
@@ -75,6 +76,20 @@ fn from_downlink(a: DownlinkPlace) -> WalkPlace
     }
 }
 
+fn refused_step(no: u64) -> WalkPlace
+    ensures { λ r. ⌜ r ≡ refusedStep no ⌝ }
+{
+    WalkPlace {
+        no,
+        finished: 0,
+        t: 0,
+        slot: 0,
+        l: 0,
+        k: 0,
+        symbol: 0,
+    }
+}
+
 fn finished_step() -> WalkPlace
     ensures { λ r. ⌜ r ≡ finishedStep ⌝ }
 {
@@ -118,10 +133,21 @@ fn forward(w: Walk, anchor: &[u8], other: &[u8]) -> WalkPlace
     }
 }
 
-fn is_end(no: u64, places: u64, p: u64) -> bool
+// A plan's number and places say that p is the end.
+pub fn is_end(no: u64, places: u64, p: u64) -> bool
     ensures { λ r. ⌜ r ≡ (eqb no 0 && eqb p places) ⌝ }
 {
     (no == 0) & (p == places)
+}
+
+// The step at a position that forward refuses.
+pub fn stopped(no: u64, end: bool) -> WalkPlace
+    ensures { λ r. ⌜ r ≡ stoppedAt no end ⌝ }
+{
+    if end {
+        return finished_step();
+    }
+    refused_step(no)
 }
 
 // The grant is accepted, and p is the number of its places.
@@ -156,10 +182,8 @@ fn advance(w: Walk, anchor: &[u8], other: &[u8]) -> Moved
     if answer.no == 0 {
         return onward(answer, p);
     }
-    if at_end(w, anchor, other) {
-        return unmoved(finished_step(), p);
-    }
-    unmoved(answer, p)
+    let end = at_end(w, anchor, other);
+    unmoved(stopped(answer.no, end), p)
 }
 
 // One step: the answer at p, and p moved on. A refused or finished walk stays as it is.

@@ -1,6 +1,8 @@
 use mathlib.Core.Path.{sym, ap, _∙_}
 use Rattle.slots.specs.declared.Shape.{Shape}
 use Rattle.slots.specs.Answers.{shapeBackward}
+use Rattle.slots.proofs.Sizes.{fits-sized, backward-sized}
+use Rattle.uplink.specs.Shaping.{shapeOf}
 use Rattle.uplink.proofs.Acceptance.{fits}
 use Rattle.uplink.proofs.Answered.{backward-accepted, backward-refused}
 use Rattle.uplink.proofs.backward.Statement.{statement}
@@ -19,9 +21,9 @@ backward-spec =
     (λ c κs. sym (c .before .judge .ensures) ∙ c .if1 .left)
     (λ c κs.
     let j = c .before .before in
-    rw (c .shape .ensures) (fits (j .before .args .g) (sym (j .judge .ensures) ∙ c .before .if1 .left)))
+    rw (c .shape .ensures) (fits-sized _ 0 0 (fits (j .before .args .g) (sym (j .judge .ensures) ∙ c .before .if1 .left))))
     (λ c.
     let j = c .before .before .before in
     let a = j .before .args in
-    c .backward .ensures ∙ ap (λ (s : Shape). shapeBackward s (a .slot) (a .l) (a .k)) (c .before .shape .ensures)
+    c .backward .ensures ∙ ap (λ (s : Shape). shapeBackward s (a .slot) (a .l) (a .k)) (c .before .shape .ensures) ∙ backward-sized (shapeOf (a .g)) 0 0 (a .slot) (a .l) (a .k)
     ∙ backward-accepted (a .g) (sym (j .judge .ensures) ∙ c .before .before .if1 .left) (a .slot) (a .l) (a .k)))

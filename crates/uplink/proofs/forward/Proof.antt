@@ -1,6 +1,8 @@
 use mathlib.Core.Path.{sym, ap, _∙_}
 use Rattle.slots.specs.declared.Shape.{Shape}
 use Rattle.slots.specs.Answers.{shapeForward}
+use Rattle.slots.proofs.Sizes.{fits-sized, forward-sized}
+use Rattle.uplink.specs.Shaping.{shapeOf}
 use Rattle.uplink.proofs.Acceptance.{fits}
 use Rattle.uplink.proofs.Answered.{forward-accepted, forward-refused}
 use Rattle.uplink.proofs.forward.Statement.{statement}
@@ -18,8 +20,9 @@ forward-spec =
     (λ c κs. sym (c .before .judge .ensures) ∙ c .if1 .left)
     (λ c κs.
     let j = c .before .before in
-    rw (c .shape .ensures) (fits (j .before .args .g) (sym (j .judge .ensures) ∙ c .before .if1 .left)))
+    rw (c .shape .ensures) (fits-sized _ 0 0 (fits (j .before .args .g) (sym (j .judge .ensures) ∙ c .before .if1 .left))))
     (λ c.
     let j = c .before .before .before in
-    c .forward .ensures ∙ ap (λ (s : Shape). shapeForward s (j .before .args .p)) (c .before .shape .ensures)
-    ∙ forward-accepted (j .before .args .g) (sym (j .judge .ensures) ∙ c .before .before .if1 .left) (j .before .args .p)))
+    let a = j .before .args in
+    c .forward .ensures ∙ ap (λ (s : Shape). shapeForward s (a .p)) (c .before .shape .ensures) ∙ forward-sized (shapeOf (a .g)) 0 0 (a .p)
+    ∙ forward-accepted (a .g) (sym (j .judge .ensures) ∙ c .before .before .if1 .left) (a .p)))

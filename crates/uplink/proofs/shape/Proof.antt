@@ -19,7 +19,9 @@ shape-spec =
     (λ c κs. tt)
     (λ c κs. tt)
     (λ c κs. tt)
-    (λ c κs. tt)
+    (λ c κs.
+    let a = in-range (c .before .before .before .before .before .before) in
+    (a .spacing, a .tones))
     (λ c κs. omega (arith, in-range (c .before .before .before .before .before .before .before) .units))
     (λ c κs.
     let n = c .before .before .before .before .before .before in
@@ -30,14 +32,9 @@ shape-spec =
     ))
     (λ c κs. tt)
     (λ c κs. tt)
-    (λ c κs.
-    let a = in-range (c .before .before .before .before .before .before .before .before .before .before .before) in
-    (omega (arith, a .mcs), omega (arith, a .units)))
-    (λ c κs. omega (arith, in-range (c .before .before .before .before .before .before .before .before .before .before .before .before) .mcs))
     (λ c.
-    let k = c .before .before .before .before .before .before in
+    let k = c .before .before .before .before in
     let n = k .before .before .before .before .before in
     shape-is (n .before .before .args .g) _ _ _ _ _ _ _ _ _ _ _ _ _ (n .before .tones .ensures) (n .uplink-copies .ensures)
     (k .before .before .before .before .start .ensures) (k .before .before .before .subcarriers .ensures .0) (k .before .before .block .ensures) (k .before .gap .ensures) (k .first-tone .ensures)
-    (c .before .before .before .before .before .codeword .ensures) (c .before .before .before .before .row .ensures) (c .before .before .before .group .ensures) (c .before .before .reference .ensures)
-    (c .before .block-size .ensures) (c .order .ensures)))
+    (c .before .before .before .codeword .ensures) (c .before .before .row .ensures) (c .before .group .ensures) (c .reference .ensures)))

@@ -2,7 +2,7 @@ use mathlib.Core.Path.{ap, _∙_}
 use Rattle.walk.specs.declared.WalkPlace.{WalkPlace}
 use Rattle.walk.specs.Step.{unmoved}
 use Rattle.walk.proofs.Agreeing.{agrees}
-use Rattle.walk.proofs.Moving.{has-next, answered, finished, refused}
+use Rattle.walk.proofs.Moving.{has-next, answered, stops}
 use Rattle.walk.proofs.advance.Statement.{statement}
 use Rattle.walk.proofs.advance.Tie as tie
 
@@ -21,23 +21,14 @@ returns c =
 
 returns-2 : tie.Need-returns-2
 returns-2 c =
-    let t = c .before .before .before in
-    let f = t .before .before .before in
-    let a = f .before .before .before .args in
-    c .unmoved .ensures ∙ ap (λ (x : WalkPlace). unmoved x (a .w .p)) (c .before .finished-step .ensures)
-    ∙ finished _ (agrees (a .w .cell) (a .anchor .now) (a .other .now) (a .w .grant)) (a .w .p) (f .forward .result) (f .forward .ensures)
-    (t .at-end .result) (t .at-end .ensures) (c .before .before .if2 .taken)
-
-returns-3 : tie.Need-returns-3
-returns-3 c =
     let t = c .before .before in
     let f = t .before .before .before in
     let a = f .before .before .before .args in
-    c .unmoved2 .ensures
-    ∙ refused _ (agrees (a .w .cell) (a .anchor .now) (a .other .now) (a .w .grant)) (a .w .p) (f .forward .result) (f .forward .ensures)
-    (t .at-end .result) (t .at-end .ensures) (c .before .if2 .left) (t .before .if1 .left)
+    c .unmoved .ensures ∙ ap (λ (x : WalkPlace). unmoved x (a .w .p)) (c .before .stopped .ensures)
+    ∙ stops _ (agrees (a .w .cell) (a .anchor .now) (a .other .now) (a .w .grant)) (a .w .p) (f .forward .result) (f .forward .ensures)
+    (t .at-end .result) (t .at-end .ensures) (t .before .if1 .left)
 
 pub advance-spec : {M : Type 1} → statement M
 advance-spec =
     tie.close
-    (tie.spec (λ c κs. tt) onward-requires returns (λ c κs. tt) (λ c κs. tt) (λ c κs. tt) returns-2 (λ c κs. tt) returns-3)
+    (tie.spec (λ c κs. tt) onward-requires returns (λ c κs. tt) (λ c κs. tt) (λ c κs. tt) returns-2)

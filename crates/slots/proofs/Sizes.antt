@@ -1,0 +1,41 @@
+-- The size and the order of a shape only stand in its plan.
+use mathlib.Core.Path.{_≡_, refl}
+use Prim.Native.Nat.{ℕ}
+use Rattle.slots.specs.declared.Shape.{Shape}
+use Rattle.slots.specs.Fits.{Fits}
+use Rattle.slots.specs.Timing.{active, slotAt, isSent, indexOf}
+use Rattle.slots.specs.Elements.{carriesData, carriesReference, slotData, elementAt, numberOf}
+use Rattle.slots.specs.Answers.{shapeForward, shapeBackward}
+use Rattle.slots.specs.Quick.{sized}
+
+module _ (s : Shape) (size order : ℕ) where
+  pub forward-sized : (p : ℕ) → shapeForward (sized s size order) p ≡ shapeForward s p
+  unfolding shapeForward active slotAt carriesData slotData elementAt
+  forward-sized p = refl
+
+  pub backward-sized : (slot l k : ℕ) → shapeBackward (sized s size order) slot l k ≡ shapeBackward s slot l k
+  unfolding shapeBackward active isSent indexOf carriesData carriesReference slotData numberOf
+  backward-sized slot l k = refl
+
+  pub fits-sized : Fits s → Fits (sized s size order)
+  fits-sized f = record {
+    block = f .block;
+    tones = f .tones;
+    codeword = f .codeword;
+    copies = f .copies;
+    row = f .row;
+    group = f .group;
+    references = f .references;
+    withinSymbols = f .withinSymbols;
+    withinTones = f .withinTones;
+    passes = f .passes;
+    groups = f .groups;
+    firstSmall = f .firstSmall;
+    blockSmall = f .blockSmall;
+    gapSmall = f .gapSmall;
+    subcarriersSmall = f .subcarriersSmall;
+    codewordSmall = f .codewordSmall;
+    copiesSmall = f .copiesSmall;
+    rowSmall = f .rowSmall;
+    groupSmall = f .groupSmall;
+  }

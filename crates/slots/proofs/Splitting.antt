@@ -1,0 +1,145 @@
+-- A position taken apart line by line, and a slot found by whole rounds: what the quick code works out is what the definitions say.
+use mathlib.Core.Bool.{Bool, true, false, _&&_}
+use mathlib.Core.Path.{_≡_, refl, sym, ap, ap₂, _∙_}
+use mathlib.Core.Logic.{⊎-elim}
+use Prim.Native.Nat.{ℕ, _+_, _-_, _*_, _/_, _%_, _≤_, _<_}
+use native.Mathlib.Nat.{mul-comm, mod-lt, div-mul-le-self, div-div-eq-div-mul, mod-eq-sub-div-mul}
+use native.Mathlib.Omega.{arith}
+use lib.Arith.{digits-div, digits-mod, mod-mul}
+use lib.Dec.{ltb}
+use mir.Val.{boolByte}
+use borrow.Author.Tests.{lt-ltb, le-ltb, ltb-true}
+use Rattle.counting.specs.Counting.{rank}
+use Rattle.counting.proofs.Facts.{order}
+use Rattle.grid.specs.Grid.{symbols, uplinkSymbolOf, uplinkSubcarrierOf}
+use Rattle.slots.specs.declared.Shape.{Shape}
+use Rattle.slots.specs.declared.Split.{Split}
+use Rattle.slots.specs.Fits.{Fits}
+use Rattle.slots.specs.Timing.{round, active, sentSlots, isSent, indexOf}
+use Rattle.slots.specs.Elements.{slotData, elementAt}
+use Rattle.slots.specs.Quick.{symbolOfLine, splitOf, Located}
+use Rattle.slots.proofs.Lines.{slot-data, some-data, symbol-first, symbol-second, subcarrier-is}
+use Rattle.slots.proofs.Rounds.{before-in-block, blocks-below}
+use Rattle.slots.proofs.Joined.{unsent-before, sent-is, sent-active}
+
+module _ (s : Shape) (f : Fits s) (p : ℕ) where
+  -- lines of a slot
+  abbrev lines : ℕ
+  lines = symbols - s .references
+
+  some-lines : 0 < lines
+  some-lines = omega (arith, f .references)
+
+  pub slot-of : p / s .tones / lines ≡ p / slotData s
+  slot-of =
+      div-div-eq-div-mul p (s .tones) lines
+      ∙ ap (λ (w : ℕ). p / w) (mul-comm (s .tones) lines ∙ slot-data s f)
+
+  rest-of : p % slotData s ≡ p / s .tones % lines * s .tones + p % s .tones
+  rest-of = ap (λ (w : ℕ). p % w) (sym (slot-data s f)) ∙ mod-mul p some-lines (f .tones)
+
+  line-of : p % slotData s / s .tones ≡ p / s .tones % lines
+  line-of = ap (λ (x : ℕ). x / s .tones) rest-of ∙ digits-div (p / s .tones % lines) (mod-lt p (f .tones))
+
+  tone-of : p % slotData s % s .tones ≡ p % s .tones
+  tone-of = ap (λ (x : ℕ). x % s .tones) rest-of ∙ digits-mod (p / s .tones % lines) (mod-lt p (f .tones))
+
+  below : p % slotData s < slotData s
+  below = mod-lt p (some-data s f)
+
+  symbol-of : symbolOfLine s (p / s .tones % lines) ≡ uplinkSymbolOf (s .subcarriers) (elementAt s (p % slotData s))
+  symbol-of =
+      ap (symbolOfLine s) (sym line-of)
+      ∙ ⊎-elim
+      (λ h. rw (lt-ltb (p % slotData s / s .tones) (s .reference) h) (symbol-first s f (p % slotData s) below h))
+      (λ h. rw (le-ltb (p % slotData s / s .tones) (s .reference) h) (symbol-second s f (p % slotData s) below h))
+      (order (p % slotData s / s .tones) (s .reference))
+
+  subcarrier-of : s .tone + p % s .tones ≡ uplinkSubcarrierOf (s .subcarriers) (elementAt s (p % slotData s))
+  subcarrier-of = ap (λ (x : ℕ). s .tone + x) (sym tone-of) ∙ subcarrier-is s f (p % slotData s) below
+
+  -- of the line that the position is on
+  module _ (line : ℕ) (on : line ≡ p / s .tones) where
+    pub line-rest : line - line / lines * lines ≡ p / s .tones % lines
+    line-rest = sym (mod-eq-sub-div-mul line lines) ∙ ap (λ (x : ℕ). x % lines) on
+
+    pub line-fits : line - line / lines * lines + s .references < symbols
+    line-fits = omega (arith, line-rest, mod-lt (p / s .tones) some-lines, f .references)
+
+    pub slots-fit : line / lines * (lines * s .tones) ≤ p
+    slots-fit = omega (arith, ap (λ (x : ℕ). x / lines * (lines * s .tones)) on, ap (λ (x : ℕ). x * (lines * s .tones)) slot-of, ap (λ (x : ℕ). p / slotData s * x) (slot-data s f), div-mul-le-self p (slotData s))
+
+    pub lines-fit : line * s .tones ≤ p
+    lines-fit = omega (arith, ap (λ (x : ℕ). x * s .tones) on, div-mul-le-self p (s .tones))
+
+    element-of : p - line / lines * (lines * s .tones) ≡ p % slotData s
+    element-of =
+        ap (λ (x : ℕ). p - x / lines * (lines * s .tones)) on
+        ∙ ap (λ (x : ℕ). p - x * (lines * s .tones)) slot-of
+        ∙ ap (λ (x : ℕ). p - p / slotData s * x) (slot-data s f)
+        ∙ sym (mod-eq-sub-div-mul p (slotData s))
+
+    pub tone-rest : p - line * s .tones ≡ p % s .tones
+    tone-rest = ap (λ (x : ℕ). p - x * s .tones) on ∙ sym (mod-eq-sub-div-mul p (s .tones))
+
+    pub split-is : (l : ℕ) → l ≡ symbolOfLine s (line - line / lines * lines)
+        → _≡_ {A = Split}
+        (record { i = line / lines; e = p - line / lines * (lines * s .tones); l = l; k = s .tone + (p - line * s .tones) })
+        (splitOf s p)
+    split-is l at =
+        λ j. record {
+          i = (ap (λ (x : ℕ). x / lines) on ∙ slot-of) j;
+          e = element-of j;
+          l = (at ∙ ap (symbolOfLine s) line-rest ∙ symbol-of) j;
+          k = (ap (λ (x : ℕ). s .tone + x) tone-rest ∙ subcarrier-of) j;
+        }
+
+-- ---- a slot found
+
+module _ (s : Shape) (f : Fits s) (x whole : ℕ) (by : whole ≡ x / round s) where
+  pub rounds-fit : whole * round s ≤ x
+  rounds-fit = omega (arith, ap (λ (y : ℕ). y * round s) by, div-mul-le-self x (round s))
+
+  round-rest : x - whole * round s ≡ x % round s
+  round-rest = ap (λ (y : ℕ). x - y * round s) by ∙ sym (mod-eq-sub-div-mul x (round s))
+
+  by-whole : whole * s .block + (x - whole * round s) ≡ x / round s * s .block + x % round s
+  by-whole = ap₂ (λ (a b : ℕ). a * s .block + b) by round-rest
+
+  pub index-fits : whole * s .block + (x - whole * round s) ≤ x
+  index-fits = omega (arith, by-whole, blocks-below s (f .block) x)
+
+  active-is : ltb (x - whole * round s) (s .block) ≡ active s x
+  unfolding active
+  active-is = ap (λ (y : ℕ). ltb y (s .block)) round-rest
+
+  index-is : active s x ≡ true → whole * s .block + (x - whole * round s) ≡ rank (active s) x
+  unfolding active
+  index-is h = by-whole ∙ before-in-block s (f .block) x (ltb-true (x % round s) (s .block) h)
+
+pub unlocated : (s : Shape) (slot : ℕ) → slot < s .first → Located s slot (record { sent = false; i = 0 })
+unlocated s slot h = record {
+  says = unsent-before s slot h;
+  index = λ e. absurd (omega (arith, ap boolByte (unsent-before s slot h ∙ e)));
+}
+
+module _ (s : Shape) (f : Fits s) (slot whole many : ℕ) (h : s .first ≤ slot) (by : whole ≡ (slot - s .first) / round s) (hm : many ≡ sentSlots s) where
+  abbrev x : ℕ
+  x = slot - s .first
+
+  abbrev i : ℕ
+  i = whole * s .block + (x - whole * round s)
+
+  sent-says : (b : Bool) → active s x ≡ b → (ltb (x - whole * round s) (s .block) && ltb i many) ≡ isSent s slot
+  sent-says true e = sent-is s slot _ i many h (active-is s f x whole by) (index-is s f x whole by e) hm
+  sent-says false e =
+      ap (λ (b : Bool). b && ltb i many) (active-is s f x whole by ∙ e)
+      ∙ ap (λ (b : Bool). b && ltb (rank (active s) x) many) (sym e)
+      ∙ sent-is s slot (active s x) (rank (active s) x) many h refl refl hm
+
+  pub locates : Located s slot (record { sent = ltb (x - whole * round s) (s .block) && ltb i many; i = i })
+  unfolding indexOf
+  locates = record {
+    says = sent-says (active s x) refl;
+    index = λ e. index-is s f x whole by (sent-active s slot h e);
+  }

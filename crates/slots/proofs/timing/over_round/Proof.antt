@@ -1,0 +1,28 @@
+use mathlib.Core.Path.{_≡_, sym, ap, _∙_}
+use Prim.Native.Nat.{ℕ, _*_, _/_, _%_, _^_, _<_}
+use native.Mathlib.Nat.{div-div-eq-div-mul}
+use native.Mathlib.Omega.{arith}
+use lib.Count.{trailingZeros, trailing-le}
+use lib.Dec.{lit<}
+use lib.Pow.{shl-exact}
+use borrow.Author.Needs.{needs}
+use Rattle.slots.proofs.timing.over_round.Statement.{statement}
+use Rattle.slots.proofs.timing.over_round.Tie as tie
+
+-- 37 << z is the product
+shifted : (z : ℕ) → z < 8 → 37 * 2 ^ z % 2 ^ 64 ≡ 37 * 2 ^ z
+shifted z h = shl-exact {a = 37} 6 z 64 (lit< tt) (omega arith)
+
+pub over-round-spec : {M : Type 1} → statement M
+over-round-spec =
+    tie.close
+    (tie.spec
+    (λ c. omega (arith, trailing-le 64 (c .args .round)))
+    (λ c. omega arith)
+    (λ c. omega arith)
+    (λ c.
+    let a = c .before .args in
+    let z : ℕ = trailingZeros 64 (a .round) % 8 in
+    div-div-eq-div-mul (a .n) 37 (2 ^ z) ∙ ap (λ (x : ℕ). a .n / x) (sym (shifted z (omega arith)) ∙ c .if1 .taken))
+    (λ c. search needs)
+    (λ c. search needs))
