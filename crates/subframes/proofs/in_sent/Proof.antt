@@ -1,49 +1,73 @@
+use mathlib.Core.Bool.{true}
 use mathlib.Core.Path.{_≡_, sym, ap, _∙_}
+use Prim.Native.Nat.{ℕ, _<_}
 use native.Mathlib.Omega.{arith}
 use borrow.Author.Needs.{needs}
+use Rattle.grid.specs.Grid.{elementOf}
 use Rattle.sending.specs.Answer.{backOf}
-use Rattle.elements.specs.Elements.{numberOf, countOf}
-use Rattle.elements.proofs.Laws.{used-listed}
+use Rattle.elements.specs.declared.Standing.the-variants.{Used, Other}
+use Rattle.elements.specs.Elements.{used, kindOf, numberOf, standingOf}
+use Rattle.elements.proofs.Laws.{used-listed, standing-used, standing-other}
 use Rattle.subframes.proofs.Joined.{stands-ours, stands-other}
-use Prim.Native.Nat.{_<_}
 use Rattle.subframes.proofs.in_sent.Statement.{statement}
 use Rattle.subframes.proofs.in_sent.Tie as tie
 
--- the element's number is below the used elements
-below : (c : tie.After-number) → c .number .result < c .before .used-elements .result
+abbrev start : tie.After-stands-at → tie.Start
+start c = c .before
+
+abbrev x : tie.Start → ℕ
+x s = elementOf (s .args .slot) (s .args .l) (s .args .k)
+
+-- the element is used, and what its number is
+ours : (c : tie.After-known-told) →
+    let s = start (c .before .before .before) in
+    (used (s .args .b .layout) (s .args .b .low) (s .args .b .width) (x s) ≡ true) × (numberOf (s .args .b .layout) (s .args .b .low) (s .args .b .width) (x s) ≡ c .before .at .given .0 .0)
+ours c =
+    let a = c .before in
+    let t = a .before .before in
+    let s = start t in
+    standing-used (s .args .b .layout) (s .args .b .low) (s .args .b .width) (x s) (a .at .given .0 .0) (sym (t .stands-at .ensures) ∙ a .at .given .1)
+
+-- it is below the used elements
+below : (c : tie.After-used-elements) → c .before .before .at .given .0 .0 < c .used-elements .result
 below c =
-    let t = c .before .before in
-    let a = t .before .before in
-    let b = a .args .b in
-    omega (
-      arith,
-      c .number .ensures,
-      c .before .used-elements .ensures .0,
-      used-listed (b .layout) (b .low) (b .width) .below (a .args .x) (sym (t .before .is-used .ensures) ∙ t .if1 .taken),
-    )
+    let k = c .before in
+    let s = start (k .before .before .before) in
+    let b = s .args .b in
+    omega (arith, ours k .1, c .used-elements .ensures .0, used-listed (b .layout) (b .low) (b .width) .below (x s) (ours k .0))
+
+returns : tie.Need-returns
+returns c =
+    let u = c .before .before .before in
+    let w = u .before in
+    let k = w .before in
+    let s = start (k .before .before .before) in
+    c .ours .ensures
+    ∙ ap backOf (stands-ours (s .args .b) (s .args .i) (x s) _ _ _ _ _ (ours k .0) (w .used-elements .ensures .0) (sym (ours k .1)) (u .carried-by .ensures .0)
+    (c .before .before .item .ensures) (c .before .item2 .ensures))
+
+returns-2 : tie.Need-returns-2
+returns-2 c =
+    let a = c .before .before in
+    let t = a .before .before in
+    let s = start t in
+    let o = standing-other (s .args .b .layout) (s .args .b .low) (s .args .b .width) (x s) (a .at2 .given .0 .0) (sym (t .stands-at .ensures) ∙ a .at2 .given .1) in
+    c .other .ensures ∙ ap backOf (stands-other (s .args .b) (s .args .i) (x s) _ (o .0) (sym (o .1)))
 
 pub in-sent-spec : {M : Type 1} → statement M
 in-sent-spec =
     tie.close
     (tie.spec
-    (λ c κs. search needs)
-    (λ c κs. search needs)
-    (λ c κs. search needs)
-    (λ c κs. search needs)
-    (λ c κs. let n = c .before in (omega (arith, c .carried-by .ensures .1), n .before .used-elements .ensures .2, below n))
-    (λ c κs. let n = c .before .before in (omega (arith, c .before .carried-by .ensures .1, n .before .before .before .before .pre .1), n .before .used-elements .ensures .2, below n))
+    (λ c κs. (c .pre .0 .layout, c .pre .0 .part, c .pre .2, c .pre .3, c .pre .4))
+    (λ c. search needs)
+    (λ c κs. start (c .before .before .before) .pre .0)
+    (λ c κs. start (c .before .before .before .before) .pre .0)
+    (λ c κs. let w = c .before in (omega (arith, c .carried-by .ensures .1), w .used-elements .ensures .2, below w))
+    (λ c κs.
+    let w = c .before .before in
+    (omega (arith, start (w .before .before .before .before) .pre .1), w .used-elements .ensures .2, below w))
     (λ c κs. tt)
-    (λ c.
-    let u = c .before .before .before in
-    let n = u .before in
-    let t = n .before .before in
-    let a = t .before .before in
-    c .ours .ensures
-    ∙ ap backOf (stands-ours (a .args .b) (a .args .i) (a .args .x) _ _ _ _ _ (sym (t .before .is-used .ensures) ∙ t .if1 .taken) (n .before .used-elements .ensures .0)
-    (n .number .ensures) (u .carried-by .ensures .0) (c .before .before .item .ensures) (c .before .item2 .ensures)))
-    (λ c κs. search needs)
+    (λ c. search needs)
     (λ c κs. tt)
-    (λ c.
-    let e = c .before .before in
-    let a = e .before .before in
-    c .other .ensures ∙ ap backOf (stands-other (a .args .b) (a .args .i) (a .args .x) _ (sym (e .before .is-used .ensures) ∙ e .if1 .left) (c .before .kind .ensures))))
+    returns
+    returns-2)
