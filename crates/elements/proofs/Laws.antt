@@ -9,7 +9,7 @@ use Rattle.counting.specs.Counting.{Lists, inRange}
 use Rattle.counting.proofs.Facts.{both-parts, either-parts, not-true-is}
 use Rattle.counting.proofs.Rank.{rank-le, rank-strict}
 use Rattle.counting.proofs.Select.{lists-below}
-use Rattle.grid.specs.Grid.{subcarriers, symbols, elements, elementOf, slotOf, symbolOf, subcarrierOf}
+use Rattle.grid.specs.Grid.{subcarriers, elements, elementOf, slotOf, symbolOf, subcarrierOf}
 use Rattle.elements.specs.declared.Layout.{Layout}
 use Rattle.elements.specs.declared.Standing.{Standing}
 use Rattle.elements.specs.declared.Standing.the-variants.{Used, Other}

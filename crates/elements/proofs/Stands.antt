@@ -1,5 +1,5 @@
 -- An element of the grid by its row's marks.
-use mathlib.Core.Bool.{Bool, true, false, not, cond, _&&_, _||_}
+use mathlib.Core.Bool.{Bool, true, false, not, _&&_, _||_}
 use mathlib.Core.Path.{_≡_, refl, sym, ap, _∙_}
 use Prim.Native.Nat.{ℕ, _+_, _%_, _<_}
 use native.Mathlib.Omega.{arith}
@@ -7,8 +7,6 @@ use borrow.Author.Tests.{le-leb, lt-ltb}
 use Rattle.counting.specs.Counting.{inRange}
 use Rattle.grid.specs.Grid.{subcarriers, symbols, slots, elementOf}
 use Rattle.elements.specs.declared.Layout.{Layout}
-use Rattle.elements.specs.declared.Row.{Row}
-use Rattle.elements.specs.declared.Standing.{Standing}
 use Rattle.elements.specs.declared.Standing.the-variants.{Used, Other}
 use Rattle.elements.specs.Elements.{reference, controlRegion, used, kindOf, numberOf, standingOf, Valid, Part}
 use Rattle.elements.specs.Quick.{freeOf, isFree, placeIn, referenceKind, RowOf}

@@ -1,13 +1,12 @@
-use mathlib.Core.Path.{_≡_, refl, sym, ap, _∙_}
-use Prim.Native.Nat.{ℕ, _+_, _-_, _*_, _≤_}
-use native.Mathlib.Nat.{mul-le-mul}
+use mathlib.Core.Path.{_≡_, sym, _∙_}
+use Prim.Native.Nat.{_-_, _*_, _≤_}
 use native.Mathlib.Omega.{arith}
 use borrow.Author.Needs.{needs}
 use Rattle.counting.proofs.Rank.{rank-le}
 use Rattle.grid.specs.Grid.{symbols, elements}
 use Rattle.elements.specs.Elements.{used}
 use Rattle.elements.specs.Quick.{rows, sixInRows}
-use Rattle.elements.proofs.Closed.{six, six-at, six-few, six-mono, rows-second, rows-counted}
+use Rattle.elements.proofs.Closed.{six, six-at, six-mono, rows-second, rows-counted}
 use Rattle.elements.proofs.count.Statement.{statement}
 use Rattle.elements.proofs.count.Tie as tie
 

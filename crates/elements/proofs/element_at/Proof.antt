@@ -3,7 +3,6 @@ use mathlib.Core.Path.{_≡_, refl, sym, ap, subst, _∙_}
 use Prim.Native.Nat.{ℕ, _+_, _-_, _*_, _/_, _≤_, _<_}
 use native.Mathlib.Nat.{mul-le-mul}
 use native.Mathlib.Omega.{arith}
-use borrow.Author.Needs.{needs}
 use Rattle.grid.specs.Grid.{subcarriers, symbols, elementOf}
 use Rattle.elements.specs.declared.Marks.{Marks}
 use Rattle.elements.specs.Elements.{numberOf, ncceWidth}

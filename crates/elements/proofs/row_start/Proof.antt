@@ -1,10 +1,9 @@
 use mathlib.Core.Path.{_≡_, refl, sym, ap, _∙_}
-use Prim.Native.Nat.{ℕ, _+_, _-_, _*_, _≤_}
+use Prim.Native.Nat.{_+_, _-_, _*_, _≤_}
 use native.Mathlib.Nat.{mul-le-mul}
 use native.Mathlib.Omega.{arith}
-use borrow.Author.Needs.{needs}
 use Rattle.counting.proofs.Rank.{rank-le}
-use Rattle.grid.specs.Grid.{subcarriers, symbols, elements, elementOf}
+use Rattle.grid.specs.Grid.{subcarriers, symbols, elementOf}
 use Rattle.elements.specs.Elements.{used, numberOf}
 use Rattle.elements.proofs.Closed.{six, six-at, row-six, rows-counted}
 use Rattle.elements.proofs.row_start.Statement.{statement}

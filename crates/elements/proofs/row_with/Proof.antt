@@ -1,7 +1,6 @@
 use mathlib.Core.Path.{_≡_, refl, ap, _∙_}
 use Prim.Native.Nat.{ℕ, _+_, _-_, _*_, _≤_, _<_}
 use native.Mathlib.Omega.{arith}
-use borrow.Author.Needs.{needs}
 use Rattle.grid.specs.Grid.{symbols}
 use Rattle.elements.specs.Quick.{rows}
 use Rattle.elements.proofs.Marked.{held}

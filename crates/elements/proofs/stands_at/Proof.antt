@@ -1,16 +1,13 @@
-use mathlib.Core.Bool.{Bool, true, false, not, _&&_, _||_}
-use mathlib.Core.Path.{_≡_, refl, sym, ap, ap₂, subst, _∙_}
-use Prim.Native.Nat.{ℕ, _+_, _-_, _*_, _%_, _≤_}
+use mathlib.Core.Bool.{Bool, true, false, not, _||_}
+use mathlib.Core.Path.{_≡_, sym, ap, ap₂, _∙_}
+use Prim.Native.Nat.{ℕ, _-_, _*_, _%_}
 use native.Mathlib.Omega.{arith}
 use lib.Dec.{eqb}
-use borrow.Author.Needs.{needs}
-use Rattle.counting.specs.Counting.{inRange}
 use Rattle.counting.proofs.Facts.{either-parts}
 use borrow.Author.Tests.{not-false}
 use Rattle.elements.specs.declared.Marks.{Marks}
 use Rattle.elements.specs.declared.Standing.the-variants.{Other}
-use Rattle.elements.specs.Elements.{controlRegion}
-use Rattle.elements.specs.Quick.{freeOf, marksOf, isFree, placeIn}
+use Rattle.elements.specs.Quick.{marksOf, isFree, placeIn}
 use Rattle.elements.proofs.Marked.{held, six-of, marksIn}
 use Rattle.elements.proofs.Stands.{marked-or, stands-reference, stands-plain, stands-used}
 use Rattle.elements.proofs.stands_at.Statement.{statement}

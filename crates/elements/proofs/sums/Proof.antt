@@ -1,5 +1,4 @@
 use mathlib.Core.Path.{refl}
-use native.Mathlib.Omega.{arith}
 use borrow.Author.Needs.{needs}
 use Rattle.elements.specs.Quick.{sumsOf}
 use Rattle.elements.proofs.sums.Statement.{statement}

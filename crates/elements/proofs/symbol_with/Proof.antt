@@ -1,7 +1,7 @@
-use mathlib.Core.Path.{_≡_, sym, ap, subst}
-use Prim.Native.Nat.{ℕ, _+_, _-_, _*_, _/_, _%_, _^_, _≤_, _<_}
+use mathlib.Core.Path.{sym, subst}
+use Prim.Native.Nat.{ℕ, _+_, _-_, _*_, _%_, _^_, _≤_, _<_}
 use native.Mathlib.Omega.{arith}
-use lib.Bits.{bitAnd, and-le-l}
+use lib.Bits.{and-le-l}
 use borrow.Author.Needs.{needs}
 use Rattle.grid.specs.Grid.{symbols}
 use Rattle.elements.proofs.Closed.{once, highest, passedOf, symbolWith, Lies, symbol-found, bytes-low, six-few}

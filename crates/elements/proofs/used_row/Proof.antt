@@ -1,8 +1,6 @@
 use mathlib.Core.Path.{_≡_, sym, ap, subst, _∙_}
 use Prim.Native.Nat.{ℕ, _-_}
 use native.Mathlib.Omega.{arith}
-use borrow.Author.Needs.{needs}
-use Rattle.elements.specs.declared.Marks.{Marks}
 use Rattle.elements.specs.Quick.{marksOf, RowOf}
 use Rattle.elements.proofs.Marked.{marksIn}
 use Rattle.elements.proofs.Stands.{row-is}
