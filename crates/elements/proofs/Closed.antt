@@ -1,89 +1,60 @@
 -- How many subcarriers of the first rows are used, in closed form: by tests computed at the listed ports.
 use mathlib.Core.Bool.{Bool, true, false, cond, _&&_}
 use mathlib.Core.Path.{_≡_, refl, sym, ap, subst, _∙_}
-use mathlib.Core.Logic.{⊎-elim}
-use Prim.Native.Nat.{ℕ, zero, suc, _+_, _-_, _*_, _/_, _%_, _≤_, _<_}
-use native.Mathlib.Nat.{mul-add, mul-comm, le-div-iff-mul-le, div-lt-iff-lt-mul}
+use mathlib.Core.Logic.{_⊎_, inl, inr, ⊎-elim}
+use Prim.Native.Nat.{ℕ, zero, suc, _+_, _-_, _*_, _/_, _%_, _^_, _≤_, _<_}
+use native.Mathlib.Nat.{mul-add, mul-comm, div-lt-iff-lt-mul}
 use native.Mathlib.Numerals.{add-one}
 use native.Mathlib.Omega.{arith}
-use lib.Count.{ones}
+use lib.Bits.{bitAnd}
 use lib.Dec.{T, eqb, ltb, leb, eqb→eq, leb→le, ltb→lt}
 use mir.Val.{boolByte}
-use borrow.Author.Tests.{lt-ltb, le-ltb}
-use Rattle.counting.specs.Counting.{inRange}
-use Rattle.counting.proofs.Facts.{order, each, each-at}
+use borrow.Author.Tests.{lt-ltb, le-ltb, ltb-false, lt-leb, le-leb}
+use Rattle.counting.proofs.Facts.{order}
 use Rattle.counting.proofs.Rank.{rank-zero}
-use Rattle.grid.specs.Grid.{subcarriers, symbols}
+use Rattle.grid.specs.Grid.{subcarriers, symbols, slots, elementOf}
 use Rattle.elements.specs.declared.Layout.{Layout}
+use Rattle.elements.specs.declared.Spot.{Spot}
 use Rattle.elements.specs.Elements.{controlRegion, used, numberOf, ncceWidth, Valid, Part}
-use Rattle.elements.specs.Quick.{rows, referenceOn, RowMask, takenAt0, takenAt1, sixBefore, sixInRows}
-use Rattle.elements.proofs.Masks.{every4, every4-at, parts, maskOf}
-use Rattle.elements.proofs.Rows.{row-closed, open-mask, row-whole}
+use Rattle.elements.specs.Quick.{rows, sumsOf, byteOf, sixBefore, freeOf, sixInRows, SpotOf}
+use Rattle.elements.proofs.Marked.{listed, listed-at, free-some, row-all}
+use Rattle.elements.proofs.Rows.{shut-whole, open-part}
 
 -- ---- one symbol
-
-abbrev bare : ℕ → ℕ → Layout
-bare nports cports = record { v = 0; nports = nports; cports = cports; control = 0 }
-
--- how many of six subcarriers carry no reference in symbol l
-abbrev freeIn : Layout → ℕ → ℕ
-freeIn g l = 6 - boolByte (referenceOn g l true false) - boolByte (referenceOn g l false true)
-
--- a test of ports and a number below n, at all listed ports
-abbrev listed : ℕ → (ℕ → ℕ → ℕ → Bool) → Bool
-listed n f = each 2 (λ a. each 5 (λ b. each n (f (a + 1) b)))
-
-listed-at : (n : ℕ) (f : ℕ → ℕ → ℕ → Bool) → T (listed n f) → (g : Layout) → Valid g → (i : ℕ) → i < n → T (f (g .nports) (g .cports) i)
-listed-at n f t g v i h =
-    let e : g .nports - 1 + 1 ≡ g .nports = omega (arith, v .narrowband) in
-    subst (λ (p : ℕ). T (f p (g .cports) i)) e
-    (each-at n (f (g .nports - 1 + 1) (g .cports))
-    (each-at 5 (λ b. each n (f (g .nports - 1 + 1) b)) (each-at 2 (λ a. each 5 (λ b. each n (f (a + 1) b))) t (g .nports - 1) (omega (arith, v .narrowband))) (g .cports) (omega (arith, v .cell)))
-    i h)
-
-abbrev grows : ℕ → ℕ → ℕ → Bool
-grows a b l = eqb (sixBefore a b (l + 1)) (sixBefore a b l + freeIn (bare a b) l)
 
 abbrev few : ℕ → ℕ → ℕ → Bool
 few a b l = leb (sixBefore a b l) 42
 
--- the closed form takes no more than there is
-abbrev pub cellTaken : ℕ → ℕ → ℕ
-cellTaken b l = takenAt0 b * (boolByte (ltb 0 l) + boolByte (ltb 4 l)) + takenAt1 b * boolByte (ltb 1 l)
-
-abbrev pub narrowTaken : ℕ → ℕ → ℕ
-narrowTaken a l = a * (boolByte (ltb 5 l) + boolByte (ltb 6 l))
-
-abbrev fits : ℕ → ℕ → ℕ → Bool
-fits a b l = leb (cellTaken b l + narrowTaken a l) (6 * l)
-
-grows-table : T (listed symbols grows)
-unfolding sixBefore
-grows-table = tt
-
 few-table : T (listed 8 few)
-unfolding sixBefore
+unfolding sixBefore sumsOf
 few-table = tt
 
-fits-table : T (listed 8 fits)
-fits-table = tt
+abbrev starts : ℕ → ℕ → ℕ → Bool
+starts a b l = eqb (sixBefore a b 0) 0
+
+starts-table : T (listed 1 starts)
+unfolding sixBefore sumsOf
+starts-table = tt
+
+pub six-at : (a b s l : ℕ) → s ≡ sumsOf a b → byteOf s l ≡ sixBefore a b l
+unfolding sixBefore
+six-at a b s l e = ap (λ (x : ℕ). byteOf x l) e
 
 module _ (g : Layout) (v : Valid g) where
   abbrev pub six : ℕ → ℕ
   six l = sixBefore (g .nports) (g .cports) l
 
-  pub six-grows : (l : ℕ) → l < symbols → six (l + 1) ≡ six l + freeIn g l
-  six-grows l h = eqb→eq (six (l + 1)) (six l + freeIn g l) (listed-at symbols grows grows-table g v l h)
+  abbrev pub freeIn : ℕ → ℕ
+  freeIn l = freeOf (g .nports) (g .cports) l
+
+  pub six-grows : (l : ℕ) → l < symbols → six (l + 1) ≡ six l + freeIn l
+  six-grows l h = omega (arith, free-some g v l h .0)
 
   pub six-few : (l : ℕ) → l ≤ symbols → six l ≤ 42
   six-few l h = leb→le (six l) 42 (listed-at 8 few few-table g v l (omega arith))
 
-  pub six-fits : (l : ℕ) → l ≤ symbols → cellTaken (g .cports) l + narrowTaken (g .nports) l ≤ 6 * l
-  six-fits l h = leb→le (cellTaken (g .cports) l + narrowTaken (g .nports) l) (6 * l) (listed-at 8 fits fits-table g v l (omega arith))
-
   pub six-none : six 0 ≡ 0
-  unfolding sixBefore
-  six-none = omega arith
+  six-none = eqb→eq (six 0) 0 (listed-at 1 starts starts-table g v 0 (omega arith))
 
   pub six-mono : (l m : ℕ) → l ≤ m → m ≤ symbols → six l ≤ six m
   six-mono l zero h k = let e : l ≡ 0 = omega arith in omega (arith, ap six e)
@@ -117,8 +88,22 @@ module _ (g : Layout) (v : Valid g) where
   pub rows-zero : sixInRows g 0 ≡ 0
   rows-zero = ⊎-elim (λ a. rows-none 0 a) (λ a. omega (arith, rows-first 0 a (omega arith), six-none)) (order 0 (g .control))
 
+  -- a row that is no control region
+  pub row-six : (slot l : ℕ) → slot < slots → l < symbols → controlRegion g slot l ≡ false
+      → (six (g .control) ≤ slot * six symbols + six l) × (slot * six symbols + six l - six (g .control) ≡ sixInRows g (slot * symbols + l))
+  row-six zero l hs hl e =
+      let c = ltb-false l (g .control) e in
+      let i : 0 * symbols + l ≡ l = omega arith in
+      (omega (arith, six-mono (g .control) l c (omega arith)), omega (arith, rows-first l c (omega arith), ap (sixInRows g) i))
+  row-six (suc zero) l hs hl e =
+      let i : 1 * symbols + l - symbols ≡ l = omega arith in (
+        omega (arith, six-mono (g .control) symbols (omega (arith, v .region)) (omega arith)),
+        omega (arith, rows-second (1 * symbols + l) (omega arith), ap six i),
+      )
+  row-six (suc (suc n)) l hs hl e = absurd (omega arith)
+
   abbrev rowFree : ℕ → ℕ
-  rowFree n = cond (controlRegion g (n / symbols) (n % symbols)) 0 (freeIn g (n % symbols))
+  rowFree n = cond (controlRegion g (n / symbols) (n % symbols)) 0 (freeIn (n % symbols))
 
   rows-step : (n : ℕ) → n < rows → sixInRows g (n + 1) ≡ sixInRows g n + rowFree n
   rows-step n h = ⊎-elim (λ a. ⊎-elim (closed a) (started a) (order n (g .control))) second (order n symbols)
@@ -136,7 +121,7 @@ module _ (g : Layout) (v : Valid g) where
       started a b =
           let s : n / symbols ≡ 0 = omega arith in
           let m : n % symbols ≡ n = omega arith in
-          let z : rowFree n ≡ freeIn g n = rw (s, m, le-ltb n (g .control) b) refl in
+          let z : rowFree n ≡ freeIn n = rw (s, m, le-ltb n (g .control) b) refl in
           omega (arith, rows-first n b (omega arith), rows-first (n + 1) (omega arith) (omega arith), six-grows n a, six-mono (g .control) n b (omega arith))
 
       second : symbols ≤ n → sixInRows g (n + 1) ≡ sixInRows g n + rowFree n
@@ -144,7 +129,7 @@ module _ (g : Layout) (v : Valid g) where
           let s : n / symbols ≡ 1 = omega arith in
           let m : n % symbols ≡ n - symbols = omega arith in
           let e : n + 1 - symbols ≡ n - symbols + 1 = omega arith in
-          let z : rowFree n ≡ freeIn g (n - symbols) = rw (s, m) refl in
+          let z : rowFree n ≡ freeIn (n - symbols) = rw (s, m) refl in
           omega (
             arith,
             rows-second n a,
@@ -154,47 +139,34 @@ module _ (g : Layout) (v : Valid g) where
             six-mono (g .control) symbols (omega (arith, v .region)) (omega arith),
           )
 
--- ---- the ones of a row's mask
-
-abbrev counted : Bool → Bool → Bool → Bool → ℕ → Bool
-counted a b lower upper v =
-    eqb (ones (maskOf v a b lower upper)) ((boolByte lower + boolByte upper) * (6 - boolByte a - boolByte b))
-
-counted-table : T (every4 (λ a b c d. each 6 (counted a b c d)))
-unfolding ones
-counted-table = tt
-
-mask-ones : (v : ℕ) (a b lower upper : Bool) → v < 6 → ones (maskOf v a b lower upper) ≡ (boolByte lower + boolByte upper) * (6 - boolByte a - boolByte b)
-mask-ones v a b lower upper h =
-    eqb→eq (ones (maskOf v a b lower upper)) ((boolByte lower + boolByte upper) * (6 - boolByte a - boolByte b))
-    (each-at 6 (counted a b lower upper) (every4-at (λ a b c d. each 6 (counted a b c d)) counted-table a b lower upper) v h)
-
-ncces : (from width : ℕ) → Part from width → boolByte (inRange from width 0) + boolByte (inRange from width 6) ≡ width / ncceWidth
-ncces = parts (λ f w. boolByte (inRange f w 0) + boolByte (inRange f w 6) ≡ w / ncceWidth) refl refl refl
-
-zero-ones : ones 0 ≡ 0
-unfolding ones
-zero-ones = refl
+-- ---- the used elements of the first rows
 
 module _ (g : Layout) (v : Valid g) (from width : ℕ) (p : Part from width) where
   row-count : (n : ℕ) → n < rows → numberOf g from width (subcarriers * (n + 1)) ≡ numberOf g from width (subcarriers * n) + width / ncceWidth * rowFree g v n
-  row-count n h = by (controlRegion g (n / symbols) (n % symbols)) refl
+  row-count n h = sym (ap (numberOf g from width) next) ∙ by (controlRegion g (n / symbols) (n % symbols)) refl ∙ ap (λ (x : ℕ). numberOf g from width x + width / ncceWidth * rowFree g v n) this
     where
-      a : Bool
-      a = referenceOn g (n % symbols) true false
+      hs : n / symbols < slots
+      hs = omega arith
 
-      b : Bool
-      b = referenceOn g (n % symbols) false true
+      hl : n % symbols < symbols
+      hl = omega arith
+
+      this : elementOf (n / symbols) (n % symbols) 0 ≡ subcarriers * n
+      this = omega arith
+
+      next : elementOf (n / symbols) (n % symbols) subcarriers ≡ subcarriers * (n + 1)
+      next = omega arith
 
       by : (r : Bool) → controlRegion g (n / symbols) (n % symbols) ≡ r
-          → numberOf g from width (subcarriers * (n + 1)) ≡ numberOf g from width (subcarriers * n) + width / ncceWidth * cond r 0 (freeIn g (n % symbols))
-      by true e = omega (arith, row-whole g from width n 0 (row-closed g from width n h e), zero-ones)
+          → numberOf g from width (elementOf (n / symbols) (n % symbols) subcarriers)
+          ≡ numberOf g from width (elementOf (n / symbols) (n % symbols) 0) + width / ncceWidth * cond r 0 (freeIn g v (n % symbols))
+      by true e = omega (arith, shut-whole g from width (n / symbols) (n % symbols) hs hl e)
       by false e =
+          let f = free-some g v (n % symbols) hl in
           omega (
             arith,
-            row-whole g from width n _ (open-mask g from width n h (v .shift) p e),
-            mask-ones (g .v) a b (inRange from width 0) (inRange from width 6) (v .shift),
-            ap (λ (x : ℕ). x * freeIn g (n % symbols)) (ncces from width p),
+            open-part g from width (n / symbols) (n % symbols) hs hl v e subcarriers (omega arith),
+            row-all from width p (g .v) (n % symbols) (freeIn g v (n % symbols)) (v .shift) (f .0) (f .1),
           )
 
   pub rows-counted : (n : ℕ) → n ≤ rows → numberOf g from width (subcarriers * n) ≡ width / ncceWidth * sixInRows g n
@@ -212,20 +184,41 @@ module _ (g : Layout) (v : Valid g) (from width : ℕ) (p : Part from width) whe
 
 -- ---- finding the row
 
-abbrev pub symbolWith : ℕ → ℕ → ℕ → ℕ
-symbolWith a b y =
-    boolByte (leb (sixBefore a b 1) y) + boolByte (leb (sixBefore a b 2) y) + boolByte (leb (sixBefore a b 3) y)
-    + (boolByte (leb (sixBefore a b 4) y) + boolByte (leb (sixBefore a b 5) y) + boolByte (leb (sixBefore a b 6) y))
+-- a number in bytes 1 to 6, and their highest digits
+abbrev pub once : ℕ
+once = 0x0001010101010100
+
+abbrev pub highest : ℕ
+highest = 0x0080808080808000
+
+abbrev pub passedOf : ℕ → ℕ → ℕ
+passedOf s y = bitAnd (y * once + highest - s % 2 ^ 56) highest / 2 ^ 15
+
+abbrev pub twoOf : ℕ → ℕ
+twoOf p = p + p / 2 ^ 24
+
+abbrev pub symbolWith : ℕ → ℕ → ℕ
+symbolWith s y = (twoOf (passedOf s y) + twoOf (passedOf s y) / 2 ^ 8 + twoOf (passedOf s y) / 2 ^ 16) % 8
 
 abbrev lies : ℕ → ℕ → ℕ → ℕ → Bool
 lies a b y l = ltb l symbols && (leb (sixBefore a b l) y && ltb y (sixBefore a b (l + 1)))
 
 abbrev found : ℕ → ℕ → ℕ → Bool
-found a b y = cond (ltb y (sixBefore a b symbols)) (lies a b y (symbolWith a b y)) true
+found a b y = cond (ltb y (sixBefore a b symbols)) (lies a b y (symbolWith (sumsOf a b) y)) true
 
 found-table : T (listed 42 found)
-unfolding sixBefore
+unfolding sixBefore sumsOf
 found-table = tt
+
+abbrev low : ℕ → ℕ → ℕ → Bool
+low a b i = leb (sumsOf a b % 2 ^ 56) highest
+
+low-table : T (listed 1 low)
+unfolding sumsOf
+low-table = tt
+
+pub bytes-low : (g : Layout) → Valid g → sumsOf (g .nports) (g .cports) % 2 ^ 56 ≤ highest
+bytes-low g v = leb→le (sumsOf (g .nports) (g .cports) % 2 ^ 56) highest (listed-at 1 low low-table g v 0 (omega arith))
 
 three : (a b c : Bool) → T (a && (b && c)) → T a × T b × T c
 three true true true t = (tt, tt, tt)
@@ -238,11 +231,11 @@ pub record Lies (g : Layout) (y l : ℕ) : Type 0 where
   pub from : sixBefore (g .nports) (g .cports) l ≤ y
   pub below : y < sixBefore (g .nports) (g .cports) (l + 1)
 
-pub symbol-found : (g : Layout) → Valid g → (y : ℕ) → y < sixBefore (g .nports) (g .cports) symbols → Lies g y (symbolWith (g .nports) (g .cports) y)
+pub symbol-found : (g : Layout) → Valid g → (y : ℕ) → y < sixBefore (g .nports) (g .cports) symbols → Lies g y (symbolWith (sumsOf (g .nports) (g .cports)) y)
 symbol-found g v y h =
     let a = g .nports in
     let b = g .cports in
-    let l = symbolWith a b y in
+    let l = symbolWith (sumsOf a b) y in
     let t : T (found a b y) = listed-at 42 found found-table g v y (omega (arith, six-few g v symbols (omega arith))) in
     let s : T (lies a b y l) = subst (λ (x : Bool). T (cond x (lies a b y l) true)) (lt-ltb y (sixBefore a b symbols) h) t in
     let r = three (ltb l symbols) (leb (sixBefore a b l) y) (ltb y (sixBefore a b (l + 1))) s in
@@ -252,45 +245,95 @@ symbol-found g v y h =
       below = ltb→lt y (sixBefore a b (l + 1)) (r .2);
     }
 
--- row r has the q-th of the subcarriers that are counted
-abbrev pub RowWith : Layout → ℕ → ℕ → Type 0
-RowWith g q r = (r < rows) × (sixInRows g r ≤ q) × (q < sixInRows g (r + 1))
+module _ (g : Layout) (v : Valid g) (q slot l y whole z start : ℕ) (hy : y ≡ q + six g v (g .control)) (hw : whole ≡ six g v symbols)
+    (hs : slot ≡ boolByte (leb whole y)) (hz : z ≡ y - whole * slot) where
+  -- q lies in the first slot, or in the second
+  halves : ((y < whole) × (slot ≡ 0) × (z ≡ y)) ⊎ ((whole ≤ y) × (slot ≡ 1) × (z ≡ y - whole))
+  halves =
+      ⊎-elim
+      (λ h.
+      let e : slot ≡ 0 = hs ∙ ap boolByte (lt-leb whole y h) in
+      inl (h, e, omega (arith, hz, ap (λ (x : ℕ). whole * x) e)))
+      (λ h.
+      let e : slot ≡ 1 = hs ∙ ap boolByte (le-leb whole y h) in
+      inr (h, e, omega (arith, hz, ap (λ (x : ℕ). whole * x) e)))
+      (order y whole)
 
-module _ (g : Layout) (v : Valid g) (q l : ℕ) where
-  pub row-first : Lies g (q + six g v (g .control)) l → RowWith g q l
-  row-first s = ⊎-elim early late (order l (g .control))
+  pub past-first : q < sixInRows g rows → z < six g v symbols
+  past-first h = ⊎-elim (λ a. omega (arith, a .0, a .2)) (λ a. omega (arith, a .2, rows-second g v rows (omega arith))) halves
+
+  pub spot : start ≡ six g v l → Lies g z l → SpotOf g q (record { slot = slot; l = l; rest = z - start })
+  spot ht s = ⊎-elim first second halves
     where
-      early : l < g .control → RowWith g q l
-      early a = absurd (omega (arith, s .below, six-mono g v (l + 1) (g .control) (omega arith) (omega (arith, v .region))))
+      late : z ≡ y → g .control ≤ l
+      late e =
+          ⊎-elim (λ a. absurd (omega (arith, s .below, six-mono g v (l + 1) (g .control) (omega arith) (omega (arith, v .region))))) (λ a. a)
+          (order l (g .control))
 
-      late : g .control ≤ l → RowWith g q l
-      late a =
-          let i = s .inside in (
-            omega arith,
-            omega (arith, s .from, rows-first g v l a (omega arith)),
-            omega (arith, s .below, rows-first g v (l + 1) (omega arith) (omega arith)),
-          )
+      first : (y < whole) × (slot ≡ 0) × (z ≡ y) → SpotOf g q (record { slot = slot; l = l; rest = z - start })
+      first a =
+          let e = a .1 in
+          let i = s .inside in
+          let f = s .from in
+          let c = late (a .2) in
+          let m : slot * symbols + l ≡ l = omega arith in
+          let n : slot * symbols + l + 1 ≡ l + 1 = omega arith in
+          record {
+            slot = omega arith;
+            symbol = i;
+            reached = omega (arith, a .2, ap (sixInRows g) m, rows-first g v l c (omega arith), six-mono g v (g .control) l c (omega arith));
+            below = omega (arith, a .2, s .below, ap (sixInRows g) n, rows-first g v (l + 1) (omega arith) (omega arith));
+          }
 
-  pub row-second : six g v symbols ≤ q + six g v (g .control) → Lies g (q + six g v (g .control) - six g v symbols) l → RowWith g q (symbols + l)
-  row-second h s =
-      let i = s .inside in
-      let e : symbols + l - symbols ≡ l = omega arith in
-      let f : symbols + l + 1 - symbols ≡ l + 1 = omega arith in (
-        omega arith,
-        omega (arith, s .from, rows-second g v (symbols + l) (omega arith), ap (six g v) e),
-        omega (arith, s .below, rows-second g v (symbols + l + 1) (omega arith), ap (six g v) f),
-      )
+      second : (whole ≤ y) × (slot ≡ 1) × (z ≡ y - whole) → SpotOf g q (record { slot = slot; l = l; rest = z - start })
+      second a =
+          let e = a .1 in
+          let i = s .inside in
+          let f = s .from in
+          let m : slot * symbols + l - symbols ≡ l = omega arith in
+          let n : slot * symbols + l + 1 - symbols ≡ l + 1 = omega arith in
+          let c = six-mono g v (g .control) symbols (omega (arith, v .region)) (omega arith) in
+          record {
+            slot = omega arith;
+            symbol = i;
+            reached = omega (arith, a .0, a .2, rows-second g v (slot * symbols + l) (omega arith), ap (six g v) m);
+            below = omega (arith, a .0, a .2, s .below, rows-second g v (slot * symbols + l + 1) (omega arith), ap (six g v) n);
+          }
 
-  -- q lies in the second slot
-  pub past-first : q < sixInRows g rows → six g v symbols ≤ q + six g v (g .control) → q + six g v (g .control) - six g v symbols < six g v symbols
-  past-first h k = omega (arith, rows-second g v rows (omega arith))
+-- such a row is no control region
+module _ (g : Layout) (v : Valid g) (q : ℕ) (s : Spot) (r : SpotOf g q s) where
+  pub spot-open : (controlRegion g (s .slot) (s .l) ≡ false) × (s .rest < freeIn g v (s .l))
+  spot-open = by (controlRegion g (s .slot) (s .l)) refl
+    where
+      m : (s .slot * symbols + s .l) / symbols ≡ s .slot
+      m = omega (arith, r .symbol)
 
--- k times over
-pub over : (k a b e q : ℕ) → 0 < k → q ≡ e / k → a ≤ q → q < b → (k * a ≤ e) × (e < k * b)
-over k a b e q h f l u =
-    let x : a ≤ e / k = omega arith in
-    let y : e / k < b = omega arith in
-    (omega (arith, le-div-iff-mul-le h .0 x, mul-comm a k), omega (arith, div-lt-iff-lt-mul h .0 y, mul-comm b k))
+      n : (s .slot * symbols + s .l) % symbols ≡ s .l
+      n = omega (arith, r .symbol)
+
+      step : sixInRows g (s .slot * symbols + s .l + 1) ≡ sixInRows g (s .slot * symbols + s .l) + cond (controlRegion g (s .slot) (s .l)) 0 (freeIn g v (s .l))
+      step = rows-step g v (s .slot * symbols + s .l) (omega (arith, r .slot, r .symbol)) ∙ (rw (m, n) refl)
+
+      by : (b : Bool) → controlRegion g (s .slot) (s .l) ≡ b → (controlRegion g (s .slot) (s .l) ≡ false) × (s .rest < freeIn g v (s .l))
+      by true e =
+          let t : cond (controlRegion g (s .slot) (s .l)) 0 (freeIn g v (s .l)) ≡ 0 = rw e refl in
+          absurd (omega (arith, step, r .reached, r .below))
+      by false e =
+          let t : cond (controlRegion g (s .slot) (s .l)) 0 (freeIn g v (s .l)) ≡ freeIn g v (s .l) = rw e refl in
+          (e, omega (arith, step, r .reached, r .below))
+
+-- ---- over one NCCE or two
+
+pub record Over (n q e base rest free j : ℕ) : Type 0 where
+  pub fits : n * q ≤ e
+  pub reached : n * base + j ≡ e
+  pub below : j < n * free
+
+pub over : (n q e base rest free j : ℕ) → 0 < n → n ≤ 2 → q ≡ e / n → base + rest ≡ q → rest < free → j ≡ n * rest + (e - n * q) → Over n q e base rest free j
+over zero q e base rest free j h k d r l f = absurd (omega arith)
+over (suc zero) q e base rest free j h k d r l f = record { fits = omega arith; reached = omega arith; below = omega arith }
+over (suc (suc zero)) q e base rest free j h k d r l f = record { fits = omega arith; reached = omega arith; below = omega arith }
+over (suc (suc (suc n))) q e base rest free j h k d r l f = absurd (omega arith)
 
 pub under : (k b e q : ℕ) → 0 < k → q ≡ e / k → e < k * b → q < b
 under k b e q h f l = omega (arith, div-lt-iff-lt-mul {k = k} {x = e} {y = b} h .1 (omega (arith, mul-comm b k)))

@@ -1,6 +1,6 @@
 -- What callers know of the used elements.
 use mathlib.Core.Bool.{Bool, true, false, not, cond, _&&_, _||_}
-use mathlib.Core.Path.{_≡_, refl, _∙_}
+use mathlib.Core.Path.{_≡_, refl, ap, _∙_}
 use Prim.Native.Nat.{ℕ, _+_, _*_, _≤_, _<_}
 use native.Mathlib.Omega.{arith}
 use lib.Dec.{eqb, ltb, leb}
@@ -9,10 +9,12 @@ use Rattle.counting.specs.Counting.{Lists, inRange}
 use Rattle.counting.proofs.Facts.{both-parts, either-parts, not-true-is}
 use Rattle.counting.proofs.Rank.{rank-le, rank-strict}
 use Rattle.counting.proofs.Select.{lists-below}
-use Rattle.grid.specs.Grid.{subcarriers, symbols, elements, elementOf, slotOf, symbolOf, subcarrierOf}
+use Rattle.grid.specs.Grid.{subcarriers, elements, elementOf, slotOf, symbolOf, subcarrierOf}
 use Rattle.elements.specs.declared.Layout.{Layout}
-use Rattle.elements.specs.Elements.{nrs, crs, reference, controlRegion, eligible, used, kindOf, countOf, elementAt, numberOf, ncceWidth, npdcchFrom, npdcchWidth, Part}
-use Rattle.elements.proofs.Masks.{and-false}
+use Rattle.elements.specs.declared.Standing.{Standing}
+use Rattle.elements.specs.declared.Standing.the-variants.{Used, Other}
+use Rattle.elements.specs.Elements.{nrs, crs, reference, controlRegion, eligible, used, kindOf, countOf, elementAt, numberOf, standingOf, ncceWidth, npdcchFrom, npdcchWidth, Part}
+use Rattle.elements.proofs.Marked.{and-false}
 use Rattle.elements.proofs.Rows.{row-used}
 
 -- x lies in the grid and in the part, and carries no reference and no control
@@ -71,11 +73,34 @@ module _ (g : Layout) (from width : ℕ) where
   -- the fourth symbol of the second slot is used at the part's first subcarrier
   fourth-used : Part from width → used g from width (elementOf 1 3 from) ≡ true
   fourth-used p =
-      row-used g from width (1 * symbols + 3) (omega arith) from (omega (arith, p))
+      row-used g from width 1 3 (omega arith) (omega arith) from (omega (arith, p))
       ∙ (rw (quiet g from, le-leb from from (omega arith), lt-ltb from (from + width) (omega (arith, p))) refl)
 
   pub count-some : Part from width → 0 < countOf g from width
   count-some p = omega (arith, rank-strict (used g from width) (elementOf 1 3 from) elements (fourth-used p) (omega (arith, p)))
+
+-- ---- what an answer says of its element
+
+abbrev numberIn : Standing → ℕ
+numberIn (Used e) = e
+numberIn (Other kind) = kind
+
+used-by : (b : Bool) (n k e : ℕ) → cond b (Used n) (Other k) ≡ Used e → (b ≡ true) × (n ≡ e)
+used-by true n k e h = (refl, ap numberIn h)
+used-by false n k e h = let z : _≡_ {A = ℕ} 0 1 = cc in absurd (omega arith)
+
+other-by : (b : Bool) (n k e : ℕ) → cond b (Used n) (Other k) ≡ Other e → (b ≡ false) × (k ≡ e)
+other-by true n k e h = let z : _≡_ {A = ℕ} 0 1 = cc in absurd (omega arith)
+other-by false n k e h = (refl, ap numberIn h)
+
+module _ (g : Layout) (from width x e : ℕ) where
+  pub standing-used : standingOf g from width x ≡ Used e → (used g from width x ≡ true) × (numberOf g from width x ≡ e)
+  unfolding standingOf
+  standing-used h = used-by (used g from width x) (numberOf g from width x) (kindOf g x) e h
+
+  pub standing-other : standingOf g from width x ≡ Other e → (used g from width x ≡ false) × (kindOf g x ≡ e)
+  unfolding standingOf
+  standing-other h = other-by (used g from width x) (numberOf g from width x) (kindOf g x) e h
 
 -- ---- the parts that grants use
 

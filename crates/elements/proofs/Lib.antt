@@ -1,5 +1,6 @@
-pub mod Masks
+pub mod Marked
 pub mod Rows
 pub mod Laws
 pub mod Cases
 pub mod Closed
+pub mod Stands

@@ -1,86 +1,77 @@
--- The rows of the grid by their masks: which elements are used, how many, and where the e-th is.
-use mathlib.Core.Bool.{Bool, true, false, not, _&&_}
+-- The rows of the grid: which elements are used, how many, and where the e-th is.
+use mathlib.Core.Bool.{true, false, not, cond, _&&_}
 use mathlib.Core.Path.{_≡_, refl, sym, ap, _∙_}
-use Prim.Native.Nat.{ℕ, _+_, _*_, _/_, _%_, _^_, _≤_, _<_}
+use Prim.Native.Nat.{ℕ, _+_, _*_, _%_, _≤_, _<_}
+use native.Mathlib.Nat.{zero-add}
 use native.Mathlib.Omega.{arith}
-use lib.Count.{ones}
-use mir.Val.{boolByte}
 use borrow.Author.Tests.{lt-ltb}
-use Rattle.counting.specs.Bits.{bitAt, NthOne}
-use Rattle.counting.proofs.Facts.{each-at, alike, alike-eq}
-use Rattle.counting.proofs.Rank.{rank-later}
+use Rattle.counting.specs.Counting.{rank, inRange}
+use Rattle.counting.proofs.Rank.{rank-count, count-from-zero, count-same, rank-none}
 use Rattle.counting.proofs.Select.{is-select-below}
-use Rattle.counting.proofs.Ones.{span-part, span-whole, ones-low, ones-rank}
-use Rattle.grid.specs.Grid.{subcarriers, symbols, elements, slotOf, symbolOf, subcarrierOf}
-use Rattle.counting.specs.Counting.{inRange}
+use Rattle.grid.specs.Grid.{subcarriers, symbols, slots, elements, elementOf, slotOf, symbolOf, subcarrierOf}
 use Rattle.elements.specs.declared.Layout.{Layout}
-use Rattle.elements.specs.Elements.{reference, controlRegion, eligible, used, countOf, elementAt, numberOf, Part}
-use Rattle.elements.specs.Quick.{rows, referenceOn, freeOf, RowMask}
-use Rattle.elements.proofs.Masks.{reference-spread, part-halves, maskOf, mask-small, mask-digit}
+use Rattle.elements.specs.Elements.{reference, controlRegion, eligible, used, kindOf, countOf, elementAt, numberOf, Valid}
+use Rattle.elements.specs.Quick.{isFree, referenceKind}
+use Rattle.elements.proofs.Marked.{marksIn, reference-marked, kind-marked, carries, Nth}
 
--- ---- the elements of a row
-
-module _ (g : Layout) (from width row : ℕ) (hr : row < rows) where
+module _ (g : Layout) (from width slot l : ℕ) (hs : slot < slots) (hl : l < symbols) where
   pub row-used : (k : ℕ) → k < subcarriers
-      → used g from width (subcarriers * row + k)
-      ≡ ((not (controlRegion g (row / symbols) (row % symbols)) && not (reference g (row % symbols) k)) && inRange from width k)
+      → used g from width (elementOf slot l k) ≡ ((not (controlRegion g slot l) && not (reference g l k)) && inRange from width k)
   unfolding used eligible
-  row-used k l =
-      let s : slotOf (subcarriers * row + k) ≡ row / symbols = omega arith in
-      let m : symbolOf (subcarriers * row + k) ≡ row % symbols = omega arith in
-      let c : subcarrierOf (subcarriers * row + k) ≡ k = omega arith in
-      rw (s, m, c, lt-ltb (subcarriers * row + k) elements (omega arith)) refl
+  row-used k h =
+      let s : slotOf (elementOf slot l k) ≡ slot = omega arith in
+      let m : symbolOf (elementOf slot l k) ≡ l = omega arith in
+      let c : subcarrierOf (elementOf slot l k) ≡ k = omega arith in
+      rw (s, m, c, lt-ltb (elementOf slot l k) elements (omega arith)) refl
 
   -- a row of the control region has none
-  pub row-closed : controlRegion g (row / symbols) (row % symbols) ≡ true → RowMask g from width row 0
-  row-closed e = record {
-    small = omega arith;
-    bits = λ k l. alike-eq (bitAt 0 k) false (each-at subcarriers (λ k. alike (bitAt 0 k) false) tt k l) ∙ sym (row-used k l ∙ (rw e refl));
-  }
+  module _ (e : controlRegion g slot l ≡ true) where
+    pub row-shut : (k : ℕ) → k < subcarriers → used g from width (elementOf slot l k) ≡ false
+    row-shut k h = row-used k h ∙ (rw e refl)
 
-  pub open-mask : g .v < 6 → Part from width → controlRegion g (row / symbols) (row % symbols) ≡ false
-      → RowMask g from width row
-      (maskOf (g .v) (referenceOn g (row % symbols) true false) (referenceOn g (row % symbols) false true) (inRange from width 0) (inRange from width 6))
-  open-mask h p e =
-      let a : Bool = referenceOn g (row % symbols) true false in
-      let b : Bool = referenceOn g (row % symbols) false true in
-      record {
-        small = mask-small (g .v) a b (inRange from width 0) (inRange from width 6) h;
-        bits = λ k l. mask-digit (g .v) a b (inRange from width 0) (inRange from width 6) h k l
-            ∙ sym (row-used k l ∙ (rw (e, reference-spread g (row % symbols) k h, part-halves from width p k l) refl));
-      }
+    pub shut-whole : numberOf g from width (elementOf slot l subcarriers) ≡ numberOf g from width (elementOf slot l 0)
+    shut-whole = whole ∙ ap (numberOf g from width) at
+      where
+        at : (slot * symbols + l) * subcarriers ≡ elementOf slot l 0
+        at = omega arith
 
-  -- any other: a and b say whether references lie near and far, lower and upper are the part's answers at 0 and 6
-  pub row-open : g .v < 6 → Part from width → controlRegion g (row / symbols) (row % symbols) ≡ false → (a b lower upper : Bool) (six x y : ℕ)
-      → a ≡ referenceOn g (row % symbols) true false → b ≡ referenceOn g (row % symbols) false true → six ≡ freeOf (g .v) a b
-      → lower ≡ inRange from width 0 → x ≡ boolByte lower → upper ≡ inRange from width 6 → y ≡ boolByte upper
-      → RowMask g from width row (six * (x + 64 * y))
-  row-open h p e a b lower upper six x y ea eb es el ex eu ey = rw (es, ex, ey, ea, eb, el, eu) (open-mask h p e)
+        shut : (i : ℕ) → (slot * symbols + l) * subcarriers ≤ i → i < elementOf slot l subcarriers → used g from width i ≡ false
+        shut i a b =
+            let s : elementOf slot l (i % subcarriers) ≡ i = omega arith in
+            sym (ap (used g from width) s) ∙ row-shut (i % subcarriers) (omega arith)
 
--- ---- counting and finding by rows
+        whole : numberOf g from width (elementOf slot l subcarriers) ≡ numberOf g from width ((slot * symbols + l) * subcarriers)
+        whole = rank-none (used g from width) ((slot * symbols + l) * subcarriers) subcarriers shut
 
-module _ (g : Layout) (from width row m : ℕ) (mask : RowMask g from width row m) where
-  pub row-part : (k : ℕ) → k ≤ subcarriers → numberOf g from width (subcarriers * row) + ones (m % 2 ^ k) ≡ numberOf g from width (subcarriers * row + k)
-  row-part k h = span-part (used g from width) m (subcarriers * row) subcarriers (mask .bits) k h
+  -- any other has those with no mark
+  module _ (v : Valid g) (e : controlRegion g slot l ≡ false) where
+    pub row-open : (k : ℕ) → k < subcarriers → used g from width (elementOf slot l k) ≡ carries (marksIn g v l hl) from width k
+    row-open k h = row-used k h ∙ (rw (e, reference-marked g v l hl k) refl)
 
-  pub row-whole : numberOf g from width (subcarriers * row) + ones m ≡ numberOf g from width (subcarriers * (row + 1))
-  row-whole =
-      let e : subcarriers * row + subcarriers ≡ subcarriers * (row + 1) = omega arith in
-      span-whole (used g from width) m (subcarriers * row) subcarriers (mask .bits) (mask .small) ∙ ap (numberOf g from width) e
+    pub open-part : (k : ℕ) → k ≤ subcarriers
+        → numberOf g from width (elementOf slot l k) ≡ numberOf g from width (elementOf slot l 0) + rank (carries (marksIn g v l hl) from width) k
+    open-part k h =
+        let u = used g from width in
+        let c = carries (marksIn g v l hl) from width in
+        let at : elementOf slot l 0 ≡ (slot * symbols + l) * subcarriers = omega arith in
+        omega (
+          arith,
+          rank-count u k ((slot * symbols + l) * subcarriers),
+          count-same u c k ((slot * symbols + l) * subcarriers) 0 (λ i j. row-open i (omega arith) ∙ ap c (sym (zero-add i))),
+          count-from-zero c k,
+          ap (rank u) at,
+        )
 
-  pub row-number : (x n d : ℕ) → x / subcarriers ≡ row → n ≡ numberOf g from width (subcarriers * row) → d ≡ ones (m % 2 ^ (x % subcarriers))
-      → n + d ≡ numberOf g from width x
-  row-number x n d er en ed =
-      let e : subcarriers * row + x % subcarriers ≡ x = omega arith in
-      omega (arith, row-part (x % subcarriers) (omega arith), ap (numberOf g from width) e)
+    pub open-found : (x j k : ℕ) → x < countOf g from width → numberOf g from width (elementOf slot l 0) + j ≡ x
+        → Nth (marksIn g v l hl) from width j k → elementOf slot l k ≡ elementAt g from width x
+    open-found x j k h r n =
+        let i = n .inside in
+        is-select-below (used g from width) elements x (elementOf slot l k) h (row-open k i ∙ n .carried)
+        (omega (arith, open-part k (omega arith), n .before))
 
-  -- a one of the mask lies in the row
-  pub one-inside : (left k : ℕ) → left < ones m → NthOne m left k → k < subcarriers
-  one-inside left k h n = rank-later (bitAt m) k subcarriers (omega (arith, n .before, ones-rank subcarriers m (mask .small)))
-
-  pub row-found : (e left k : ℕ) → e < countOf g from width → numberOf g from width (subcarriers * row) + left ≡ e → left < ones m
-      → NthOne m left k → subcarriers * row + k ≡ elementAt g from width e
-  row-found e left k h inv l n =
-      let i = one-inside left k l n in
-      is-select-below (used g from width) elements e (subcarriers * row + k) h (sym (mask .bits k i) ∙ n .set)
-      (omega (arith, row-part k (omega arith), ones-low k m, n .before))
+  pub row-kind : (v : Valid g) (k : ℕ) → k < subcarriers → kindOf g (elementOf slot l k) ≡ cond (isFree (marksIn g v l hl) (k % 6)) 0 (referenceKind l)
+  unfolding kindOf
+  row-kind v k h =
+      let m : symbolOf (elementOf slot l k) ≡ l = omega arith in
+      let c : subcarrierOf (elementOf slot l k) ≡ k = omega arith in
+      rw (m, c) (kind-marked g v l hl k)

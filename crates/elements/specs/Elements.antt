@@ -8,6 +8,8 @@ use mir.Val.{boolByte}
 use Rattle.counting.specs.Counting.{rank, select, inRange}
 use Rattle.grid.specs.Grid.{subcarriers, elements, slotOf, symbolOf, subcarrierOf}
 use Rattle.elements.specs.declared.Layout.{Layout}
+use Rattle.elements.specs.declared.Standing.{Standing}
+use Rattle.elements.specs.declared.Standing.the-variants.{Used, Other}
 
 -- every accepted cell has such a layout: v is the identity mod 6; 1 or 2 narrowband ports; 0, 1, 2 or 4 cell ports; control region 0 to 3
 pub record Valid (g : Layout) : Type 0 where
@@ -87,6 +89,10 @@ elementAt g from width e = select (used g from width) elements 0 e
 
 abbrev pub numberOf : Layout → ℕ → ℕ → ℕ → ℕ
 numberOf g from width x = rank (used g from width) x
+
+-- an element by its number where it is used, by its kind elsewhere
+unfoldable pub standingOf : Layout → ℕ → ℕ → ℕ → Standing
+standingOf g from width x = cond (used g from width x) (Used (numberOf g from width x)) (Other (kindOf g x))
 
 -- ---- the parts that are used: NPDSCH uses all subcarriers, NPDCCH one NCCE or both (clause 10.2.5.1)
 

@@ -1,32 +1,21 @@
 -- What the quick code's own functions say. No definition of 01 cites this file.
-use mathlib.Core.Bool.{Bool, cond, _||_}
+use mathlib.Core.Bool.{Bool, not, cond, _&&_, _||_}
 use mathlib.Core.Path.{_≡_}
-use Prim.Native.Nat.{ℕ, _+_, _-_, _*_, _%_, _^_, _<_}
-use lib.Dec.{ltb}
+use Prim.Native.Nat.{ℕ, _+_, _-_, _*_, _/_, _%_, _^_, _<_}
+use lib.Dec.{eqb, ltb, leb}
 use mir.Val.{boolByte}
-use Rattle.counting.specs.Bits.{bitAt}
-use Rattle.grid.specs.Grid.{subcarriers, symbols, slots}
+use Rattle.grid.specs.Grid.{subcarriers, symbols, slots, elementOf}
 use Rattle.elements.specs.declared.Layout.{Layout}
-use Rattle.elements.specs.Elements.{nrsOn, crsOn, used}
+use Rattle.elements.specs.declared.Marks.{Marks}
+use Rattle.elements.specs.declared.Spot.{Spot}
+use Rattle.elements.specs.declared.Row.{Row}
+use Rattle.elements.specs.Elements.{used}
 
 -- a row is a symbol of a slot: row slot * symbols + l
 abbrev pub rows : ℕ
 rows = slots * symbols
 
--- digit k of m says whether subcarrier k of the row is used
-pub record RowMask (g : Layout) (from width row m : ℕ) : Type 0 where
-  pub small : m < 2 ^ subcarriers
-  pub bits : (k : ℕ) → k < subcarriers → bitAt m k ≡ used g from width (subcarriers * row + k)
-
--- a reference of either kind lies on symbol l, near or far
-abbrev pub referenceOn : Layout → ℕ → Bool → Bool → Bool
-referenceOn g l n f = nrsOn g l n f || crsOn g l n f
-
--- six subcarriers by binary digits, 1 where no reference lies; a: references lie near, b: far
-abbrev pub freeOf : ℕ → Bool → Bool → ℕ
-freeOf v a b = 63 - boolByte a * 2 ^ v - boolByte b * 2 ^ ((v + 3) % 6)
-
--- ---- the closed form of how many are used
+-- ---- how many are used, in closed form
 
 -- references in six subcarriers of symbols 0 and 4, and of symbol 1
 abbrev pub takenAt0 : ℕ → ℕ
@@ -35,12 +24,20 @@ takenAt0 cports = cond (ltb cports 2) cports 2
 abbrev pub takenAt1 : ℕ → ℕ
 takenAt1 cports = cond (ltb cports 4) 0 2
 
--- how many of six subcarriers carry no reference, in all symbols of a slot before l
+-- by bytes, for l = 0 to 7: how many of six subcarriers carry no reference, in all symbols of a slot before l
+unfoldable pub sumsOf : ℕ → ℕ → ℕ
+sumsOf nports cports =
+    0x2a241e18120c0600 - takenAt0 cports * 0x0202020101010100 - takenAt1 cports * 0x0101010101010000 - nports * 0x0201000000000000
+
+abbrev pub byteOf : ℕ → ℕ → ℕ
+byteOf s l = s / 2 ^ (8 * l) % 256
+
 unfoldable pub sixBefore : ℕ → ℕ → ℕ → ℕ
-sixBefore nports cports l =
-    6 * l
-    - (takenAt0 cports * (boolByte (ltb 0 l) + boolByte (ltb 4 l)) + takenAt1 cports * boolByte (ltb 1 l))
-    - nports * (boolByte (ltb 5 l) + boolByte (ltb 6 l))
+sixBefore nports cports l = byteOf (sumsOf nports cports) l
+
+-- the same in symbol l alone
+abbrev pub freeOf : ℕ → ℕ → ℕ → ℕ
+freeOf nports cports l = sixBefore nports cports (l + 1) - sixBefore nports cports l
 
 -- the same in the first n rows, without the control region
 unfoldable pub sixInRows : Layout → ℕ → ℕ
@@ -48,3 +45,53 @@ sixInRows g n =
     cond (ltb n (g .control)) 0
     (cond (ltb n symbols) (sixBefore (g .nports) (g .cports) n - sixBefore (g .nports) (g .cports) (g .control))
     (sixBefore (g .nports) (g .cports) symbols + sixBefore (g .nports) (g .cports) (n - symbols) - sixBefore (g .nports) (g .cports) (g .control)))
+
+-- the row with the q-th of those, and which one of the row it is
+pub record SpotOf (g : Layout) (q : ℕ) (s : Spot) : Type 0 where
+  pub slot : s .slot < slots
+  pub symbol : s .l < symbols
+  pub reached : sixInRows g (s .slot * symbols + s .l) + s .rest ≡ q
+  pub below : q < sixInRows g (s .slot * symbols + s .l + 1)
+
+-- ---- the references of a symbol, so many of six
+
+-- first the near ones or first the far ones; one of the first three subcarriers, one of the last three, 8 more for none
+abbrev pub marksBy : ℕ → Bool → ℕ → Marks
+marksBy v far taken =
+    let low = v - 3 * boolByte (leb 3 v) in
+    let first = boolByte (eqb (boolByte far) (boolByte (leb 3 v))) in
+    record { low = low + 8 * boolByte (ltb (taken + first) 2); high = low + 3 + 8 * boolByte (ltb taken (1 + first)) }
+
+abbrev pub marksOf : ℕ → ℕ → ℕ → Marks
+marksOf v l taken = marksBy v (eqb l 4 || eqb l 6) taken
+
+-- i, below 6, is no mark
+abbrev pub isFree : Marks → ℕ → Bool
+isFree m i = not (eqb i (m .low)) && not (eqb i (m .high))
+
+-- the j-th that is none
+abbrev pub nthFree : Marks → ℕ → ℕ
+nthFree m j =
+    let k = j + boolByte (leb (m .low) j) in
+    k + boolByte (leb (m .high) k)
+
+-- the j-th used subcarrier of a row, and how many are used before subcarrier k, number i of its six
+abbrev pub nthIn : Marks → ℕ → ℕ → ℕ → ℕ
+nthIn m free from j =
+    let upper = boolByte (leb free j) in
+    from + 6 * upper + nthFree m (j - free * upper)
+
+abbrev pub placeIn : Marks → ℕ → ℕ → ℕ → ℕ → ℕ
+placeIn m free from k i = boolByte (leb (from + 6) k) * free + i - boolByte (ltb (m .low) i) - boolByte (ltb (m .high) i)
+
+-- narrowband references lie on symbols 5 and 6, cell references before
+abbrev pub referenceKind : ℕ → ℕ
+referenceKind l = cond (ltb l 5) 2 1
+
+-- ---- a row of all twelve subcarriers
+
+abbrev pub hasIn : Row → ℕ → Bool
+hasIn r k = not (r .shut) && (not (eqb (k % 6) (r .low)) && not (eqb (k % 6) (r .high)))
+
+pub record RowOf (g : Layout) (slot l : ℕ) (r : Row) : Type 0 where
+  pub has : (k : ℕ) → k < subcarriers → hasIn r k ≡ used g 0 subcarriers (elementOf slot l k)

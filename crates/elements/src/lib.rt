@@ -1,11 +1,12 @@
 // Which elements of a downlink subframe carry data, counted row by row.
+ghost use mathlib.Core.Bool.{false};
 ghost use mathlib.Core.Path.{_≡_};
-ghost use Prim.Native.Nat.{_+_, _*_, _/_, _<_, _≤_};
+ghost use Prim.Native.Nat.{_+_, _*_, _/_, _^_, _<_, _≤_};
 ghost use mir.Val.{boolByte};
-ghost use Rattle.grid.specs.Grid.{subcarriers, symbols, elements};
+ghost use Rattle.grid.specs.Grid.{subcarriers, symbols, slots, elements, elementOf};
 ghost use Rattle.counting.specs.Counting.{inRange};
-ghost use Rattle.elements.specs.Elements.{near, far, nrsOn, crsOn, controlRegion, used, kindOf, countOf, elementAt, numberOf, ncceWidth, npdcchFrom, npdcchWidth, Valid, Part};
-ghost use Rattle.elements.specs.Quick.{rows, referenceOn, freeOf, RowMask, takenAt0, takenAt1, sixBefore, sixInRows};
+ghost use Rattle.elements.specs.Elements.{controlRegion, countOf, elementAt, numberOf, standingOf, ncceWidth, npdcchFrom, npdcchWidth, Valid, Part};
+ghost use Rattle.elements.specs.Quick.{rows, takenAt0, takenAt1, sumsOf, byteOf, sixBefore, freeOf, sixInRows, marksOf, nthFree, nthIn, placeIn, referenceKind, SpotOf, RowOf, hasIn};
 use grid::Grid;
 
 // The layout of a subframe, apart from the cell: identity mod 6, narrowband and cell reference ports, control region.
@@ -16,61 +17,48 @@ pub struct Layout {
     pub control: u64,
 }
 
-// A symbol of a slot is a row of the grid.
-const ROWS: u64 = Grid::SLOTS * Grid::SYMBOLS;
+// What an element of a subframe is: used, by its number among the used ones; or not, by its kind.
+pub enum Standing {
+    Used(u64),
+    Other(u64),
+}
+
+// Where references lie among six subcarriers: one of the first three, one of the last three; 8 more for none.
+struct Marks {
+    low: u64,
+    high: u64,
+}
+
+// A row: its slot and symbol; and one of its subcarriers, by how many of six before it carry no reference.
+struct Spot {
+    slot: u64,
+    l: u64,
+    rest: u64,
+}
+
+// Used subcarriers of a row of all twelve: none where the row is shut, else all but the marks.
+pub struct Row {
+    pub shut: bool,
+    pub low: u64,
+    pub high: u64,
+}
 
 const NCCE_WIDTH: u64 = 6;
 
-fn is_near(g: Layout, k: u64) -> bool
-    ensures { λ r. ⌜ r ≡ near g k ⌝ }
-{
-    k % 6 == g.v
-}
+// By bytes: of six subcarriers, how many lie in the symbols of a slot before l = 0 to 7. All of them; one at symbols 0 and 4; one at
+// symbol 1; one at symbols 5 and 6.
+const ALL: u64 = 0x2a24_1e18_120c_0600;
 
-fn is_far(g: Layout, k: u64) -> bool
-    requires { ⌜ g .v < 6 ⌝ }
-    ensures { λ r. ⌜ r ≡ far g k ⌝ }
-{
-    k % 6 == (g.v + 3) % 6
-}
+const AT_0_AND_4: u64 = 0x0202_0201_0101_0100;
 
-// A narrowband reference lies on symbol l, near or far.
-fn nrs_on(g: Layout, l: u64, near: bool, far: bool) -> bool
-    ensures { λ r. ⌜ r ≡ nrsOn g l near far ⌝ }
-{
-    let first = ((l == 5) & near) | ((l == 6) & far);
-    let second = ((l == 5) & far) | ((l == 6) & near);
-    first | ((2 <= g.nports) & second)
-}
+const AT_1: u64 = 0x0101_0101_0101_0000;
 
-// A cell reference lies on symbol l, near or far.
-fn crs_on(g: Layout, l: u64, near: bool, far: bool) -> bool
-    ensures { λ r. ⌜ r ≡ crsOn g l near far ⌝ }
-{
-    let first = ((l == 0) & near) | ((l == 4) & far);
-    let second = ((l == 0) & far) | ((l == 4) & near);
-    let others = (l == 1) & (near | far);
-    ((1 <= g.cports) & first) | (((2 <= g.cports) & second) | ((4 <= g.cports) & others))
-}
+const AT_5_AND_6: u64 = 0x0201_0000_0000_0000;
 
-fn reference_on(g: Layout, l: u64, near: bool, far: bool) -> bool
-    ensures { λ r. ⌜ r ≡ referenceOn g l near far ⌝ }
-{
-    nrs_on(g, l, near, far) | crs_on(g, l, near, far)
-}
+// In bytes 1 to 6: 1, and the highest digit.
+const ONCE: u64 = 0x0001_0101_0101_0100;
 
-fn in_control(g: Layout, slot: u64, l: u64) -> bool
-    ensures { λ r. ⌜ r ≡ controlRegion g slot l ⌝ }
-{
-    (slot == 0) & (l < g.control)
-}
-
-fn in_part(from: u64, width: u64, k: u64) -> bool
-    requires { ⌜ Part from width ⌝ }
-    ensures { λ r. ⌜ r ≡ inRange from width k ⌝ }
-{
-    (from <= k) & (k < from + width)
-}
+const HIGHEST: u64 = 0x0080_8080_8080_8000;
 
 // 1 for true, 0 for false.
 fn one(b: bool) -> u64
@@ -79,30 +67,10 @@ fn one(b: bool) -> u64
     b as u64
 }
 
-// Six subcarriers by binary digits, 1 where no reference lies: near ones take digit v, far ones (v + 3) mod 6.
-fn free(v: u64, near: bool, far: bool) -> u64
-    requires { ⌜ v < 6 ⌝ }
-    ensures { λ r. ⌜ r ≡ freeOf v near far ⌝ }
+fn in_control(g: Layout, slot: u64, l: u64) -> bool
+    ensures { λ r. ⌜ r ≡ controlRegion g slot l ⌝ }
 {
-    63 - (one(near) << v) - (one(far) << ((v + 3) % 6))
-}
-
-// The used subcarriers of a row, by binary digits: its two halves are alike.
-pub fn row_mask(g: Layout, from: u64, width: u64, row: u64) -> u64
-    requires { ⌜ Valid g × Part from width × (row < rows) ⌝ }
-    ensures { λ r. ⌜ RowMask g from width row r ⌝ }
-{
-    let v = g.v;
-    let l = row % Grid::SYMBOLS;
-    if in_control(g, row / Grid::SYMBOLS, l) {
-        return 0;
-    }
-    let near = reference_on(g, l, true, false);
-    let far = reference_on(g, l, false, true);
-    let six = free(v, near, far);
-    let lower = one(in_part(from, width, 0));
-    let upper = one(in_part(from, width, NCCE_WIDTH));
-    six * (lower + 64 * upper)
+    (slot == 0) & (l < g.control)
 }
 
 // References in six subcarriers of symbols 0 and 4, and of symbol 1.
@@ -124,83 +92,41 @@ fn taken_at_1(cports: u64) -> u64
     2
 }
 
-// How many of six subcarriers carry no reference, in all symbols of a slot before l.
-fn six_before(g: Layout, l: u64) -> u64
-    requires { ⌜ Valid g × (l ≤ symbols) ⌝ }
-    ensures { λ r. ⌜ (r ≡ sixBefore (g .nports) (g .cports) l) × (r ≤ 42) ⌝ }
+// By bytes: how many of six subcarriers carry no reference, in all symbols of a slot before l = 0 to 7.
+fn sums(g: Layout) -> u64
+    requires { ⌜ Valid g ⌝ }
+    ensures { λ r. ⌜ r ≡ sumsOf (g .nports) (g .cports) ⌝ }
 {
     let n = g.nports;
     let c = taken_at_0(g.cports);
     let d = taken_at_1(g.cports);
-    let cell = c * (one(l > 0) + one(l > 4)) + d * one(l > 1);
-    6 * l - cell - n * (one(l > 5) + one(l > 6))
+    ALL - c * AT_0_AND_4 - d * AT_1 - n * AT_5_AND_6
 }
 
-// The same over the rows of a subframe, without the control region.
-fn six_in_rows(g: Layout, n: u64) -> u64
-    requires { ⌜ Valid g × (n ≤ rows) ⌝ }
-    ensures { λ r. ⌜ (r ≡ sixInRows g n) × (r ≤ 84) ⌝ }
+fn byte(sums: u64, l: u64) -> u64
+    requires { ⌜ l ≤ symbols ⌝ }
+    ensures { λ r. ⌜ (r ≡ byteOf sums l) × (r < 256) ⌝ }
 {
-    let control = g.control;
-    let skipped = six_before(g, control);
-    if n < control {
-        return 0;
+    (sums >> (8 * l)) % 256
+}
+
+// How many of six subcarriers of symbol l carry no reference.
+fn free_in(g: Layout, sums: u64, l: u64) -> u64
+    requires { ⌜ Valid g × (sums ≡ sumsOf (g .nports) (g .cports)) × (l < symbols) ⌝ }
+    ensures { λ r. ⌜ (r ≡ freeOf (g .nports) (g .cports) l) × (4 ≤ r) × (r ≤ 6) ⌝ }
+{
+    byte(sums, l + 1) - byte(sums, l)
+}
+
+// NCCEs of a part.
+fn ncces(from: u64, width: u64) -> u64
+    requires { ⌜ Part from width ⌝ }
+    ensures { λ r. ⌜ (r ≡ width / ncceWidth) × (0 < r) × (r ≤ 2) ⌝ }
+{
+    if width == NCCE_WIDTH {
+        return 1;
     }
-    if n < Grid::SYMBOLS {
-        return six_before(g, n) - skipped;
-    }
-    six_before(g, Grid::SYMBOLS) + six_before(g, n - Grid::SYMBOLS) - skipped
-}
-
-// How many elements of the first rows are used.
-fn before(g: Layout, from: u64, width: u64, n: u64) -> u64
-    requires { ⌜ Valid g × Part from width × (n ≤ rows) ⌝ }
-    ensures { λ r. ⌜ r ≡ numberOf g from width (subcarriers * n) ⌝ }
-{
-    width / NCCE_WIDTH * six_in_rows(g, n)
-}
-
-// E: how many elements are used.
-pub fn count(g: Layout, from: u64, width: u64) -> u64
-    requires { ⌜ Valid g × Part from width ⌝ }
-    ensures { λ r. ⌜ r ≡ countOf g from width ⌝ }
-{
-    before(g, from, width, ROWS)
-}
-
-// The number of an element: how many before it are used.
-pub fn number(g: Layout, from: u64, width: u64, x: u64) -> u64
-    requires { ⌜ Valid g × Part from width × (x < elements) ⌝ }
-    ensures { λ r. ⌜ r ≡ numberOf g from width x ⌝ }
-{
-    let row = x / Grid::SUBCARRIERS;
-    let mask = row_mask(g, from, width, row);
-    before(g, from, width, row) + counting::ones_of(counting::low(mask, x % Grid::SUBCARRIERS))
-}
-
-// The symbol of a slot with the y-th of the subcarriers that six_before counts.
-fn symbol_with(g: Layout, y: u64) -> u64
-    requires { ⌜ Valid g × (y < sixBefore (g .nports) (g .cports) symbols) ⌝ }
-    ensures { λ r. ⌜ (r < symbols) × (sixBefore (g .nports) (g .cports) r ≤ y) × (y < sixBefore (g .nports) (g .cports) (r + 1)) ⌝ }
-{
-    let early = one(six_before(g, 1) <= y)
-        + one(six_before(g, 2) <= y)
-        + one(six_before(g, 3) <= y);
-    let late = one(six_before(g, 4) <= y) + one(six_before(g, 5) <= y) + one(six_before(g, 6) <= y);
-    early + late
-}
-
-// The row with the q-th of the subcarriers that six_in_rows counts.
-fn row_with(g: Layout, q: u64) -> u64
-    requires { ⌜ Valid g × (q < sixInRows g rows) ⌝ }
-    ensures { λ r. ⌜ (r < rows) × (sixInRows g r ≤ q) × (q < sixInRows g (r + 1)) ⌝ }
-{
-    let y = q + six_before(g, g.control);
-    let slot = six_before(g, Grid::SYMBOLS);
-    if y < slot {
-        return symbol_with(g, y);
-    }
-    Grid::SYMBOLS + symbol_with(g, y - slot)
+    2
 }
 
 // e over the NCCEs of a part.
@@ -214,34 +140,165 @@ fn over_ncces(from: u64, width: u64, e: u64) -> u64
     e / 2
 }
 
+// E: how many elements are used.
+pub fn count(g: Layout, from: u64, width: u64) -> u64
+    requires { ⌜ Valid g × Part from width ⌝ }
+    ensures { λ r. ⌜ r ≡ countOf g from width ⌝ }
+{
+    let s = sums(g);
+    let six = 2 * byte(s, Grid::SYMBOLS) - byte(s, g.control);
+    ncces(from, width) * six
+}
+
+// The references of symbol l, so many of six: first the near ones, at v, but on symbols 4 and 6 the far ones.
+fn marks_on(v: u64, l: u64, taken: u64) -> Marks
+    requires { ⌜ (v < 6) × (taken ≤ 2) ⌝ }
+    ensures { λ r. ⌜ r ≡ marksOf v l taken ⌝ }
+{
+    let upper = one(3 <= v);
+    let low = v - 3 * upper;
+    let far = one((l == 4) | (l == 6));
+    let first = one(far == upper);
+    Marks {
+        low: low + 8 * one(taken + first < 2),
+        high: low + 3 + 8 * one(taken < 1 + first),
+    }
+}
+
+// The symbol of a slot with the y-th of the subcarriers that are counted: all bytes compared at once, and the passed ones counted.
+fn symbol_with(g: Layout, sums: u64, y: u64) -> u64
+    requires { ⌜ Valid g × (sums ≡ sumsOf (g .nports) (g .cports)) × (y < sixBefore (g .nports) (g .cports) symbols) ⌝ }
+    ensures { λ r. ⌜ (r < symbols) × (sixBefore (g .nports) (g .cports) r ≤ y) × (y < sixBefore (g .nports) (g .cports) (r + 1)) ⌝ }
+{
+    let passed = ((y * ONCE + HIGHEST - sums % (1 << 56)) & HIGHEST) >> 15;
+    let two = passed + (passed >> 24);
+    (two + (two >> 8) + (two >> 16)) % 8
+}
+
+// The row with the q-th of the subcarriers that are counted, control region left out, and which one of the row it is.
+fn row_with(g: Layout, sums: u64, q: u64) -> Spot
+    requires { ⌜ Valid g × (sums ≡ sumsOf (g .nports) (g .cports)) × (q < sixInRows g rows) ⌝ }
+    ensures { λ r. ⌜ SpotOf g q r ⌝ }
+{
+    let y = q + byte(sums, g.control);
+    let whole = byte(sums, Grid::SYMBOLS);
+    let slot = one(whole <= y);
+    let z = y - whole * slot;
+    let l = symbol_with(g, sums, z);
+    Spot {
+        slot,
+        l,
+        rest: z - byte(sums, l),
+    }
+}
+
+// The j-th of six subcarriers that carry no reference.
+fn nth_free(m: Marks, j: u64) -> u64
+    requires { ⌜ j < 2 ^ 32 ⌝ }
+    ensures { λ r. ⌜ (r ≡ nthFree m j) × (r ≤ j + 2) ⌝ }
+{
+    let k = j + one(m.low <= j);
+    k + one(m.high <= k)
+}
+
+// The subcarrier with the j-th used element of a row; `free` of six are.
+fn nth_in(m: Marks, free: u64, from: u64, j: u64) -> u64
+    requires { ⌜ (free ≤ 6) × (from ≤ 6) × (j < 2 ^ 32) ⌝ }
+    ensures { λ r. ⌜ r ≡ nthIn m free from j ⌝ }
+{
+    let upper = one(free <= j);
+    from + NCCE_WIDTH * upper + nth_free(m, j - free * upper)
+}
+
 // The e-th used element.
 pub fn element_at(g: Layout, from: u64, width: u64, e: u64) -> u64
     requires { ⌜ Valid g × Part from width × (e < countOf g from width) ⌝ }
     ensures { λ r. ⌜ r ≡ elementAt g from width e ⌝ }
 {
-    let row = row_with(g, over_ncces(from, width, e));
-    let left = e - before(g, from, width, row);
-    Grid::SUBCARRIERS * row + counting::nth_one(row_mask(g, from, width, row), left)
+    let s = sums(g);
+    let n = ncces(from, width);
+    let q = over_ncces(from, width, e);
+    let spot = row_with(g, s, q);
+    let l = spot.l;
+    let free = free_in(g, s, l);
+    let j = n * spot.rest + (e - n * q);
+    let k = nth_in(marks_on(g.v, l, 6 - free), free, from, j);
+    Grid::element(spot.slot, l, k)
 }
 
-pub fn is_used(g: Layout, from: u64, width: u64, x: u64) -> bool
-    requires { ⌜ Valid g × Part from width × (x < elements) ⌝ }
-    ensures { λ r. ⌜ r ≡ used g from width x ⌝ }
+fn in_part(from: u64, width: u64, k: u64) -> bool
+    requires { ⌜ Part from width ⌝ }
+    ensures { λ r. ⌜ r ≡ inRange from width k ⌝ }
 {
-    let mask = row_mask(g, from, width, x / Grid::SUBCARRIERS);
-    (mask >> (x % Grid::SUBCARRIERS)) % 2 == 1
+    (from <= k) & (k < from + width)
 }
 
-// 0 plain, 1 narrowband reference, 2 cell reference, 3 both.
-pub fn kind(g: Layout, x: u64) -> u64
-    requires { ⌜ Valid g ⌝ }
-    ensures { λ r. ⌜ r ≡ kindOf g x ⌝ }
+// How many used elements of a row come before subcarrier k, number `six` of its six.
+fn before_in(m: Marks, free: u64, from: u64, k: u64, six: u64) -> u64
+    requires { ⌜ (free ≤ 6) × (from ≤ 6) × (six < 6) × (3 ≤ m .high) ⌝ }
+    ensures { λ r. ⌜ (r ≡ placeIn m free from k six) × (r ≤ 12) ⌝ }
 {
-    let l = Grid::symbol(x);
-    let k = Grid::subcarrier(x);
-    let near = is_near(g, k);
-    let far = is_far(g, k);
-    one(nrs_on(g, l, near, far)) + 2 * one(crs_on(g, l, near, far))
+    let past = one(from + NCCE_WIDTH <= k);
+    past * free + six - one(m.low < six) - one(m.high < six)
+}
+
+// The number of a row's first used element; the row is no control region.
+fn row_start(g: Layout, sums: u64, from: u64, width: u64, slot: u64, l: u64) -> u64
+    requires { ⌜ Valid g × (sums ≡ sumsOf (g .nports) (g .cports)) × Part from width × (slot < slots) × (l < symbols) × (controlRegion g slot l ≡ false) ⌝ }
+    ensures { λ r. ⌜ (r ≡ numberOf g from width (elementOf slot l 0)) × (r ≤ elements) ⌝ }
+{
+    let six = slot * byte(sums, Grid::SYMBOLS) + byte(sums, l) - byte(sums, g.control);
+    ncces(from, width) * six
+}
+
+// Narrowband references lie on symbols 5 and 6, cell references before.
+fn reference_kind(l: u64) -> u64
+    ensures { λ r. ⌜ r ≡ referenceKind l ⌝ }
+{
+    if l < 5 {
+        return 2;
+    }
+    1
+}
+
+// An element: used, with its number; or not, with its kind: 0 plain, 1 narrowband reference, 2 cell reference.
+pub fn stands_at(g: Layout, from: u64, width: u64, slot: u64, l: u64, k: u64) -> Standing
+    requires { ⌜ Valid g × Part from width × (slot < slots) × (l < symbols) × (k < subcarriers) ⌝ }
+    ensures { λ r. ⌜ r ≡ standingOf g from width (elementOf slot l k) ⌝ }
+{
+    let s = sums(g);
+    let free = free_in(g, s, l);
+    let m = marks_on(g.v, l, 6 - free);
+    let six = k - NCCE_WIDTH * one(NCCE_WIDTH <= k);
+    if (six == m.low) | (six == m.high) {
+        return Standing::Other(reference_kind(l));
+    }
+    if in_control(g, slot, l) | !in_part(from, width, k) {
+        return Standing::Other(0);
+    }
+    let start = row_start(g, s, from, width, slot, l);
+    Standing::Used(start + before_in(m, free, from, k, six))
+}
+
+// The used subcarriers of a row of all twelve.
+pub fn used_row(g: Layout, slot: u64, l: u64) -> Row
+    requires { ⌜ Valid g × (slot < slots) × (l < symbols) ⌝ }
+    ensures { λ r. ⌜ RowOf g slot l r ⌝ }
+{
+    let free = free_in(g, sums(g), l);
+    let m = marks_on(g.v, l, 6 - free);
+    Row {
+        shut: in_control(g, slot, l),
+        low: m.low,
+        high: m.high,
+    }
+}
+
+pub fn has(r: Row, k: u64) -> bool
+    ensures { λ u. ⌜ u ≡ hasIn r k ⌝ }
+{
+    let six = k % NCCE_WIDTH;
+    !r.shut & ((six != r.low) & (six != r.high))
 }
 
 // NPDCCH format 0 uses one NCCE, format 1 both: the first subcarrier, and how many.

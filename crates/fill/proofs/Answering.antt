@@ -8,15 +8,20 @@ use lib.Dec.{eqb, ltb}
 use lib.Ieee.{Float}
 use lib.ListN.{length}
 use borrow.Author.Tests.{eq-eqb, ne-eqb, eqb-true, ltb-true, not-false}
+use Rattle.counting.specs.Counting.{count}
 use Rattle.counting.proofs.Facts.{both-parts}
 use Rattle.grid.specs.Grid.{subcarriers, symbols, slots, slotElements, numbers, elementOf}
 use Rattle.cell.specs.declared.Cell.{Cell}
+use Rattle.elements.specs.declared.Layout.{Layout}
+use Rattle.elements.specs.Elements.{used}
+use Rattle.subframes.specs.Cells.{layoutOf}
 use Rattle.subframes.specs.Answers.{insideGrid}
 use Rattle.downlink.specs.declared.DownlinkGrant.{DownlinkGrant}
 use Rattle.symbol.specs.declared.Symbol.{Symbol}
 use Rattle.symbol.specs.declared.Outgoing.{Outgoing}
 use Rattle.symbol.specs.declared.Element.the-variants.{Refused}
 use Rattle.symbol.specs.Outgoing.{writtenOf, answerOf}
+use Rattle.symbol.specs.Quick.{symbolsOf}
 use Rattle.fill.specs.declared.Call.{Call}
 use Rattle.fill.specs.GoesOut.{outgoingOf}
 use Rattle.fill.specs.Refusals.{fillRefusal}
@@ -25,6 +30,7 @@ use Rattle.fill.specs.Element.{elementAnswer}
 use Rattle.fill.specs.Quick.{goesIn, writtenIn, CallFor}
 use Rattle.fill.proofs.Laid.{laid-plus, laid-same}
 use Rattle.fill.proofs.Calling.{call-passed}
+use Rattle.fill.proofs.Going.{first-on, second-on, written-from}
 
 module _ (c : Cell) (anchor other : List ℕ) (g : DownlinkGrant) (i : ℕ) (bits : List ℕ) (level : Float) where
   -- ---- the fill
@@ -39,18 +45,21 @@ module _ (c : Cell) (anchor other : List ℕ) (g : DownlinkGrant) (i : ℕ) (bit
         sym (ap (λ (t : Bool). cond t (filledOf c anchor other g i bits level) out)
         (ne-eqb (fillRefusal c anchor other g i bits level out) 0 (λ z. n (j .number ∙ z))))
 
-    -- both slots, one after the other
-    pub both-slots : k .no ≡ 0
-        → laid (writtenIn (k .layout) (k .first) bits level (0 * slotElements)) slotElements ++ laid (writtenIn (k .layout) (k .first) bits level (1 * slotElements)) slotElements
+    -- both slots, one after the other; symbol n is the first of the second
+    pub both-slots : (h : Layout) (four : List Symbol) (n : ℕ) → h ≡ layoutOf c → four ≡ symbolsOf level
+        → n ≡ k .first + count (used h 0 subcarriers) (0 * slotElements) slotElements → k .no ≡ 0
+        → laid (writtenIn h (k .first) bits four (0 * slotElements)) slotElements ++ laid (writtenIn h n bits four (1 * slotElements)) slotElements
         ≡ filledOf c anchor other g i bits level
     unfolding filledOf
-    both-slots z =
+    both-slots h four n hl hf hn z =
         let at : ℕ → Symbol = λ x. writtenOf bits level (outgoingOf c anchor other g i x) in
+        let is : (x : ℕ) → writtenOf bits level (goesIn h (k .first) x) ≡ at x = λ x.
+        ap (λ (y : Layout). writtenOf bits level (goesIn y (k .first) x)) hl ∙ ap (writtenOf bits level) (j .going z x) in
         ap₂ (λ (a b : List Float). a ++ b)
-        (laid-same (writtenIn (k .layout) (k .first) bits level (0 * slotElements)) at slotElements
-        (λ x. ap (λ (y : ℕ). writtenOf bits level (goesIn (k .layout) (k .first) y)) (zero-add x) ∙ ap (writtenOf bits level) (j .going z x)))
-        (laid-same (writtenIn (k .layout) (k .first) bits level (1 * slotElements)) (λ x. at (slotElements + x)) slotElements
-        (λ x. ap (writtenOf bits level) (j .going z (slotElements + x))))
+        (laid-same (writtenIn h (k .first) bits four 0) at slotElements
+        (λ x. written-from h (k .first) bits level four hf (k .first) 0 x (first-on h (k .first)) ∙ ap (λ (y : ℕ). writtenOf bits level (goesIn h (k .first) y)) (zero-add x) ∙ is x))
+        (laid-same (writtenIn h n bits four slotElements) (λ x. at (slotElements + x)) slotElements
+        (λ x. written-from h (k .first) bits level four hf n slotElements x (second-on h (k .first) n hn) ∙ is (slotElements + x)))
         ∙ sym (laid-plus at slotElements slotElements)
 
     pub output-filled : k .no ≡ 0 → filledOf c anchor other g i bits level ≡ outputOf c anchor other g i bits level out
@@ -72,9 +81,10 @@ module _ (c : Cell) (anchor other : List ℕ) (g : DownlinkGrant) (i : ℕ) (bit
     unfolding elementAnswer
     element-refused n = rw (← j .number, ne-eqb (v .no) 0 n) refl
 
-    pub element-answered : (x : ℕ) (o : Outgoing) → v .no ≡ 0 → x ≡ elementOf slot l k → o ≡ goesIn (v .layout) (v .first) x
+    pub element-answered : (h : Layout) (o : Outgoing) → v .no ≡ 0 → h ≡ layoutOf c → o ≡ goesIn h (v .first) (elementOf slot l k)
         → answerOf bits level o ≡ elementAnswer c anchor other g i slot l k bits level
     unfolding elementAnswer
-    element-answered x o z hx ho =
+    element-answered h o z hl ho =
+        let x = elementOf slot l k in
         rw (← j .number, eq-eqb (v .no) 0 z)
-        (ap (answerOf bits level) (ho ∙ j .going z x ∙ ap (outgoingOf c anchor other g i) hx))
+        (ap (answerOf bits level) (ho ∙ ap (λ (y : Layout). goesIn y (v .first) x) hl ∙ j .going z x))

@@ -112,7 +112,7 @@ module _ (c : Cell) (anchor other : List ℕ) (g : DownlinkGrant) (i : ℕ) (out
             small = omega (arith, within, mul-le-mul (fits .codewordSmall) (count-le (layoutOf c) 0 subcarriers));
           }
 
-      accepted-at : lateRefusal (burstOf c g) i outside bits wrong level ≡ 0 → Judged (record { no = 0; layout = layoutOf c; first = unit * W })
+      accepted-at : lateRefusal (burstOf c g) i outside bits wrong level ≡ 0 → Judged (record { no = 0; first = unit * W })
       accepted-at e = record {
         number = sym e ∙ by-late z;
         prepared = λ y. prepared-by e;
@@ -121,12 +121,12 @@ module _ (c : Cell) (anchor other : List ℕ) (g : DownlinkGrant) (i : ℕ) (out
 
     pub accepted : (n w u : ℕ) → q .no ≡ 0 → n ≡ lateRefusal (q .burst) i outside bits wrong level → n ≡ 0
         → w ≡ countOf (q .burst .layout) (q .burst .low) (q .burst .width) → u ≡ carried (q .burst .row) 1 (q .burst .codeword) i
-        → Judged (record { no = 0; layout = q .burst .layout; first = u * w })
+        → Judged (record { no = 0; first = u * w })
     accepted n w u z e h hw hu =
         let b = r .burst z in
         let m : u * w ≡ unit z * W z = ap₂ (λ (x y : ℕ). x * y)
         (hu ∙ ap (λ (d : Burst). carried (d .row) 1 (d .codeword) i) b) (hw ∙ ap (λ (d : Burst). countOf (d .layout) (d .low) (d .width)) b) in
-        subst Judged (sym (λ k. record { no = 0; layout = b k .layout; first = m k })) (accepted-at z (sym (late-is n e z) ∙ h))
+        subst Judged (sym (λ k. record { no = 0; first = m k })) (accepted-at z (sym (late-is n e z) ∙ h))
 
   -- an accepted call passed 14 and 15
   pub call-passed : (k : Call) → Judged k → k .no ≡ 0 → Passed (burstOf c g) i outside bits wrong

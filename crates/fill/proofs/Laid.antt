@@ -1,6 +1,6 @@
 -- Numbers of elements, one after the other: more of them, all of them, and two parts joined.
 use mathlib.Core.List.{List, [], _∷_, _++_, append-assoc, append-nil}
-use mathlib.Core.Path.{_≡_, refl, sym, ap, _∙_, fun-ext}
+use mathlib.Core.Path.{_≡_, refl, sym, ap, ap₂, _∙_, fun-ext}
 use mathlib.Core.Logic.{⊎-elim}
 use Prim.Native.Nat.{ℕ, zero, suc, _+_, _-_, _*_, _<_}
 use native.Mathlib.Nat.{add-zero, add-suc, eq-or-lt-of-le, le-of-suc-le-suc}
@@ -21,20 +21,21 @@ pub laid-none : (f : ℕ → Symbol) → [] ≡ laid f 0
 unfolding laid
 laid-none f = refl
 
--- one more element's two numbers, stored
-pub laid-more : (f : ℕ → Symbol) (l : List Float) (i : ℕ) (s : Symbol) → 2 * i + 1 < length l → take (2 * i) l ≡ laid f i → s ≡ f i
-    → take (2 * (i + 1)) (set (set l (2 * i) (s .re)) (2 * i + 1) (s .im)) ≡ laid f (i + 1)
+-- one more element's two numbers, stored after what stands before
+pub laid-more : (p : List Float) (f : ℕ → Symbol) (l : List Float) (i k : ℕ) (s : Symbol) → 2 * i + 1 < length l → take (2 * i) l ≡ p ++ laid f k → s ≡ f k
+    → take (2 * (i + 1)) (set (set l (2 * i) (s .re)) (2 * i + 1) (s .im)) ≡ p ++ laid f (k + 1)
 unfolding laid
-laid-more f l i s h e q =
+laid-more p f l i k s h e q =
     let n : 2 * (i + 1) ≡ suc (2 * i + 1) = omega arith in
     let m : 2 * i + 1 ≡ suc (2 * i) = omega arith in
     ap (λ (k : ℕ). take k (set (set l (2 * i) (s .re)) (2 * i + 1) (s .im))) n
     ∙ take-suc-set (set l (2 * i) (s .re)) (2 * i + 1) (s .im) (simp length-set h)
     ∙ ap (λ (a : List Float). a ++ (s .im ∷ []))
     (ap (λ (k : ℕ). take k (set l (2 * i) (s .re))) m ∙ take-suc-set l (2 * i) (s .re) (omega arith) ∙ ap (λ (a : List Float). a ++ (s .re ∷ [])) e)
-    ∙ append-assoc (laid f i) (s .re ∷ []) (s .im ∷ [])
-    ∙ ap (λ (y : Symbol). laid f i ++ (y .re ∷ y .im ∷ [])) q
-    ∙ sym (ap (laid f) (add-one i))
+    ∙ append-assoc (p ++ laid f k) (s .re ∷ []) (s .im ∷ [])
+    ∙ append-assoc p (laid f k) (s .re ∷ s .im ∷ [])
+    ∙ ap (λ (y : Symbol). p ++ (laid f k ++ (y .re ∷ y .im ∷ []))) q
+    ∙ sym (ap (λ (x : ℕ). p ++ laid f x) (add-one k))
 
 pub laid-all : (f : ℕ → Symbol) (l : List Float) (i n : ℕ) → length l ≡ 2 * n → i ≡ n → take (2 * i) l ≡ laid f i → l ≡ laid f n
 laid-all f l i n h q e = sym (take-all (2 * i) l (omega arith)) ∙ e ∙ ap (laid f) q
@@ -48,6 +49,12 @@ laid-plus f m (suc n) =
 
 pub laid-same : (f g : ℕ → Symbol) (n : ℕ) → ((x : ℕ) → f x ≡ g x) → laid f n ≡ laid g n
 laid-same f g n h = ap (λ (k : ℕ → Symbol). laid k n) (fun-ext h)
+
+pub laid-below : (f g : ℕ → Symbol) (n : ℕ) → ((x : ℕ) → x < n → f x ≡ g x) → laid f n ≡ laid g n
+unfolding laid
+laid-below f g zero h = refl
+laid-below f g (suc n) h =
+    ap₂ (λ (a : List Float) (y : Symbol). a ++ (y .re ∷ y .im ∷ [])) (laid-below f g n (λ x l. h x (omega arith))) (h n (omega arith))
 
 -- the numbers of element x stand at twice x
 pub laid-at : (f : ℕ → Symbol) (n x : ℕ) (d : Float) → x < n → (getD (laid f n) (2 * x) d ≡ f x .re) × (getD (laid f n) (2 * x + 1) d ≡ f x .im)

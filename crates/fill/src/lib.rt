@@ -1,29 +1,32 @@
 // NPDSCH on one port: the numbers of one transmitted subframe, or one element of it.
 ghost use mathlib.Core.Bool.{false};
 ghost use mathlib.Core.Path.{_≡_};
-ghost use Prim.Native.Nat.{_+_, _*_, _<_};
-ghost use lib.ListN.{length, set};
-ghost use Rattle.grid.specs.Grid.{subcarriers, slots, slotElements, slotNumbers};
-ghost use Rattle.counting.specs.Bits.{bitAt};
-ghost use Rattle.elements.specs.Elements.{countOf};
+ghost use mathlib.Core.List.{_++_};
+ghost use Prim.Native.Nat.{_+_, _*_, _^_, _≤_, _<_};
+ghost use lib.ListN.{length, take, set};
+ghost use Rattle.counting.specs.Counting.{rank, count};
+ghost use Rattle.grid.specs.Grid.{subcarriers, symbols, slots, slotElements, slotNumbers, elementOf};
+ghost use Rattle.elements.specs.Elements.{Valid, used, countOf};
+ghost use Rattle.elements.specs.Quick.{hasIn};
 ghost use Rattle.subframes.specs.Fits.{Fits};
 ghost use Rattle.fill.specs.Refusals.{lateRefusal, fillRefusal};
 ghost use Rattle.fill.specs.Fill.{laid, outputOf};
 ghost use Rattle.fill.specs.Element.{elementAnswer};
-ghost use Rattle.fill.specs.Quick.{goesIn, writtenIn, Prepared, Counted, CallFor};
+ghost use Rattle.fill.specs.Quick.{goesIn, writtenInRow, writtenIn, CallFor};
 use cell::Cell;
 use downlink::DownlinkGrant;
 use elements::Layout;
+use elements::Row;
+use elements::Standing;
 use grid::Grid;
 use subframes::Burst;
 use symbol::Element;
 use symbol::Outgoing;
 use symbol::Symbol;
 
-// A call judged: the refusal number, and for an accepted one the layout of the subframe and the codeword symbol that goes out first in it.
+// A call judged: the refusal number, and for an accepted one the codeword symbol that goes out first in the subframe.
 struct Call {
     no: u64,
-    layout: Layout,
     first: u64,
 }
 
@@ -32,16 +35,7 @@ const SLOT_NUMBERS: usize = Grid::SLOT_NUMBERS as usize;
 fn refused(no: u64) -> Call
     ensures { λ r. ⌜ r .no ≡ no ⌝ }
 {
-    Call {
-        no,
-        layout: Layout {
-            v: 0,
-            nports: 0,
-            cports: 0,
-            control: 0,
-        },
-        first: 0,
-    }
+    Call { no, first: 0 }
 }
 
 // Refusals 14 to 17; w is the number of used elements.
@@ -99,27 +93,27 @@ fn judged(
         return refused(no);
     }
     let unit = subframes::carried_by(b, i);
-    let layout = b.layout;
     Call {
         no: 0,
-        layout,
         first: unit * w,
     }
 }
 
-// What goes out at element x, used or not; e is its number among the used ones.
-fn outgoing(call: Call, ours: bool, e: u64, x: u64) -> Outgoing
-    requires { ⌜ Counted (call .layout) (call .first) ours e x ⌝ }
-    ensures { λ r. ⌜ r ≡ goesIn (call .layout) (call .first) x ⌝ }
+// What goes out at an element.
+fn outgoing(layout: Layout, first: u64, slot: u64, l: u64, k: u64) -> Outgoing
+    requires { ⌜ Valid layout × (first < 2 ^ 32) × (slot < slots) × (l < symbols) × (k < subcarriers) ⌝ }
+    ensures { λ r. ⌜ r ≡ goesIn layout first (elementOf slot l k) ⌝ }
 {
-    if ours {
-        return Outgoing::Ours(call.first + e);
+    let at = elements::stands_at(layout, 0, Grid::SUBCARRIERS, slot, l, k);
+    match at {
+        Standing::Used(e) => Outgoing::Ours(first + e),
+        Standing::Other(kind) => {
+            if kind == 0 {
+                return Outgoing::Silent;
+            }
+            Outgoing::Reference(kind)
+        }
     }
-    let kind = elements::kind(call.layout, x);
-    if kind == 0 {
-        return Outgoing::Silent;
-    }
-    Outgoing::Reference(kind)
 }
 
 // A symbol's two numbers, at twice the place of its element.
@@ -132,36 +126,46 @@ fn put(out: &mut [f32], at: u64, s: Symbol)
     out[n + 1] = s.im;
 }
 
-// Digit k of a row's mask.
-fn is_one(mask: u64, k: u64) -> bool
-    requires { ⌜ k < subcarriers ⌝ }
-    ensures { λ r. ⌜ r ≡ bitAt mask k ⌝ }
+// The numbers of one row, from element `start` of a slot on; symbol c is the next to go out. Answers the one after the row.
+fn write_row(out: &mut [f32], start: u64, row: Row, c: u64, bits: &[u8], four: [Symbol; 4]) -> u64
+    requires { ⌜ (2 * (start + subcarriers) ≤ length (now out)) × (length (now out) ≡ slotNumbers) × (c < 2 ^ 41)
+        × (c + rank (hasIn row) subcarriers ≤ 4 * length (now bits)) ⌝ }
+    ensures { λ r. ⌜ (r ≡ c + rank (hasIn row) subcarriers) × (length (now (out .exit)) ≡ slotNumbers)
+        × (take (2 * (start + subcarriers)) (now (out .exit)) ≡ take (2 * start) (now (out .entry)) ++ laid (writtenInRow row c (now (bits .entry)) four) subcarriers) ⌝ }
 {
-    (mask >> k) % 2 == 1
+    let mut n = c;
+    let mut k: u64 = 0;
+    while k < Grid::SUBCARRIERS {
+        let ours = elements::has(row, k);
+        put(out, start + k, symbol::written(ours, four, bits, n));
+        n += ours as u64;
+        k += 1;
+    }
+    n
 }
 
-// The numbers of one slot; e counts the used elements, and each row has one mask of them.
-fn write_slot(out: &mut [f32], call: Call, slot: u64, bits: &[u8], level: f32)
-    requires { ⌜ (length (now out) ≡ slotNumbers) × (slot < slots) × Prepared (call .layout) (call .first) (now bits) ⌝ }
-    ensures { λ _. ⌜ now (out .exit) ≡ laid (writtenIn (call .layout) (call .first) (now (bits .entry)) level (slot * slotElements)) slotElements ⌝ }
+// The numbers of one slot, row by row; symbol c is the next to go out. Answers the one after the slot.
+fn write_slot(
+    out: &mut [f32],
+    layout: Layout,
+    slot: u64,
+    c: u64,
+    bits: &[u8],
+    four: [Symbol; 4],
+) -> u64
+    requires { ⌜ (length (now out) ≡ slotNumbers) × (slot < slots) × Valid layout × (c < 2 ^ 40)
+        × (c + count (used layout 0 subcarriers) (slot * slotElements) slotElements ≤ 4 * length (now bits)) ⌝ }
+    ensures { λ r. ⌜ (r ≡ c + count (used layout 0 subcarriers) (slot * slotElements) slotElements)
+        × (now (out .exit) ≡ laid (writtenIn layout c (now (bits .entry)) four (slot * slotElements)) slotElements) ⌝ }
 {
-    let layout = call.layout;
-    let start = slot * Grid::SLOT_ELEMENTS;
-    let mut e = elements::number(layout, 0, Grid::SUBCARRIERS, start);
-    let mut mask: u64 = 0;
-    let mut at: u64 = 0;
-    while at < Grid::SLOT_ELEMENTS {
-        let x = start + at;
-        let k = x % Grid::SUBCARRIERS;
-        if k == 0 {
-            mask = elements::row_mask(layout, 0, Grid::SUBCARRIERS, x / Grid::SUBCARRIERS);
-        }
-        let used = is_one(mask, k);
-        let o = outgoing(call, used, e, x);
-        put(out, at, symbol::written(o, bits, level));
-        e += used as u64;
-        at += 1;
+    let mut n = c;
+    let mut l: u64 = 0;
+    while l < Grid::SYMBOLS {
+        let row = elements::used_row(layout, slot, l);
+        n = write_row(out, Grid::SUBCARRIERS * l, row, n, bits, four);
+        l += 1;
     }
+    n
 }
 
 // The 336 numbers of transmitted subframe i; answers the refusal number, or 0.
@@ -183,8 +187,10 @@ pub fn fill(
     if call.no != 0 {
         return call.no;
     }
-    write_slot(&mut out[0..SLOT_NUMBERS], call, 0, bits, level);
-    write_slot(&mut out[SLOT_NUMBERS..], call, 1, bits, level);
+    let layout = subframes::layout(c);
+    let four = symbol::symbols(level);
+    let next = write_slot(&mut out[0..SLOT_NUMBERS], layout, 0, call.first, bits, four);
+    write_slot(&mut out[SLOT_NUMBERS..], layout, 1, next, bits, four);
     0
 }
 
@@ -208,9 +214,6 @@ pub fn element(
     if call.no != 0 {
         return Element::Refused(call.no);
     }
-    let layout = call.layout;
-    let x = Grid::element(slot, l, k);
-    let used = elements::is_used(layout, 0, Grid::SUBCARRIERS, x);
-    let e = elements::number(layout, 0, Grid::SUBCARRIERS, x);
-    symbol::answer(outgoing(call, used, e, x), bits, level)
+    let o = outgoing(subframes::layout(c), call.first, slot, l, k);
+    symbol::answer(o, bits, level)
 }

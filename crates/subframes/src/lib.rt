@@ -4,7 +4,7 @@ ghost use Prim.Native.Nat.{_+_, _*_, _^_, _≤_, _<_};
 ghost use Rattle.counting.specs.Counting.{select};
 ghost use Rattle.spans.specs.Pattern.{allows, periodOf};
 ghost use Rattle.elements.specs.Elements.{countOf};
-ghost use Rattle.grid.specs.Grid.{elements};
+ghost use Rattle.grid.specs.Grid.{elements, slots, symbols, subcarriers, elementOf};
 ghost use Rattle.sending.specs.CopyOrder.{carried};
 ghost use Rattle.sending.specs.Answer.{backOf};
 ghost use Rattle.subframes.specs.Fits.{Fits, Going};
@@ -14,6 +14,7 @@ ghost use Rattle.subframes.specs.Mapping.{sentSubframes};
 ghost use Rattle.subframes.specs.Answers.{refusedPlan, refusedPlace, placeOf, burstPlan, burstForward, burstBackward, planAnswer, forwardAnswer, backwardAnswer};
 use cell::Cell;
 use elements::Layout;
+use elements::Standing;
 use grid::Grid;
 use sending::Back;
 use spans::Found;
@@ -175,17 +176,19 @@ fn burst_forward(p: Pattern, b: Burst, position: u64) -> DownlinkPlace
 }
 
 // What stands at an element of subframe t, the i-th that is sent.
-fn in_sent(b: Burst, i: u64, x: u64) -> Back
-    requires { ⌜ Fits b × (i ≤ 2 ^ 20) × (x < elements) ⌝ }
-    ensures { λ r. ⌜ r ≡ backOf (standsIn b i x) ⌝ }
+fn in_sent(b: Burst, i: u64, slot: u64, l: u64, k: u64) -> Back
+    requires { ⌜ Fits b × (i ≤ 2 ^ 20) × (slot < slots) × (l < symbols) × (k < subcarriers) ⌝ }
+    ensures { λ r. ⌜ r ≡ backOf (standsIn b i (elementOf slot l k)) ⌝ }
 {
-    if elements::is_used(b.layout, b.low, b.width, x) {
-        let w = used_elements(b);
-        let e = elements::number(b.layout, b.low, b.width, x);
-        let unit = carried_by(b, i);
-        return sending::ours(item(unit, w, e), item(i, w, e));
+    let at = elements::stands_at(b.layout, b.low, b.width, slot, l, k);
+    match at {
+        Standing::Used(e) => {
+            let w = used_elements(b);
+            let unit = carried_by(b, i);
+            sending::ours(item(unit, w, e), item(i, w, e))
+        }
+        Standing::Other(kind) => sending::other(kind),
     }
-    sending::other(elements::kind(b.layout, x))
 }
 
 // What stands at an element of subframe t.
@@ -199,7 +202,7 @@ fn burst_backward(p: Pattern, b: Burst, t: u64, slot: u64, l: u64, k: u64) -> Ba
     }
     let found = spans::locate(p, b.from, b.skip, sent_subframes(b), t);
     match found {
-        Found::At(i) => in_sent(b, i, Grid::element(slot, l, k)),
+        Found::At(i) => in_sent(b, i, slot, l, k),
         Found::Nothing => sending::other(0),
     }
 }

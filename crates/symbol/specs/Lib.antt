@@ -1,2 +1,3 @@
 pub mod Symbol
 pub mod Outgoing
+pub mod Quick

@@ -1,10 +1,11 @@
 // QPSK symbols from lent bits, and what an element of the grid gets: a symbol, a reference or nothing.
+ghost use mathlib.Core.Bool.{true, cond};
 ghost use mathlib.Core.Path.{_≡_};
 ghost use Prim.Native.Nat.{_*_, _<_};
 ghost use lib.ListN.{length};
-ghost use Rattle.counting.specs.Bits.{bitAt};
-ghost use Rattle.symbol.specs.Symbol.{signed, qpskOf, symbolOf, levelInRange};
-ghost use Rattle.symbol.specs.Outgoing.{Within, writtenOf, answerOf, numbersOf};
+ghost use Rattle.symbol.specs.Symbol.{signed, qpskOf, levelInRange};
+ghost use Rattle.symbol.specs.Outgoing.{Within, answerOf, numbersOf};
+ghost use Rattle.symbol.specs.Quick.{symbolsOf, silence, pickedOf};
 
 // A real and an imaginary number.
 pub struct Symbol {
@@ -43,20 +44,14 @@ const LOWEST: f32 = 0.00000095367431640625;
 
 const HIGHEST: f32 = 1048576.0;
 
-// Digit i of a byte.
-fn bit(b: u8, i: u64) -> bool
-    requires { ⌜ i < 8 ⌝ }
-    ensures { λ r. ⌜ r ≡ bitAt b i ⌝ }
-{
-    (b >> i) % 2 == 1
-}
-
-// Plus for bit 0, minus for bit 1; looked up, since the bits of a codeword are hard to foresee.
+// Plus for bit 0, minus for bit 1.
 fn sign(bit: bool, x: f32) -> f32
     ensures { λ r. ⌜ r ≡ signed bit x ⌝ }
 {
-    let both = [x, -x];
-    both[bit as usize]
+    if bit {
+        return -x;
+    }
+    x
 }
 
 // The symbol of two bits at a level.
@@ -70,16 +65,25 @@ fn qpsk(first: bool, second: bool, level: f32) -> Symbol
     }
 }
 
-// Symbol c of the codeword: bits 2c and 2c + 1, the first bit the highest of its byte.
-fn symbol_at(bits: &[u8], level: f32, c: u64) -> Symbol
+// The four symbols at a level, by their two bits: to look one up takes no branch, and the bits of a codeword are hard to foresee.
+pub fn symbols(level: f32) -> [Symbol; 4]
+    ensures { λ r. ⌜ r ≡ symbolsOf level ⌝ }
+{
+    let a = qpsk(false, false, level);
+    let b = qpsk(false, true, level);
+    let c = qpsk(true, false, level);
+    let d = qpsk(true, true, level);
+    [a, b, c, d]
+}
+
+// Symbol c of the codeword, of four: bits 2c and 2c + 1, the first bit the highest of its byte.
+fn symbol_at(four: [Symbol; 4], bits: &[u8], c: u64) -> Symbol
     requires { ⌜ c < 4 * length (now bits) ⌝ }
-    ensures { λ r. ⌜ r ≡ symbolOf (now (bits .entry)) level c ⌝ }
+    ensures { λ r. ⌜ r ≡ pickedOf four (now (bits .entry)) c ⌝ }
 {
     let b = bits[(c / 4) as usize];
-    let low = 6 - 2 * (c % 4);
-    let first = bit(b, low + 1);
-    let second = bit(b, low);
-    qpsk(first, second, level)
+    let pair = (b >> (6 - 2 * (c % 4))) % 4;
+    four[pair as usize]
 }
 
 // From 2^-20 to 2^20; a NaN is not.
@@ -89,16 +93,15 @@ pub fn in_range(level: f32) -> bool
     (LOWEST <= level) & (level <= HIGHEST)
 }
 
-// The two numbers that a fill writes.
-pub fn written(o: Outgoing, bits: &[u8], level: f32) -> Symbol
-    requires { ⌜ Within (now bits) o ⌝ }
-    ensures { λ r. ⌜ r ≡ writtenOf (now (bits .entry)) level o ⌝ }
+// The two numbers that a fill writes: symbol c, of four, at an element that is ours, +0 elsewhere.
+pub fn written(ours: bool, four: [Symbol; 4], bits: &[u8], c: u64) -> Symbol
+    requires { ⌜ (ours ≡ true → c < 4 * length (now bits)) ⌝ }
+    ensures { λ r. ⌜ r ≡ cond ours (pickedOf four (now (bits .entry)) c) silence ⌝ }
 {
-    match o {
-        Outgoing::Silent => Symbol { re: 0.0, im: 0.0 },
-        Outgoing::Reference(_) => Symbol { re: 0.0, im: 0.0 },
-        Outgoing::Ours(c) => symbol_at(bits, level, c),
+    if ours {
+        return symbol_at(four, bits, c);
     }
+    Symbol { re: 0.0, im: 0.0 }
 }
 
 // The answer for one element.
@@ -110,7 +113,7 @@ pub fn answer(o: Outgoing, bits: &[u8], level: f32) -> Element
         Outgoing::Silent => Element::Silent,
         Outgoing::Reference(kind) => Element::Reference(kind),
         Outgoing::Ours(c) => {
-            let s = symbol_at(bits, level, c);
+            let s = symbol_at(symbols(level), bits, c);
             Element::Sent { re: s.re, im: s.im }
         }
     }

@@ -1,51 +1,60 @@
-use mathlib.Core.Path.{_≡_, sym, ap, subst, _∙_}
-use Prim.Native.Nat.{ℕ, _+_, _-_, _≤_}
+use mathlib.Core.Path.{_≡_, refl, ap, _∙_}
+use Prim.Native.Nat.{ℕ, _+_, _-_, _*_, _≤_, _<_}
 use native.Mathlib.Omega.{arith}
-use borrow.Author.Needs.{needs}
 use Rattle.grid.specs.Grid.{symbols}
-use Rattle.elements.proofs.Closed.{Lies, six, six-few, rows-second, row-first, row-second, past-first}
 use Rattle.elements.specs.Quick.{rows}
+use Rattle.elements.proofs.Marked.{held}
+use Rattle.elements.proofs.Closed.{six, six-at, six-few, rows-second, past-first, spot}
 use Rattle.elements.proofs.row_with.Statement.{statement}
 use Rattle.elements.proofs.row_with.Tie as tie
 
+skipped : (c : tie.After-byte) → c .byte .result ≡ six (c .before .args .g) (c .before .pre .0) (c .before .args .g .control)
+skipped c = c .byte .ensures .0 ∙ six-at _ _ _ _ (c .before .pre .1)
+
+whole : (c : tie.After-byte2) → c .byte2 .result ≡ six (c .before .before .args .g) (c .before .before .pre .0) symbols
+whole c = c .byte2 .ensures .0 ∙ six-at _ _ _ symbols (c .before .before .pre .1)
+
+few : (c : tie.Start) → c .args .q < 84
+few c =
+    omega (arith, c .pre .2, rows-second (c .args .g) (c .pre .0) rows (omega arith), six-few (c .args .g) (c .pre .0) symbols (omega arith))
+
+fits : (c : tie.After-one) → c .before .byte2 .result * c .one .result ≤ c .before .before .before .args .q + c .before .before .byte .result
+fits c = rw (c .one .ensures .0) (held (c .before .byte2 .result) (c .before .before .before .args .q + c .before .before .byte .result))
+
+below : (c : tie.After-one)
+    → c .before .before .before .args .q + c .before .before .byte .result - c .before .byte2 .result * c .one .result
+    < six (c .before .before .before .args .g) (c .before .before .before .pre .0) symbols
+below c =
+    let b = c .before in
+    let s = b .before .before in
+    past-first (s .args .g) (s .pre .0) (s .args .q) (c .one .result) 0 (s .args .q + b .before .byte .result) (b .byte2 .result) _ 0
+    (ap (λ (x : ℕ). s .args .q + x) (skipped (b .before))) (whole b) (c .one .ensures .0) refl (s .pre .2)
+
 returns : tie.Need-returns
 returns c =
-    let t = c .before in
-    let b = t .before .before in
-    let s = b .before in
-    let r = c .symbol-with .ensures in
-    let e = b .six-before .ensures .0 in
-    row-first (s .args .g) (s .pre .0) (s .args .q) (c .symbol-with .result)
-    (record { inside = r .0; from = omega (arith, r .1, e); below = omega (arith, r .2, e) })
-
--- the second slot is reached
-late : (c : tie.Else1) → six (c .before .before .before .args .g) (c .before .before .before .pre .0) symbols ≤ c .before .before .before .args .q + six (c .before .before .before .args .g) (c .before .before .before .pre .0) (c .before .before .before .args .g .control)
-late c = omega (arith, c .if1 .left, c .before .six-before2 .ensures .0, c .before .before .six-before .ensures .0)
-
-returns-2 : tie.Need-returns-2
-returns-2 c =
-    let t = c .before in
-    let b = t .before .before in
-    let s = b .before in
-    let r = c .symbol-with2 .ensures in
-    let e = b .six-before .ensures .0 in
-    let f = t .before .six-before2 .ensures .0 in
-    row-second (s .args .g) (s .pre .0) (s .args .q) (c .symbol-with2 .result) (late t)
-    (record { inside = r .0; from = omega (arith, r .1, e, f); below = omega (arith, r .2, e, f) })
+    let w = c .before in
+    let o = w .before in
+    let b = o .before in
+    let s = b .before .before in
+    let r = w .symbol-with .ensures in
+    spot (s .args .g) (s .pre .0) (s .args .q) (o .one .result) (w .symbol-with .result) (s .args .q + b .before .byte .result) (b .byte2 .result) _ (c .byte3 .result)
+    (ap (λ (x : ℕ). s .args .q + x) (skipped (b .before))) (whole b) (o .one .ensures .0) refl (c .byte3 .ensures .0 ∙ six-at _ _ _ (w .symbol-with .result) (s .pre .1))
+    (record { inside = r .0; from = r .1; below = r .2 })
 
 pub row-with-spec : {M : Type 1} → statement M
 row-with-spec =
     tie.close
     (tie.spec
-    (λ c κs. (c .pre .0, omega (arith, c .pre .0 .region)))
+    (λ c κs. omega (arith, c .pre .0 .region))
+    (λ c. omega (arith, few (c .before), c .byte .ensures .1))
+    (λ c κs. omega arith)
+    (λ c κs. tt)
+    (λ c. omega (arith, fits c, few (c .before .before .before), c .before .before .byte .ensures .1))
+    (λ c. omega (arith, fits c))
+    (λ c κs. let s = c .before .before .before in (s .pre .0, s .pre .1, below c))
+    (λ c κs. omega (arith, c .symbol-with .ensures .0))
     (λ c.
-    let s = c .before in
-    omega (arith, c .six-before .ensures .1, s .pre .1, rows-second (s .args .g) (s .pre .0) rows (omega arith), six-few (s .args .g) (s .pre .0) symbols (omega arith), six-few (s .args .g) (s .pre .0) (rows - symbols) (omega arith)))
-    (λ c κs. (c .before .pre .0, omega arith))
-    (λ c κs. let s = c .before .before .before in (s .pre .0, omega (arith, c .if1 .taken, c .before .six-before2 .ensures .0)))
-    returns
-    (λ c κs.
-    let s = c .before .before .before in
-    (s .pre .0, omega (arith, past-first (s .args .g) (s .pre .0) (s .args .q) 0 (s .pre .1) (late c), c .before .six-before2 .ensures .0, c .before .before .six-before .ensures .0)))
-    (λ c. omega (arith, c .symbol-with2 .ensures .0))
-    returns-2)
+    let w = c .before in
+    let s = w .before .before .before .before in
+    omega (arith, w .symbol-with .ensures .1, c .byte3 .ensures .0 ∙ six-at (s .args .g .nports) (s .args .g .cports) (s .args .sums) (w .symbol-with .result) (s .pre .1)))
+    returns)

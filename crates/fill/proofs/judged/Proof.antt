@@ -40,15 +40,14 @@ returns-2 c =
 
 returns-3 : tie.Need-returns-3
 returns-3 c =
-    let u = c .before in
-    let l = u .before .before in
+    let l = c .before .before in
     let w = l .before in
     let e = w .before .before in
     let q = e .before .before in
     let a = args q .args in
     accepted (a .c) (a .anchor .now) (a .other .now) (a .g) (a .i) (a .outside) (a .bits .now) (a .wrong) (a .level) (q .ready .result) _ (asked q)
-    (l .late-refusal .result) (w .used-elements .result) (u .carried-by .result) (e .if1 .left) (l .late-refusal .ensures) (u .before .if2 .left)
-    (w .used-elements .ensures .0) (u .carried-by .ensures .0)
+    (l .late-refusal .result) (w .used-elements .result) (c .carried-by .result) (e .if1 .left) (l .late-refusal .ensures) (c .before .if2 .left)
+    (w .used-elements .ensures .0) (c .carried-by .ensures .0)
 
 pub judged-spec : {M : Type 1} → statement M
 judged-spec =
@@ -58,8 +57,5 @@ judged-spec =
     (λ c κs. (fits (c .before .before), c .used-elements .ensures .0))
     (λ c κs. tt) returns-2
     (λ c κs. fits (c .before .before .before .before))
-    (λ c.
-    let u = c .before in
-    let w = u .before .before .before in
-    omega (arith, mul-le-mul (u .carried-by .ensures .1) (w .used-elements .ensures .2)))
+    (λ c. let w = c .before .before .before in omega (arith, mul-le-mul (c .carried-by .ensures .1) (w .used-elements .ensures .2)))
     returns-3)

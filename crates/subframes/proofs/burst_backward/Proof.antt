@@ -1,5 +1,5 @@
 use mathlib.Core.Bool.{true, _&&_}
-use mathlib.Core.Path.{_≡_, sym, ap, _∙_}
+use mathlib.Core.Path.{_≡_, refl, sym, ap, _∙_}
 use Prim.Native.Nat.{ℕ, _≤_, _<_, _^_}
 use native.Mathlib.Omega.{arith}
 use lib.Dec.{ltb}
@@ -51,20 +51,20 @@ burst-backward-spec =
     (λ c κs. search needs)
     (λ c κs. search needs)
     (λ c. search needs)
-    (λ c κs. parts (c .before .before .before .before .before))
     (λ c κs.
-    let f = c .before .before in
+    let f = c .before in
     let s = f .before .before .before in
     let a = s .before .before in
-    (a .pre .1, omega (arith, at-below _ _ _ _ _ (at f), s .sent-subframes .ensures .0, s .sent-subframes .ensures .2), c .element .ensures .1))
+    let i = parts (s .before) in
+    (a .pre .1, omega (arith, at-below _ _ _ _ _ (at f), s .sent-subframes .ensures .0, s .sent-subframes .ensures .2), i .0, i .1, i .2))
     (λ c. search needs)
     (λ c κs. tt)
     (λ c.
-    let f = c .before .before .before in
+    let f = c .before .before in
     let e = f .before .before .before .before in
     let a = e .before .args in
     c .in-sent .ensures
-    ∙ backward-sent _ _ (a .b) (a .t) (a .slot) (a .l) (a .k) (inside e) _ _ (at-index _ _ _ _ _ (at f) .0) (at-index _ _ _ _ _ (at f) .1) (c .before .element .ensures .0))
+    ∙ backward-sent _ _ (a .b) (a .t) (a .slot) (a .l) (a .k) (inside e) _ _ (at-index _ _ _ _ _ (at f) .0) (at-index _ _ _ _ _ (at f) .1) refl)
     (λ c.
     let l = c .before .before .before in
     let e = l .before .before in
