@@ -1,0 +1,93 @@
+/* How deep the library's calls go: each question runs on a stack that was painted before, and the deepest byte that changed tells. */
+#define _DEFAULT_SOURCE
+#include "nbiot.h"
+#include <pthread.h>
+#include <stdio.h>
+#include <string.h>
+#include <sys/mman.h>
+
+enum { STACK = 1 << 18, PAINT = 0xa5 };
+
+static uint64_t answer[8];
+static float output[336], pair[2];
+static const uint64_t cell[] = {1, 0, 5, 1, 4, 1, 1, 40}, down[] = {1000, 3, 64, 7, 9}, control[] = {1000, 64, 0, 1}, up[] = {1000, 1, 14, 5, 6, 2, 3};
+static const uint8_t anchor[] = {0xff, 0xf7, 0xdb, 0xff, 0xff}, other[5];
+static uint8_t bits[320];
+
+#define CELL cell, 8, anchor, 5, other, 5
+#define ANSWER answer, 8
+
+static uint64_t nothing(void) { return 0; }
+static uint64_t judge(void) { return nbiot_judge(CELL); }
+static uint64_t bitmap(void) { return nbiot_bitmap(CELL, ANSWER); }
+static uint64_t plan_up(void) { return nbiot_plan_up(up, 7, ANSWER); }
+static uint64_t plan_down(void) { return nbiot_plan_down(CELL, down, 5, ANSWER); }
+static uint64_t plan_control(void) { return nbiot_plan_control(CELL, control, 4, ANSWER); }
+static uint64_t forward_up(void) { return nbiot_forward_up(up, 7, 100, ANSWER); }
+static uint64_t forward_down(void) { return nbiot_forward_down(CELL, down, 5, 5000, ANSWER); }
+static uint64_t forward_control(void) { return nbiot_forward_control(CELL, control, 4, 100, ANSWER); }
+static uint64_t backward_up(void) { return nbiot_backward_up(up, 7, 2100, 2, 7, ANSWER); }
+static uint64_t backward_down(void) { return nbiot_backward_down(CELL, down, 5, 1100, 1, 2, 7, ANSWER); }
+static uint64_t backward_control(void) { return nbiot_backward_control(CELL, control, 4, 1011, 1, 2, 7, ANSWER); }
+
+static uint64_t step_up(void) {
+    uint64_t walk[8] = {100};
+    memcpy(walk + 1, up, sizeof up);
+    return nbiot_step_up(walk, 8, ANSWER);
+}
+
+static uint64_t step_down(void) {
+    uint64_t walk[14] = {5000};
+    memcpy(walk + 1, cell, sizeof cell);
+    memcpy(walk + 9, down, sizeof down);
+    return nbiot_step_down(walk, 14, anchor, 5, other, 5, ANSWER);
+}
+
+static uint64_t step_control(void) {
+    uint64_t walk[13] = {100};
+    memcpy(walk + 1, cell, sizeof cell);
+    memcpy(walk + 9, control, sizeof control);
+    return nbiot_step_control(walk, 13, anchor, 5, other, 5, ANSWER);
+}
+
+static uint64_t fill(void) { return nbiot_fill(CELL, down, 5, 20, bits, 320, 1.0f, output, 336); }
+static uint64_t element(void) { return nbiot_element(CELL, down, 5, 20, 1, 2, 7, bits, 320, 1.0f, ANSWER, pair, 2); }
+
+static void *call(void *question) {
+    return (void *)(uintptr_t)(*(uint64_t (**)(void))question)();
+}
+
+/* The bytes that a question leaves changed on a fresh stack. */
+static size_t depth(uint64_t (*question)(void), uint64_t *number) {
+    unsigned char *stack = mmap(NULL, STACK, PROT_READ | PROT_WRITE, MAP_PRIVATE | MAP_ANONYMOUS, -1, 0);
+    pthread_attr_t attributes;
+    pthread_t thread;
+    void *result;
+    size_t untouched = 0;
+    memset(stack, PAINT, STACK);
+    pthread_attr_init(&attributes);
+    pthread_attr_setstack(&attributes, stack, STACK);
+    pthread_create(&thread, &attributes, call, &question);
+    pthread_join(thread, &result);
+    while (untouched < STACK && stack[untouched] == PAINT) untouched++;
+    munmap(stack, STACK);
+    *number = (uint64_t)(uintptr_t)result;
+    return STACK - untouched;
+}
+
+int main(void) {
+    static const struct { const char *name; uint64_t (*question)(void); } questions[] = {
+        {"judge", judge}, {"bitmap", bitmap}, {"plan up", plan_up}, {"plan down", plan_down}, {"plan control", plan_control},
+        {"forward up", forward_up}, {"forward down", forward_down}, {"forward control", forward_control},
+        {"backward up", backward_up}, {"backward down", backward_down}, {"backward control", backward_control},
+        {"step up", step_up}, {"step down", step_down}, {"step control", step_control}, {"fill", fill}, {"element", element},
+    };
+    uint64_t number;
+    size_t base = depth(nothing, &number);
+    printf("| question | refusal | stack, bytes |\n|---|---|---|\n");
+    for (size_t i = 0; i < sizeof questions / sizeof *questions; i++) {
+        size_t deep = depth(questions[i].question, &number);
+        printf("| %s | %llu | %zu |\n", questions[i].name, (unsigned long long)number, deep - base);
+    }
+    return 0;
+}
