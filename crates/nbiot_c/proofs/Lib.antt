@@ -1,2 +1,3 @@
 mod Replies
+mod Walked
 pub mod Bitmap

@@ -17,6 +17,11 @@ stored vs s h =
     let e : 0 + length vs ≡ length vs = omega arith in
     sets-eq vs s 0 (omega arith) ∙ ap (λ (n : ℕ). vs ++ drop n s) e
 
+-- an answer's number returned and its numbers laid, of an equal answer
+pub put-is : {A : Type 0} (number : A → ℕ) (numbers : A → List ℕ) {a : A} (b : A) (s : List ℕ) {r : ℕ} {after : List ℕ} → a ≡ b
+    → r ≡ number a → after ≡ laid (numbers a) s → (r ≡ number b) × (after ≡ laid (numbers b) s)
+put-is number numbers b s e returned left = (returned ∙ ap number e, left ∙ ap (λ x. laid (numbers x) s) e)
+
 -- nothing is written where a buffer is too short
 pub unread : {said short : Bool} (numbers s : List ℕ) → said ≡ short → said ≡ true
     → (255 ≡ replyOf short numbers s .number) × (s ≡ replyOf short numbers s .answer)

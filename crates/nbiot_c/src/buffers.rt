@@ -3,13 +3,11 @@ ghost use mathlib.Core.List.{[], _∷_};
 ghost use mathlib.Core.Path.{_≡_};
 ghost use Prim.Native.Nat.{_≤_};
 ghost use lib.ListN.{length};
-ghost use Rattle.nbiot_c.specs.Buffers.{cellOf, upGrantOf, downGrantOf, controlGrantOf, upWalkOf, downWalkOf, controlWalkOf, Short2, Short3, laid};
+ghost use Rattle.nbiot_c.specs.Buffers.{cellOf, upGrantOf, downGrantOf, controlGrantOf, Short2, Short3, laid};
 use cell::Cell;
 use control::ControlGrant;
 use downlink::DownlinkGrant;
 use uplink::UplinkGrant;
-use walk::Grant;
-use walk::Walk;
 
 // A buffer has fewer numbers than it needs; of two buffers, and of three.
 pub fn short2(m: usize, n: usize, s: usize, t: usize) -> bool
@@ -77,55 +75,6 @@ pub fn control_grant_of(s: &[u64]) -> ControlGrant
         r: s[1],
         format: s[2],
         ncce: s[3],
-    }
-}
-
-// A walk's record: the position, the cell of a downlink grant, and the grant.
-pub fn up_walk_of(s: &[u64]) -> Walk
-    requires { ⌜ 8 ≤ length (now s) ⌝ }
-    ensures { λ r. ⌜ r ≡ upWalkOf (now (s .entry)) ⌝ }
-{
-    let cell = Cell {
-        mode: 0,
-        carrier: 0,
-        identity: 0,
-        nports: 0,
-        cports: 0,
-        control: 0,
-        sib1: 0,
-        bits: 0,
-    };
-    let grant = Grant::Up(up_grant_of(&s[1..]));
-    Walk {
-        cell,
-        grant,
-        p: s[0],
-    }
-}
-
-pub fn down_walk_of(s: &[u64]) -> Walk
-    requires { ⌜ 14 ≤ length (now s) ⌝ }
-    ensures { λ r. ⌜ r ≡ downWalkOf (now (s .entry)) ⌝ }
-{
-    let cell = cell_of(&s[1..]);
-    let grant = Grant::Down(down_grant_of(&s[9..]));
-    Walk {
-        cell,
-        grant,
-        p: s[0],
-    }
-}
-
-pub fn control_walk_of(s: &[u64]) -> Walk
-    requires { ⌜ 13 ≤ length (now s) ⌝ }
-    ensures { λ r. ⌜ r ≡ controlWalkOf (now (s .entry)) ⌝ }
-{
-    let cell = cell_of(&s[1..]);
-    let grant = Grant::Control(control_grant_of(&s[9..]));
-    Walk {
-        cell,
-        grant,
-        p: s[0],
     }
 }
 

@@ -3,6 +3,7 @@
 ghost use mathlib.Core.Path.{_≡_};
 ghost use Rattle.nbiot_c.specs.Calls as calls;
 
+mod answers;
 mod buffers;
 
 const TOO_SHORT: u64 = 255;
@@ -48,17 +49,7 @@ pub extern "C" fn nbiot_plan_up(grant: &[u64], answer: &mut [u64]) -> u64
     if buffers::short2(7, 7, grant.len(), answer.len()) {
         return TOO_SHORT;
     }
-    let a = nbiot::plan_up(buffers::up_grant_of(grant));
-    buffers::put7(
-        answer,
-        a.no,
-        a.first,
-        a.last,
-        a.copies,
-        a.places,
-        a.size,
-        a.order,
-    )
+    answers::plan_up(grant, answer)
 }
 
 // First and last subframe, copies and places.
@@ -75,13 +66,7 @@ pub extern "C" fn nbiot_plan_down(
     if buffers::short3(8, 5, 5, cell.len(), grant.len(), answer.len()) {
         return TOO_SHORT;
     }
-    let a = nbiot::plan_down(
-        buffers::cell_of(cell),
-        anchor,
-        other,
-        buffers::down_grant_of(grant),
-    );
-    buffers::put5(answer, a.no, a.first, a.last, a.copies, a.places)
+    answers::plan_down(cell, anchor, other, grant, answer)
 }
 
 // First and last subframe, copies and places.
@@ -98,13 +83,7 @@ pub extern "C" fn nbiot_plan_control(
     if buffers::short3(8, 4, 5, cell.len(), grant.len(), answer.len()) {
         return TOO_SHORT;
     }
-    let a = nbiot::plan_control(
-        buffers::cell_of(cell),
-        anchor,
-        other,
-        buffers::control_grant_of(grant),
-    );
-    buffers::put5(answer, a.no, a.first, a.last, a.copies, a.places)
+    answers::plan_control(cell, anchor, other, grant, answer)
 }
 
 // The place of position p, and the symbol there.
@@ -115,8 +94,7 @@ pub extern "C" fn nbiot_forward_up(grant: &[u64], p: u64, answer: &mut [u64]) ->
     if buffers::short2(7, 5, grant.len(), answer.len()) {
         return TOO_SHORT;
     }
-    let a = nbiot::forward_up(buffers::up_grant_of(grant), p);
-    buffers::put5(answer, a.no, a.slot, a.l, a.k, a.symbol)
+    answers::place_up(grant, p, answer)
 }
 
 // The place of position p, and the symbol there.
@@ -134,14 +112,7 @@ pub extern "C" fn nbiot_forward_down(
     if buffers::short3(8, 5, 6, cell.len(), grant.len(), answer.len()) {
         return TOO_SHORT;
     }
-    let a = nbiot::forward_down(
-        buffers::cell_of(cell),
-        anchor,
-        other,
-        buffers::down_grant_of(grant),
-        p,
-    );
-    buffers::put6(answer, a.no, a.t, a.slot, a.l, a.k, a.symbol)
+    answers::place_down(cell, anchor, other, grant, p, answer)
 }
 
 // The place of position p, and the symbol there.
@@ -159,14 +130,7 @@ pub extern "C" fn nbiot_forward_control(
     if buffers::short3(8, 4, 6, cell.len(), grant.len(), answer.len()) {
         return TOO_SHORT;
     }
-    let a = nbiot::forward_control(
-        buffers::cell_of(cell),
-        anchor,
-        other,
-        buffers::control_grant_of(grant),
-        p,
-    );
-    buffers::put6(answer, a.no, a.t, a.slot, a.l, a.k, a.symbol)
+    answers::place_control(cell, anchor, other, grant, p, answer)
 }
 
 // What stands at symbol l and subcarrier k of a slot.
@@ -257,18 +221,12 @@ pub extern "C" fn nbiot_step_up(walk: &mut [u64], answer: &mut [u64]) -> u64
     if buffers::short2(8, 7, walk.len(), answer.len()) {
         return TOO_SHORT;
     }
-    let s = walk::step_value(buffers::up_walk_of(walk), b"", b"");
-    buffers::put1(walk, s.walk.p);
-    buffers::put7(
-        answer,
-        s.answer.no,
-        s.answer.finished,
-        s.answer.t,
-        s.answer.slot,
-        s.answer.l,
-        s.answer.k,
-        s.answer.symbol,
-    )
+    let no = answers::walked_up(walk, answer);
+    if no == 0 {
+        return answers::moved(walk);
+    }
+    let end = answers::ended_up(walk, answer);
+    answers::stopped(no, end, answer)
 }
 
 // One step of a walk: the answer at its position, which moves on.
@@ -284,18 +242,12 @@ pub extern "C" fn nbiot_step_down(
     if buffers::short2(14, 7, walk.len(), answer.len()) {
         return TOO_SHORT;
     }
-    let s = walk::step_value(buffers::down_walk_of(walk), anchor, other);
-    buffers::put1(walk, s.walk.p);
-    buffers::put7(
-        answer,
-        s.answer.no,
-        s.answer.finished,
-        s.answer.t,
-        s.answer.slot,
-        s.answer.l,
-        s.answer.k,
-        s.answer.symbol,
-    )
+    let no = answers::walked_down(walk, anchor, other, answer);
+    if no == 0 {
+        return answers::moved(walk);
+    }
+    let end = answers::ended_down(walk, anchor, other, answer);
+    answers::stopped(no, end, answer)
 }
 
 // One step of a walk: the answer at its position, which moves on.
@@ -311,18 +263,12 @@ pub extern "C" fn nbiot_step_control(
     if buffers::short2(13, 7, walk.len(), answer.len()) {
         return TOO_SHORT;
     }
-    let s = walk::step_value(buffers::control_walk_of(walk), anchor, other);
-    buffers::put1(walk, s.walk.p);
-    buffers::put7(
-        answer,
-        s.answer.no,
-        s.answer.finished,
-        s.answer.t,
-        s.answer.slot,
-        s.answer.l,
-        s.answer.k,
-        s.answer.symbol,
-    )
+    let no = answers::walked_control(walk, anchor, other, answer);
+    if no == 0 {
+        return answers::moved(walk);
+    }
+    let end = answers::ended_control(walk, anchor, other, answer);
+    answers::stopped(no, end, answer)
 }
 
 // The 336 numbers of transmitted subframe i.

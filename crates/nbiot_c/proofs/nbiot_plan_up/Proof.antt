@@ -1,6 +1,5 @@
-use mathlib.Core.Path.{ap, _∙_}
+use mathlib.Core.Path.{refl}
 use borrow.Author.Needs.{needs}
-use Rattle.nbiot_c.specs.Buffers.{upPlanNumbers}
 use Rattle.nbiot_c.specs.Calls as calls
 use Rattle.nbiot_c.proofs.Replies.{unread, replied}
 use Rattle.nbiot_c.proofs.nbiot_plan_up.Statement.{statement}
@@ -10,33 +9,18 @@ returns : tie.Need-returns
 unfolding calls.planUp
 returns c = unread _ _ (c .before .short2 .ensures .says) (c .if1 .taken)
 
-grant-fits : tie.Need-up-grant-of-requires
-grant-fits c κs = c .before .short2 .ensures .first (c .if1 .left)
-
-answer-fits : tie.Need-put7-requires
-answer-fits c κs =
-    let e = c .before .before .before in
-    e .before .short2 .ensures .last (e .if1 .left)
+room : tie.Need-plan-up-requires
+room c κs =
+    let e = c .before in
+    let short = e .before .short2 .ensures in
+    (short .first (e .if1 .left), short .last (e .if1 .left))
 
 returns-2 : tie.Need-returns-2
 unfolding calls.planUp
 returns-2 c =
     let put = c .before .before in
-    let asked = put .before .before in
-    let e = asked .before .before in
-    replied _ (e .before .short2 .ensures .says) (e .if1 .left)
-    (ap upPlanNumbers (asked .plan-up .ensures ∙ cc))
-    (put .put7 .ensures .0)
-    (put .put7 .ensures .1)
+    let e = put .before .before in
+    replied _ (e .before .short2 .ensures .says) (e .if1 .left) refl (put .plan-up .ensures .0) (put .plan-up .ensures .1)
 
 pub nbiot-plan-up-spec : {M : Type 1} → statement M
-nbiot-plan-up-spec =
-    tie.close
-    (tie.spec
-    (λ c κs. search needs)
-    returns
-    grant-fits
-    (λ c κs. search needs)
-    answer-fits
-    (λ c. search needs)
-    returns-2)
+nbiot-plan-up-spec = tie.close (tie.spec (λ c κs. search needs) returns room (λ c. search needs) returns-2)
