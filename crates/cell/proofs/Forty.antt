@@ -6,42 +6,17 @@ use mathlib.Core.Logic.{_⊎_, inl, inr, ⊎-elim}
 use Prim.Native.Nat.{ℕ, zero, suc, _+_, _-_, _*_, _/_, _%_, _^_, _≤_, _<_}
 use native.Mathlib.Nat.{zero-add}
 use native.Mathlib.Omega.{arith}
-use lib.Dec.{T, eqb, ltb, ltb→lt, eqb→eq}
+use lib.Dec.{T, eqb}
+use lib.Pow.{shr-shr}
 use lib.ListN.{getD, take}
 use lib.Seq.{getD-take}
 use borrow.Author.Tests.{eqb-true}
 use Rattle.counting.specs.Bits.{bitAt}
-use Rattle.counting.proofs.Facts.{each, each-at, alike, alike-eq, either-case}
-use Rattle.counting.proofs.Ones.{From, from-none, from-more, low-digit}
+use Rattle.counting.proofs.Facts.{each, each-at, either-case}
+use Rattle.counting.proofs.Ones.{Front, front-none, front-more}
+use Rattle.spans.specs.Pattern.{maskBit}
 use Rattle.cell.specs.Bitmap.{bytesOf, listedLength, bitOf, allowed}
-use Rattle.cell.specs.Quick.{reversedNibbles, reversedByte, Loaded}
-
--- ---- a byte in reverse
-
-reversed-table : T (each 256 (λ x. each 8 (λ i. alike (bitAt (reversedByte x) i) (bitAt x (7 - i)))))
-unfolding reversedByte
-reversed-table = tt
-
-reversed-bits : (x i : ℕ) → x < 256 → i < 8 → bitAt (reversedByte x) i ≡ bitAt x (7 - i)
-reversed-bits x i hx hi =
-    alike-eq (bitAt (reversedByte x) i) (bitAt x (7 - i))
-    (each-at 8 (λ i. alike (bitAt (reversedByte x) i) (bitAt x (7 - i)))
-    (each-at 256 (λ x. each 8 (λ i. alike (bitAt (reversedByte x) i) (bitAt x (7 - i)))) reversed-table x hx) i hi)
-
-small-table : T (each 256 (λ x. ltb (reversedByte x) 256))
-unfolding reversedByte
-small-table = tt
-
-packed-table : T (each 16 (λ x. eqb (0xf7b3d591e6a2c480 / 2 ^ (4 * x) % 16) (getD reversedNibbles x 0)))
-packed-table = tt
-
-pub nibble-packed : (x : ℕ) → x < 16 → 0xf7b3d591e6a2c480 / 2 ^ (4 * x) % 16 ≡ getD reversedNibbles x 0
-nibble-packed x h =
-    eqb→eq (0xf7b3d591e6a2c480 / 2 ^ (4 * x) % 16) (getD reversedNibbles x 0)
-    (each-at 16 (λ x. eqb (0xf7b3d591e6a2c480 / 2 ^ (4 * x) % 16) (getD reversedNibbles x 0)) packed-table x h)
-
-pub reversed-small : (x : ℕ) → x < 256 → reversedByte x < 256
-reversed-small x h = ltb→lt (reversedByte x) 256 (each-at 256 (λ x. ltb (reversedByte x) 256) small-table x h)
+use Rattle.cell.specs.Quick.{Loaded}
 
 -- ---- 0, 10 and 40 bits
 
@@ -68,7 +43,7 @@ pub some-bytes : (bits : ℕ) → listedLength bits ≡ true → (bits ≡ 0 →
 some-bytes bits h a =
     ⊎-elim (λ e. absurd (a e)) (λ r. ⊎-elim (λ e. omega (arith, two-bytes bits e)) (λ e. omega (arith, five-bytes bits e)) r) (by-length bits h)
 
-ones-table : T (each 40 (λ i. bitAt 0xff_ffff_ffff i))
+ones-table : T (each 40 (λ i. maskBit 0xff_ffff_ffff i))
 ones-table = tt
 
 true-is : (b : Bool) → T b → b ≡ true
@@ -77,72 +52,73 @@ true-is false t = absurd t
 
 module _ (b : List ℕ) (bytes : (q : ℕ) → getD b q 0 < 256) where
   abbrev byte : ℕ → ℕ
-  byte q = reversedByte (getD b q 0)
+  byte q = getD b q 0
 
-  -- byte q has bits 8q to 8q + 7
-  byte-bits : (q x : ℕ) → x < 8 → bitAt (byte q) x ≡ bitOf b (8 * q + x)
+  -- byte q has bits 8q to 8q + 7, the first the highest
+  byte-bits : (q x : ℕ) → x < 8 → bitAt (byte q) (7 - x) ≡ bitOf b (8 * q + x)
   byte-bits q x h =
       let d : (8 * q + x) / 8 ≡ q = omega arith in
       let m : (8 * q + x) % 8 ≡ x = omega arith in
-      reversed-bits (getD b q 0) x (bytes q) h ∙ (rw (d, m) refl)
+      rw (d, m) refl
 
   pub loaded-none : Loaded b 0 0xff_ffff_ffff
   unfolding allowed
-  loaded-none = record { small = omega arith; digits = λ i h. true-is (bitAt 0xff_ffff_ffff i) (each-at 40 (λ i. bitAt 0xff_ffff_ffff i) ones-table i h) }
+  loaded-none = record { small = omega arith; digits = λ i h. true-is (maskBit 0xff_ffff_ffff i) (each-at 40 (λ i. maskBit 0xff_ffff_ffff i) ones-table i h) }
 
-  forty : (q x : ℕ) → q < 5 → x < 8 → bitAt (byte q) x ≡ allowed b 40 (8 * q + x)
+  loaded-front : (bits m : ℕ) → Front (allowed b bits) 40 m → Loaded b bits m
+  loaded-front bits m p = record { small = p .small; digits = p .bits }
+
+  -- ---- forty bits, byte by byte
+
+  forty : (q x : ℕ) → q < 5 → x < 8 → bitAt (byte q) (7 - x) ≡ allowed b 40 (8 * q + x)
   unfolding allowed
   forty q x hq hx =
       let m : (8 * q + x) % 40 ≡ 8 * q + x = omega arith in
       byte-bits q x hx ∙ ap (bitOf b) (sym m)
 
-  more : (q m : ℕ) → q < 5 → From (allowed b 40) 40 (8 * q + 8) m → From (allowed b 40) 40 (8 * q) (m * 2 ^ 8 + byte q)
-  more q m h p =
-      from-more (allowed b 40) 40 (8 * q) 8 m (byte q) (omega arith) (reversed-small (getD b q 0) (bytes q)) (λ x l. forty q x h l) p
+  more : (q m : ℕ) → q < 5 → Front (allowed b 40) (8 * q) m → Front (allowed b 40) (8 * q + 8) (m * 2 ^ 8 + byte q)
+  more q m h p = front-more (allowed b 40) (8 * q) 8 m (byte q) (bytes q) (λ x l. forty q x h l) p
 
-  loaded-from : (bits m : ℕ) → From (allowed b bits) 40 0 m → Loaded b bits m
-  loaded-from bits m p = record { small = p .small; digits = λ i h. p .bits i h ∙ ap (allowed b bits) (zero-add i) }
-
-  pub loaded-forty : Loaded b 40 ((((byte 4 * 256 + byte 3) * 256 + byte 2) * 256 + byte 1) * 256 + byte 0)
+  pub loaded-forty : Loaded b 40 ((((byte 0 * 256 + byte 1) * 256 + byte 2) * 256 + byte 3) * 256 + byte 4)
   loaded-forty =
-      let e : 0 * 2 ^ 8 + byte 4 ≡ byte 4 = omega arith in
-      loaded-from 40 _
-      (more 0 _ (omega arith) (more 1 _ (omega arith) (more 2 _ (omega arith) (more 3 _ (omega arith)
-      (subst (λ (m : ℕ). From (allowed b 40) 40 32 m) e (more 4 0 (omega arith) (from-none (allowed b 40) 40)))))))
+      let e : 0 * 2 ^ 8 + byte 0 ≡ byte 0 = omega arith in
+      loaded-front 40 _
+      (more 4 _ (omega arith) (more 3 _ (omega arith) (more 2 _ (omega arith) (more 1 _ (omega arith)
+      (subst (λ (m : ℕ). Front (allowed b 40) 8 m) e (more 0 0 (omega arith) (front-none (allowed b 40))))))))
 
-  -- ten bits, once
+  -- ---- ten bits, once and four times
+
   abbrev ten : ℕ
-  ten = byte 1 % 4 * 256 + byte 0
+  ten = byte 0 * 4 + byte 1 / 64
 
-  front-bits : (x : ℕ) → x < 2 → bitAt (byte 1 % 4) x ≡ bitOf b (8 + x)
-  front-bits x h =
-      let e : byte 1 / 4 * 2 ^ 2 + byte 1 % 4 ≡ byte 1 = omega arith in
-      sym (low-digit (byte 1 / 4) (byte 1 % 4) 2 (omega arith) x h) ∙ ap (λ (m : ℕ). bitAt m x) e ∙ byte-bits 1 x (omega arith)
+  two-bits : (x : ℕ) → x < 2 → bitAt (byte 1 / 64) (1 - x) ≡ bitOf b (8 + x)
+  two-bits x h =
+      let e : 6 + (1 - x) ≡ 7 - x = omega arith in
+      ap (λ (y : ℕ). eqb (y % 2) 1) (shr-shr (byte 1) 6 (1 - x) ∙ ap (λ (y : ℕ). byte 1 / 2 ^ y) e) ∙ byte-bits 1 x (omega arith)
 
-  ten-from : From (bitOf b) 10 0 ten
-  ten-from =
-      from-more (bitOf b) 10 0 8 (byte 1 % 4) (byte 0) (omega arith) (reversed-small (getD b 0 0) (bytes 0)) (λ x h. byte-bits 0 x h)
-      (subst (λ (m : ℕ). From (bitOf b) 10 8 m) (zero-add (byte 1 % 4))
-      (from-more (bitOf b) 10 8 2 0 (byte 1 % 4) (omega arith) (omega arith) front-bits (from-none (bitOf b) 10)))
+  ten-front : Front (bitOf b) 10 ten
+  ten-front =
+      front-more (bitOf b) 8 2 (byte 0) (byte 1 / 64) (omega (arith, bytes 1)) two-bits
+      (subst (λ (m : ℕ). Front (bitOf b) 8 m) (zero-add (byte 0))
+      (front-more (bitOf b) 0 8 0 (byte 0) (bytes 0) (λ x h. byte-bits 0 x h ∙ ap (bitOf b) (omega arith)) (front-none (bitOf b))))
 
-  ten-bits : (q x : ℕ) → x < 10 → bitAt ten x ≡ allowed b 10 (10 * q + x)
+  ten-bits : (q x : ℕ) → x < 10 → bitAt ten (9 - x) ≡ allowed b 10 (10 * q + x)
   unfolding allowed
   ten-bits q x h =
       let m : (10 * q + x) % 10 ≡ x = omega arith in
-      ten-from .bits x (omega arith) ∙ ap (bitOf b) (zero-add x ∙ sym m)
+      ten-front .bits x h ∙ ap (bitOf b) (sym m)
 
-  more-ten : (q m : ℕ) → q < 4 → From (allowed b 10) 40 (10 * q + 10) m → From (allowed b 10) 40 (10 * q) (m * 2 ^ 10 + ten)
-  more-ten q m h p =
-      from-more (allowed b 10) 40 (10 * q) 10 m ten (omega arith) (ten-from .small) (λ x l. ten-bits q x l) p
+  more-ten : (q m : ℕ) → q < 4 → Front (allowed b 10) (10 * q) m → Front (allowed b 10) (10 * q + 10) (m * 2 ^ 10 + ten)
+  more-ten q m h p = front-more (allowed b 10) (10 * q) 10 m ten (ten-front .small) (λ x l. ten-bits q x l) p
 
   pub loaded-ten : Loaded b 10 (ten * 0x4010_0401)
   loaded-ten =
       let e : ((0 * 2 ^ 10 + ten) * 2 ^ 10 + ten) * 2 ^ 10 + ten ≡ ten * 0x100401 = omega arith in
       let f : ten * 0x100401 * 2 ^ 10 + ten ≡ ten * 0x4010_0401 = omega arith in
-      loaded-from 10 _
-      (subst (λ (m : ℕ). From (allowed b 10) 40 0 m) f (more-ten 0 _ (omega arith)
-      (subst (λ (m : ℕ). From (allowed b 10) 40 10 m) e
-      (more-ten 1 _ (omega arith) (more-ten 2 _ (omega arith) (more-ten 3 0 (omega arith) (from-none (allowed b 10) 40)))))))
+      loaded-front 10 _
+      (subst (λ (m : ℕ). Front (allowed b 10) 40 m) f (more-ten 3 _ (omega arith)
+      (subst (λ (m : ℕ). Front (allowed b 10) 30 m) e
+      (more-ten 2 _ (omega arith) (more-ten 1 _ (omega arith) (more-ten 0 0 (omega arith) (front-none (allowed b 10))))))))
 
 -- ---- forty bits say all, and the first bytes say all
 

@@ -3,7 +3,7 @@ use mathlib.Core.Bool.{Bool, true, false, cond, not, _&&_}
 use mathlib.Core.List.{List}
 use mathlib.Core.Path.{_≡_, refl, sym, ap, ap₂, _∙_, subst, fun-ext}
 use mathlib.Core.Logic.{_⊎_, inl, inr, ⊎-elim}
-use Prim.Native.Nat.{ℕ, zero, suc, _+_, _*_, _/_, _%_, _^_, _≤_, _<_}
+use Prim.Native.Nat.{ℕ, zero, suc, _+_, _-_, _*_, _/_, _%_, _^_, _≤_, _<_}
 use native.Mathlib.Nat.{mul-pos, zero-mul, mul-zero}
 use native.Mathlib.Omega.{arith}
 use lib.Bits.{bitAnd, and-le-l}
@@ -11,12 +11,11 @@ use lib.Dec.{eqb}
 use lib.ListN.{take}
 use borrow.Author.Tests.{eq-eqb, ne-eqb}
 use Rattle.counting.specs.Counting.{rank, count, select}
-use Rattle.counting.specs.Bits.{bitAt}
 use Rattle.counting.proofs.Facts.{order}
 use Rattle.counting.proofs.Ones.{and-bits}
 use Rattle.counting.proofs.Period.{rank-whole, repeats-times, select-same}
 use Rattle.spans.specs.declared.Pattern.{Pattern}
-use Rattle.spans.specs.Pattern.{span, withSib1, maskAt, allows, periodOf, Regular}
+use Rattle.spans.specs.Pattern.{span, maskBit, withSib1, maskAt, allows, periodOf, Regular}
 use Rattle.spans.proofs.Laws.{repeats}
 use Rattle.cell.specs.declared.Cell.{Cell}
 use Rattle.cell.specs.Bitmap.{bytesOf, listedLength, allowed, bitmapIn}
@@ -32,7 +31,7 @@ and-true false = refl
 
 module _ (c : Cell) (own : List ℕ) (m : ℕ) (fits : BitmapFits (c .bits) own) (l : Loaded own (c .bits) m) where
   -- a digit of the bitmap allows its subframe
-  digit-allows : (t : ℕ) → bitAt m (t % span) ≡ allowed (bitmapIn c own) (c .bits) t
+  digit-allows : (t : ℕ) → maskBit m (t % span) ≡ allowed (bitmapIn c own) (c .bits) t
   digit-allows t =
       l .digits (t % span) (omega arith) ∙ allowed-forty own (c .bits) t (fits .listed) ∙ sym (allowed-front own (c .bits) t (fits .listed))
 
@@ -43,7 +42,7 @@ module _ (c : Cell) (own : List ℕ) (m : ℕ) (fits : BitmapFits (c .bits) own)
 
   abbrev left : Pattern
   left = record {
-    spans = anchorPattern (c .identity) (c .sib1) .spans;
+    log = anchorPattern (c .identity) (c .sib1) .log;
     first = anchorPattern (c .identity) (c .sib1) .first;
     plain = bitAnd m (anchorPattern (c .identity) (c .sib1) .plain);
     sib1 = bitAnd m (anchorPattern (c .identity) (c .sib1) .sib1);
@@ -53,11 +52,11 @@ module _ (c : Cell) (own : List ℕ) (m : ℕ) (fits : BitmapFits (c .bits) own)
   both-masks true x y = refl
   both-masks false x y = refl
 
-  left-allows : (t : ℕ) → allows left t ≡ (bitAt m (t % span) && allows (anchorPattern (c .identity) (c .sib1)) t)
+  left-allows : (t : ℕ) → allows left t ≡ (maskBit m (t % span) && allows (anchorPattern (c .identity) (c .sib1)) t)
   unfolding allows
   left-allows t =
       let p = anchorPattern (c .identity) (c .sib1) in
-      ap (λ (x : ℕ). bitAt x (t % span)) (both-masks (withSib1 p (t / span)) (p .sib1) (p .plain)) ∙ and-bits m (maskAt p (t / span)) (t % span)
+      ap (λ (x : ℕ). maskBit x (t % span)) (both-masks (withSib1 p (t / span)) (p .sib1) (p .plain)) ∙ and-bits m (maskAt p (t / span)) (39 - t % span)
 
   pub shows-anchor : isAnchor c ≡ true → Shows c (bitmapIn c own) left
   shows-anchor e =
@@ -79,15 +78,15 @@ module _ (c : Cell) (own : List ℕ) (m : ℕ) (fits : BitmapFits (c .bits) own)
   -- ---- on a non-anchor the bitmap alone decides
 
   abbrev alone : Pattern
-  alone = record { spans = 4; first = 0; plain = m; sib1 = m }
+  alone = record { log = 2; first = 0; plain = m; sib1 = m }
 
   one-mask : (b : Bool) → cond b m m ≡ m
   one-mask true = refl
   one-mask false = refl
 
-  alone-allows : (t : ℕ) → allows alone t ≡ bitAt m (t % span)
+  alone-allows : (t : ℕ) → allows alone t ≡ maskBit m (t % span)
   unfolding allows
-  alone-allows t = ap (λ (x : ℕ). bitAt x (t % span)) (one-mask (withSib1 alone (t / span)))
+  alone-allows t = ap (λ (x : ℕ). maskBit x (t % span)) (one-mask (withSib1 alone (t / span)))
 
   pub shows-other : isAnchor c ≡ false → Shows c (bitmapIn c own) alone
   shows-other e = record {

@@ -90,16 +90,16 @@ pattern-mod a k = rw (mod-mod k 3, mod4 a, mod42 a) refl
 
 -- 16, 8 or 4 spans; so it repeats with 640 subframes, and a period has it 4, 8 or 16 times
 regular-at : (a r : ℕ) → r < 3 → Regular (record {
-  spans = bySchedule r 16 8 4;
+  log = bySchedule r 4 3 2;
   first = bySchedule r (4 * (a % 4)) (4 * (a % 2)) 0;
-  plain = 0xf7_9def_79de;
-  sib1 = cond (eqb r 2 && eqb (a % 2) 1) 0xf3_9def_39de 0xf7_9cef_79ce;
+  plain = 0x7b_9ef7_b9ef;
+  sib1 = cond (eqb r 2 && eqb (a % 2) 1) 0x7b_9cf7_b9cf 0x73_9ef7_39ef;
 })
 regular-at a zero h = record { fits = omega arith; few = omega arith; plain-small = omega arith; sib1-small = omega arith }
 regular-at a (suc zero) h = record { fits = omega arith; few = omega arith; plain-small = omega arith; sib1-small = omega arith }
 regular-at a (suc (suc zero)) h = record { fits = omega arith; few = omega arith; plain-small = omega arith; sib1-small = by (eqb (a % 2) 1) }
   where
-    by : (b : Bool) → cond b 0xf3_9def_39de 0xf7_9cef_79ce < 2 ^ 40
+    by : (b : Bool) → cond b 0x7b_9cf7_b9cf 0x73_9ef7_39ef < 2 ^ 40
     by true = omega arith
     by false = omega arith
 regular-at a (suc (suc (suc r))) h = absurd (omega arith)
@@ -111,7 +111,7 @@ anchor-regular a k = regular-at a (k % 3) (mod-lt k (lit< tt))
 turns-at : ℕ → ℕ
 turns-at r = bySchedule r 4 8 16
 
-whole-at : (r : ℕ) → r < 3 → turns-at r * (span * bySchedule r 16 8 4) ≡ period
+whole-at : (r : ℕ) → r < 3 → turns-at r * (span * 2 ^ bySchedule r 4 3 2) ≡ period
 unfolding turns-at
 whole-at zero h = refl
 whole-at (suc zero) h = refl
@@ -125,15 +125,15 @@ pub anchor-whole : (a k : ℕ) → anchorTurns k * periodOf (anchorPattern a k) 
 unfolding anchorPattern anchorTurns
 anchor-whole a k = whole-at (k % 3) (mod-lt k (lit< tt))
 
-short-at : (p : Pattern) → Regular p → (r : ℕ) → r < 3 → p .spans ≡ bySchedule r 16 8 4 → (t : ℕ) → allows p (t + 640) ≡ allows p t
+short-at : (p : Pattern) → Regular p → (r : ℕ) → r < 3 → p .log ≡ bySchedule r 4 3 2 → (t : ℕ) → allows p (t + 640) ≡ allows p t
 short-at p ok zero h e t =
-    let f : t + 1 * periodOf p ≡ t + 640 = omega arith in
+    let f : t + 1 * periodOf p ≡ t + 640 = omega (arith, ap (λ (x : ℕ). 2 ^ x) e) in
     ap (allows p) (sym f) ∙ repeats-times (allows p) (periodOf p) (repeats p ok) 1 t
 short-at p ok (suc zero) h e t =
-    let f : t + 2 * periodOf p ≡ t + 640 = omega arith in
+    let f : t + 2 * periodOf p ≡ t + 640 = omega (arith, ap (λ (x : ℕ). 2 ^ x) e) in
     ap (allows p) (sym f) ∙ repeats-times (allows p) (periodOf p) (repeats p ok) 2 t
 short-at p ok (suc (suc zero)) h e t =
-    let f : t + 4 * periodOf p ≡ t + 640 = omega arith in
+    let f : t + 4 * periodOf p ≡ t + 640 = omega (arith, ap (λ (x : ℕ). 2 ^ x) e) in
     ap (allows p) (sym f) ∙ repeats-times (allows p) (periodOf p) (repeats p ok) 4 t
 short-at p ok (suc (suc (suc r))) h e t = absurd (omega arith)
 

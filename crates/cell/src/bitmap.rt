@@ -3,12 +3,8 @@ ghost use mathlib.Core.Path.{_≡_};
 ghost use mathlib.Core.Bool.{cond};
 ghost use Prim.Native.Nat.{_<_};
 ghost use lib.Dec.{eqb};
-ghost use lib.ListN.{getD};
 ghost use Rattle.cell.specs.Bitmap.{bytesOf, listedLength, badBitmap};
-ghost use Rattle.cell.specs.Quick.{reversedNibbles, reversedByte, BitmapFits, Loaded};
-
-// The four digits of each number below 16 in reverse, at four times the number.
-const REVERSED_NIBBLES: u64 = 0xf7b3_d591_e6a2_c480;
+ghost use Rattle.cell.specs.Quick.{BitmapFits, Loaded};
 
 // Forty ones.
 const ALL: u64 = 0xff_ffff_ffff;
@@ -67,22 +63,7 @@ pub fn is_bad(bits: u64, b: &[u8]) -> bool
     false
 }
 
-fn nibble(x: u64) -> u64
-    requires { ⌜ x < 16 ⌝ }
-    ensures { λ r. ⌜ (r ≡ getD reversedNibbles x 0) × (r < 16) ⌝ }
-{
-    (REVERSED_NIBBLES >> (4 * x)) % 16
-}
-
-// A byte with its digits in reverse.
-fn reversed(x: u8) -> u64
-    ensures { λ r. ⌜ (r ≡ reversedByte x) × (r < 256) ⌝ }
-{
-    let w = wide(x);
-    nibble(w % 16) * 16 + nibble(w / 16)
-}
-
-// The forty bits of a bitmap as a number, subframe i of forty at digit i.
+// The forty bits of a bitmap as a number, the first the highest of forty digits.
 pub fn load(bits: u64, b: &[u8]) -> u64
     requires { ⌜ BitmapFits bits (now b) ⌝ }
     ensures { λ r. ⌜ Loaded (now (b .entry)) bits r ⌝ }
@@ -90,13 +71,13 @@ pub fn load(bits: u64, b: &[u8]) -> u64
     if bits == 0 {
         return ALL;
     }
-    let b0 = reversed(b[0]);
-    let b1 = reversed(b[1]);
+    let b0 = wide(b[0]);
+    let b1 = wide(b[1]);
     if bits == 10 {
-        return (b1 % 4 * 256 + b0) * FOUR_TIMES;
+        return (b0 * 4 + b1 / 64) * FOUR_TIMES;
     }
-    let b2 = reversed(b[2]);
-    let b3 = reversed(b[3]);
-    let b4 = reversed(b[4]);
-    (((b4 * 256 + b3) * 256 + b2) * 256 + b1) * 256 + b0
+    let b2 = wide(b[2]);
+    let b3 = wide(b[3]);
+    let b4 = wide(b[4]);
+    (((b0 * 256 + b1) * 256 + b2) * 256 + b3) * 256 + b4
 }

@@ -100,10 +100,10 @@ fn form_refusal(c: Cell, own: &[u8]) -> u64
 
 // What a pattern and a mask of forty both allow.
 fn withheld(p: Pattern, m: u64) -> Pattern
-    ensures { λ r. ⌜ r ≡ record { spans = p .spans; first = p .first; plain = bitAnd m (p .plain); sib1 = bitAnd m (p .sib1) } ⌝ }
+    ensures { λ r. ⌜ r ≡ record { log = p .log; first = p .first; plain = bitAnd m (p .plain); sib1 = bitAnd m (p .sib1) } ⌝ }
 {
     Pattern {
-        spans: p.spans,
+        log: p.log,
         first: p.first,
         plain: m & p.plain,
         sib1: m & p.sib1,
@@ -120,7 +120,7 @@ fn pattern(c: Cell, own: &[u8]) -> Pattern
         return withheld(anchor::pattern(c.identity, c.sib1), m);
     }
     Pattern {
-        spans: 4,
+        log: 2,
         first: 0,
         plain: m,
         sib1: m,
@@ -133,7 +133,7 @@ fn refused(no: u64) -> Verdict
     Verdict {
         no,
         pattern: Pattern {
-            spans: 4,
+            log: 2,
             first: 0,
             plain: 0,
             sib1: 0,

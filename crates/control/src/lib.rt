@@ -1,8 +1,7 @@
 // NPDCCH: plan, forward and backward of control sent in usable subframes.
 ghost use mathlib.Core.Path.{_≡_};
-ghost use Rattle.cell.specs.Bitmap.{ownBuffer, bitmapIn};
-ghost use Rattle.subframes.specs.Quick.{ReadyFor};
-ghost use Rattle.control.specs.Refusals.{aboveLargest, grantRefusal, refusalOf};
+ghost use Rattle.subframes.specs.Quick.{Judged};
+ghost use Rattle.control.specs.Refusals.{aboveLargest, grantRefusal};
 ghost use Rattle.control.specs.Questions.{burstOf, planOf, forwardOf, backwardOf};
 use cell::Cell;
 use sending::Back;
@@ -19,29 +18,11 @@ pub struct ControlGrant {
     pub ncce: u64,
 }
 
-const LAST_SUBFRAME: u64 = 0x3fff_ffff;
-
 // A field is above its largest number, or NCCE 1 with format 1.
 fn above_largest(g: ControlGrant) -> bool
     ensures { λ r. ⌜ r ≡ aboveLargest g ⌝ }
 {
     (g.format > 1) | ((g.ncce > 1) | ((g.format == 1) & (g.ncce == 1)))
-}
-
-// Refusals 9, 10 and 12.
-fn judge(g: ControlGrant) -> u64
-    ensures { λ r. ⌜ r ≡ grantRefusal g ⌝ }
-{
-    if g.n > LAST_SUBFRAME {
-        return 9;
-    }
-    if above_largest(g) {
-        return 10;
-    }
-    if !grid::is_repetition(g.r) {
-        return 12;
-    }
-    0
 }
 
 // The burst of an accepted grant.
@@ -64,24 +45,20 @@ fn burst(c: Cell, g: ControlGrant) -> Burst
     }
 }
 
-// The question judged.
-fn ready(c: Cell, anchor: &[u8], other: &[u8], g: ControlGrant) -> Ready
-    ensures { λ r. ⌜ ReadyFor c (bitmapIn c (ownBuffer c (now (anchor .entry)) (now (other .entry)))) (refusalOf c (now (anchor .entry)) (now (other .entry)) g) (burstOf c g) r ⌝ }
+// The grant judged, after its cell's number.
+fn ready(cell: u64, c: Cell, g: ControlGrant) -> Ready
+    ensures { λ r. ⌜ Judged cell (grantRefusal g) (burstOf c g) r ⌝ }
 {
-    let v = cell::judged(c, anchor, other);
-    if v.no != 0 {
-        return subframes::not_ready(v.no, v.pattern);
+    if cell != 0 {
+        return subframes::not_ready(cell);
     }
-    let no = judge(g);
+    let no = subframes::fields_refusal(g.n, above_largest(g), g.r);
     if no != 0 {
-        return subframes::not_ready(no, v.pattern);
+        return subframes::not_ready(no);
     }
-    let b = burst(c, g);
-    let pattern = v.pattern;
     Ready {
         no: 0,
-        pattern,
-        burst: b,
+        burst: burst(c, g),
     }
 }
 
@@ -89,14 +66,16 @@ fn ready(c: Cell, anchor: &[u8], other: &[u8], g: ControlGrant) -> Ready
 pub fn plan(c: Cell, anchor: &[u8], other: &[u8], g: ControlGrant) -> DownlinkPlan
     ensures { λ r. ⌜ r ≡ planOf c (now (anchor .entry)) (now (other .entry)) g ⌝ }
 {
-    subframes::plan(ready(c, anchor, other, g))
+    let v = cell::judged(c, anchor, other);
+    subframes::plan(ready(v.no, c, g), v.pattern)
 }
 
 // The place of position p, and the symbol there.
 pub fn forward(c: Cell, anchor: &[u8], other: &[u8], g: ControlGrant, p: u64) -> DownlinkPlace
     ensures { λ r. ⌜ r ≡ forwardOf c (now (anchor .entry)) (now (other .entry)) g p ⌝ }
 {
-    subframes::forward(ready(c, anchor, other, g), p)
+    let v = cell::judged(c, anchor, other);
+    subframes::forward(ready(v.no, c, g), v.pattern, p)
 }
 
 // What stands at symbol l and subcarrier k of a slot of subframe t.
@@ -112,5 +91,6 @@ pub fn backward(
 ) -> Back
     ensures { λ r. ⌜ r ≡ backwardOf c (now (anchor .entry)) (now (other .entry)) g t slot l k ⌝ }
 {
-    subframes::backward(ready(c, anchor, other, g), t, slot, l, k)
+    let v = cell::judged(c, anchor, other);
+    subframes::backward(ready(v.no, c, g), v.pattern, t, slot, l, k)
 }

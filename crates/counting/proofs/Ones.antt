@@ -3,20 +3,20 @@ use mathlib.Core.Bool.{Bool, true, false, _&&_}
 use mathlib.Core.Path.{_≡_, refl, sym, ap, ap₂, _∙_}
 use mathlib.Core.Logic.{_⊎_, inl, inr, ⊎-elim}
 use Prim.Native.Nat.{ℕ, zero, suc, _+_, _-_, _*_, _/_, _%_, _^_, _≤_, _<_}
-use native.Mathlib.Nat.{add-zero, zero-add, mod-lt, mod-eq-of-lt, mod-one, div-one, div-eq-of-lt, div-div-eq-div-mul, pow-succ'}
+use native.Mathlib.Nat.{add-zero, add-comm, zero-add, mod-lt, mod-eq-of-lt, mod-one, div-one, div-eq-of-lt, div-div-eq-div-mul, div-add-mod', pow-succ'}
 use native.Mathlib.Numerals.{add-one}
 use native.Mathlib.Omega.{arith}
 use lib.Dec.{lit<, eqb}
 use lib.Bits.{bitAnd, and-shr, and-mod}
-use lib.Count.{ones, ones-cat}
+use lib.Count.{ones, ones-step, ones-cat}
 use lib.Arith.{digits-lt}
-use lib.Pow.{mod-pow-add, mod-mod-pow, shr-shr, field, low, high, pow-mono, pow-add}
+use lib.Pow.{mod-pow-add, mod-mod-pow, shr-shr, field, low, high, pow-mono, pow-add, pow-pos}
 use mir.Val.{boolByte}
 use borrow.Author.Tests.{eq-eqb}
 use Rattle.counting.specs.Counting.{rank, count}
 use Rattle.counting.specs.Bits.{bitAt, NthOne}
 use Rattle.counting.proofs.Facts.{order}
-use Rattle.counting.proofs.Rank.{rank-count, rank-on, count-same, count-from-zero}
+use Rattle.counting.proofs.Rank.{rank-count, rank-on, rank-suc, count-same, count-from-zero}
 
 byte-digit : (d : ℕ) → d < 2 → boolByte (eqb d 1) ≡ d
 byte-digit zero h = refl
@@ -68,6 +68,46 @@ module _ (u : ℕ → Bool) (m s n : ℕ) (mask : (i : ℕ) → i < n → bitAt 
   pub span-whole : m < 2 ^ n → rank u s + ones m ≡ rank u (s + n)
   span-whole h = rw (← mod-eq-of-lt h) (span-part n (omega arith))
 
+-- a span of n numbers from s, whose mask m is read from the highest of n digits on
+module _ (u : ℕ → Bool) (m s n : ℕ) (small : m < 2 ^ n) (mask : (i : ℕ) → i < n → bitAt m (n - 1 - i) ≡ u (s + i)) where
+  pub span-top : (k : ℕ) → k ≤ n → rank u s + ones (m / 2 ^ (n - k)) ≡ rank u (s + k)
+  span-top zero h =
+      let e : n - 0 ≡ n = omega arith in
+      omega (arith, ap (λ (y : ℕ). ones (m / 2 ^ y)) e, ap ones (div-eq-of-lt {n = m} {m = 2 ^ n} small), ones-digit 0 (lit< tt), ap (rank u) (add-zero s))
+  span-top (suc k) h =
+      let x : ℕ = m / 2 ^ (n - suc k) in
+      let e : n - suc k + 1 ≡ n - k = omega arith in
+      let d : n - 1 - k ≡ n - suc k = omega arith in
+      let a : s + suc k ≡ suc (s + k) = omega arith in
+      omega (
+        arith,
+        span-top k (omega arith),
+        ones-step x,
+        ap ones (shr-shr m (n - suc k) 1 ∙ ap (λ (y : ℕ). m / 2 ^ y) e),
+        byte-digit (x % 2) (mod-lt x (lit< tt)),
+        ap boolByte (ap (bitAt m) (sym d) ∙ mask k (omega arith)),
+        ap (rank u) a,
+        rank-suc u (s + k),
+      )
+
+  pub span-all : rank u s + ones m ≡ rank u (s + n)
+  span-all =
+      let e : n - n ≡ 0 = omega arith in
+      omega (arith, span-top n (omega arith), ap ones (ap (λ (y : ℕ). m / 2 ^ y) e ∙ div-one m))
+
+-- the ones above a digit that is 1
+pub ones-above : (m k r : ℕ) → NthOne m k r → ones (m / 2 ^ (1 + r)) + (1 + k) ≡ ones m
+ones-above m k r d =
+    omega (
+      arith,
+      ap ones (sym (div-add-mod' m (2 ^ (1 + r)))) ∙ ones-cat (1 + r) (m / 2 ^ (1 + r)) (m % 2 ^ (1 + r)) (mod-lt m (pow-pos (1 + r))),
+      ones-low (1 + r) m,
+      rank-suc (bitAt m) r,
+      ap (rank (bitAt m)) (add-comm 1 r ∙ add-one r),
+      ap boolByte (d .set),
+      d .before,
+    )
+
 -- ---- what is set in both of two masks
 
 both-digits : (x y : ℕ) → x < 2 → y < 2 → eqb (bitAnd x y) 1 ≡ (eqb x 1 && eqb y 1)
@@ -102,29 +142,28 @@ module _ (y x w : ℕ) (small : x < 2 ^ w) where
   high-digit i =
       ap (λ (z : ℕ). eqb (z % 2) 1) (sym (shr-shr (y * 2 ^ w + x) w i) ∙ ap (λ (z : ℕ). z / 2 ^ i) (high y w small))
 
--- ---- a mask made from the top, w digits at a time: m has the answers of v from i up to n
+-- ---- a mask made from the top: its k digits are the first k answers of v, the first the highest
 
-pub record From (v : ℕ → Bool) (n i m : ℕ) : Type 0 where
-  pub small : m < 2 ^ (n - i)
-  pub bits : (x : ℕ) → x < n - i → bitAt m x ≡ v (i + x)
+pub record Front (v : ℕ → Bool) (k m : ℕ) : Type 0 where
+  pub small : m < 2 ^ k
+  pub bits : (x : ℕ) → x < k → bitAt m (k - 1 - x) ≡ v x
 
-pub from-none : (v : ℕ → Bool) (n : ℕ) → From v n n 0
-from-none v n =
-    let e : n - n ≡ 0 = omega arith in
-    record { small = rw e (omega arith); bits = λ x h. absurd (omega arith) }
+pub front-none : (v : ℕ → Bool) → Front v 0 0
+front-none v = record { small = omega arith; bits = λ x h. absurd (omega arith) }
 
-pub from-more : (v : ℕ → Bool) (n i w m d : ℕ) → i + w ≤ n → d < 2 ^ w → ((x : ℕ) → x < w → bitAt d x ≡ v (i + x)) → From v n (i + w) m
-    → From v n i (m * 2 ^ w + d)
-from-more v n i w m d l h e p = record { small = rw (← s, pow-add 2 (n - (i + w)) w) (digits-lt (p .small) h); bits = λ x k. at x k (order x w) }
+-- w digits more
+pub front-more : (v : ℕ → Bool) (k w m d : ℕ) → d < 2 ^ w → ((x : ℕ) → x < w → bitAt d (w - 1 - x) ≡ v (k + x)) → Front v k m
+    → Front v (k + w) (m * 2 ^ w + d)
+front-more v k w m d h e p = record { small = rw (pow-add 2 k w) (digits-lt (p .small) h); bits = λ x l. at x l (order x k) }
   where
-    s : n - (i + w) + w ≡ n - i
-    s = omega arith
-
-    at : (x : ℕ) → x < n - i → (x < w) ⊎ (w ≤ x) → bitAt (m * 2 ^ w + d) x ≡ v (i + x)
-    at x k (inl a) = low-digit m d w h x a ∙ e x a
-    at x k (inr a) =
-        let f : w + (x - w) ≡ x = omega arith in
-        ap (bitAt (m * 2 ^ w + d)) (sym f) ∙ high-digit m d w h (x - w) ∙ p .bits (x - w) (omega arith) ∙ ap v (omega arith)
+    at : (x : ℕ) → x < k + w → (x < k) ⊎ (k ≤ x) → bitAt (m * 2 ^ w + d) (k + w - 1 - x) ≡ v x
+    at x l (inl a) =
+        let f : k + w - 1 - x ≡ w + (k - 1 - x) = omega arith in
+        ap (bitAt (m * 2 ^ w + d)) f ∙ high-digit m d w h (k - 1 - x) ∙ p .bits x a
+    at x l (inr a) =
+        let f : k + w - 1 - x ≡ w - 1 - (x - k) = omega arith in
+        let g : k + (x - k) ≡ x = omega arith in
+        ap (bitAt (m * 2 ^ w + d)) f ∙ low-digit m d w h (w - 1 - (x - k)) (omega arith) ∙ e (x - k) (omega arith) ∙ ap v g
 
 -- a digit that is 1 lies below the width of its number
 pub one-below : (w m k r : ℕ) → m < 2 ^ w → NthOne m k r → r < w

@@ -1,6 +1,6 @@
 // Counting by the ones of a mask.
 ghost use mathlib.Core.Path.{_≡_};
-ghost use Prim.Native.Nat.{_%_, _^_, _<_};
+ghost use Prim.Native.Nat.{_/_, _%_, _^_, _<_};
 ghost use lib.Count.{ones};
 ghost use Rattle.counting.specs.Bits.{NthOne};
 
@@ -11,12 +11,27 @@ pub fn ones_of(m: u64) -> u64
     u64::count_ones(m) as u64
 }
 
+pub fn power_of_two(i: u64) -> u64
+    requires { ⌜ i < 64 ⌝ }
+    ensures { λ r. ⌜ r ≡ 2 ^ i ⌝ }
+{
+    1 << i
+}
+
 // The i lowest digits of m.
 pub fn low(m: u64, i: u64) -> u64
     requires { ⌜ i < 64 ⌝ }
     ensures { λ r. ⌜ r ≡ m % 2 ^ i ⌝ }
 {
-    m % (1 << i)
+    m % power_of_two(i)
+}
+
+// k over n, both of 32 digits: a division that costs less.
+pub fn quotient(k: u64, n: u64) -> u64
+    requires { ⌜ (k < 2 ^ 32) × (0 < n) × (n < 2 ^ 32) ⌝ }
+    ensures { λ r. ⌜ r ≡ k / n ⌝ }
+{
+    (k as u32 / n as u32) as u64
 }
 
 // Of each number below 16, how many digits are 1, four digits each; and the places of those digits, two digits each.

@@ -1,8 +1,7 @@
 // NPDSCH: plan, forward and backward of data sent in usable subframes.
 ghost use mathlib.Core.Path.{_≡_};
-ghost use Rattle.cell.specs.Bitmap.{ownBuffer, bitmapIn};
-ghost use Rattle.subframes.specs.Quick.{ReadyFor};
-ghost use Rattle.downlink.specs.Refusals.{aboveLargest, grantRefusal, refusalOf};
+ghost use Rattle.subframes.specs.Quick.{Judged};
+ghost use Rattle.downlink.specs.Refusals.{aboveLargest, grantRefusal};
 ghost use Rattle.downlink.specs.Questions.{burstOf, planOf, forwardOf, backwardOf};
 use cell::Cell;
 use grid::Grid;
@@ -21,29 +20,11 @@ pub struct DownlinkGrant {
     pub copies: u64,
 }
 
-const LAST_SUBFRAME: u64 = 0x3fff_ffff;
-
 // A field is above its largest number.
 fn above_largest(g: DownlinkGrant) -> bool
     ensures { λ r. ⌜ r ≡ aboveLargest g ⌝ }
 {
     (g.delay > 7) | ((g.subframes > 7) | (g.copies > 15))
-}
-
-// Refusals 9, 10 and 12.
-fn judge(g: DownlinkGrant) -> u64
-    ensures { λ r. ⌜ r ≡ grantRefusal g ⌝ }
-{
-    if g.n > LAST_SUBFRAME {
-        return 9;
-    }
-    if above_largest(g) {
-        return 10;
-    }
-    if !grid::is_repetition(g.rmax) {
-        return 12;
-    }
-    0
 }
 
 // The burst of an accepted grant.
@@ -68,24 +49,20 @@ fn burst(c: Cell, g: DownlinkGrant) -> Burst
     }
 }
 
-// The question judged.
-pub fn ready(c: Cell, anchor: &[u8], other: &[u8], g: DownlinkGrant) -> Ready
-    ensures { λ r. ⌜ ReadyFor c (bitmapIn c (ownBuffer c (now (anchor .entry)) (now (other .entry)))) (refusalOf c (now (anchor .entry)) (now (other .entry)) g) (burstOf c g) r ⌝ }
+// The grant judged, after its cell's number.
+pub fn ready(cell: u64, c: Cell, g: DownlinkGrant) -> Ready
+    ensures { λ r. ⌜ Judged cell (grantRefusal g) (burstOf c g) r ⌝ }
 {
-    let v = cell::judged(c, anchor, other);
-    if v.no != 0 {
-        return subframes::not_ready(v.no, v.pattern);
+    if cell != 0 {
+        return subframes::not_ready(cell);
     }
-    let no = judge(g);
+    let no = subframes::fields_refusal(g.n, above_largest(g), g.rmax);
     if no != 0 {
-        return subframes::not_ready(no, v.pattern);
+        return subframes::not_ready(no);
     }
-    let b = burst(c, g);
-    let pattern = v.pattern;
     Ready {
         no: 0,
-        pattern,
-        burst: b,
+        burst: burst(c, g),
     }
 }
 
@@ -93,14 +70,16 @@ pub fn ready(c: Cell, anchor: &[u8], other: &[u8], g: DownlinkGrant) -> Ready
 pub fn plan(c: Cell, anchor: &[u8], other: &[u8], g: DownlinkGrant) -> DownlinkPlan
     ensures { λ r. ⌜ r ≡ planOf c (now (anchor .entry)) (now (other .entry)) g ⌝ }
 {
-    subframes::plan(ready(c, anchor, other, g))
+    let v = cell::judged(c, anchor, other);
+    subframes::plan(ready(v.no, c, g), v.pattern)
 }
 
 // The place of position p, and the symbol there.
 pub fn forward(c: Cell, anchor: &[u8], other: &[u8], g: DownlinkGrant, p: u64) -> DownlinkPlace
     ensures { λ r. ⌜ r ≡ forwardOf c (now (anchor .entry)) (now (other .entry)) g p ⌝ }
 {
-    subframes::forward(ready(c, anchor, other, g), p)
+    let v = cell::judged(c, anchor, other);
+    subframes::forward(ready(v.no, c, g), v.pattern, p)
 }
 
 // What stands at symbol l and subcarrier k of a slot of subframe t.
@@ -116,5 +95,6 @@ pub fn backward(
 ) -> Back
     ensures { λ r. ⌜ r ≡ backwardOf c (now (anchor .entry)) (now (other .entry)) g t slot l k ⌝ }
 {
-    subframes::backward(ready(c, anchor, other, g), t, slot, l, k)
+    let v = cell::judged(c, anchor, other);
+    subframes::backward(ready(v.no, c, g), v.pattern, t, slot, l, k)
 }

@@ -17,6 +17,7 @@ use Rattle.sending.specs.CopyOrder.{carried}
 use Rattle.sending.proofs.CopyOrder.{carried-below}
 use Rattle.elements.specs.Elements.{countOf}
 use Rattle.elements.proofs.Laws.{count-le}
+use Rattle.spans.specs.declared.Pattern.{Pattern}
 use Rattle.subframes.specs.declared.Burst.{Burst}
 use Rattle.subframes.specs.declared.Ready.{Ready}
 use Rattle.subframes.specs.Fits.{Fits}
@@ -63,7 +64,7 @@ module _ (c : Cell) (anchor other : List ℕ) (g : DownlinkGrant) (i : ℕ) (out
   refused-by : (k : Call) → (k .no ≡ 0 → ⊥) → k .no ≡ refusal → Judged k
   refused-by k n e = record { number = e; prepared = λ z. absurd (n z); going = λ z. absurd (n z) }
 
-  module _ (q : Ready) (r : ReadyFor c (bitmapIn c (ownBuffer c anchor other)) (refusalOf c anchor other g) (burstOf c g) q) where
+  module _ (q : Ready) (p : Pattern) (r : ReadyFor c (bitmapIn c (ownBuffer c anchor other)) (refusalOf c anchor other g) (burstOf c g) q p) where
     -- the chain by its first part
     by-first : (t : Bool) → eqb (refusalOf c anchor other g) 0 ≡ t
         → refusal ≡ cond t (lateRefusal (burstOf c g) i outside bits wrong level) (refusalOf c anchor other g)
@@ -115,7 +116,7 @@ module _ (c : Cell) (anchor other : List ℕ) (g : DownlinkGrant) (i : ℕ) (out
       accepted-at e = record {
         number = sym e ∙ by-late z;
         prepared = λ y. prepared-by e;
-        going = λ y x. going c anchor other g (refusalOf c anchor other g) q r z i x (late-passed (burstOf c g) i outside bits wrong level e .sent);
+        going = λ y x. going c anchor other g (refusalOf c anchor other g) q p r z i x (late-passed (burstOf c g) i outside bits wrong level e .sent);
       }
 
     pub accepted : (n w u : ℕ) → q .no ≡ 0 → n ≡ lateRefusal (q .burst) i outside bits wrong level → n ≡ 0

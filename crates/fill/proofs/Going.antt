@@ -21,6 +21,7 @@ use Rattle.sending.specs.Sending.{Content, contentAt}
 use Rattle.elements.specs.declared.Layout.{Layout}
 use Rattle.elements.specs.Elements.{countOf, used, numberOf, kindOf}
 use Rattle.elements.proofs.Laws.{used-listed}
+use Rattle.spans.specs.declared.Pattern.{Pattern}
 use Rattle.subframes.specs.declared.Burst.{Burst}
 use Rattle.subframes.specs.declared.Ready.{Ready}
 use Rattle.subframes.specs.Mapping.{sentSubframes, firstOf, sendingOf}
@@ -55,15 +56,15 @@ module _ (c : Cell) (anchor other : List ℕ) (g : DownlinkGrant) where
   unfolding standsIn goesIn
   goes-in i x = goes-by (used (layoutOf c) 0 subcarriers x) _ _
 
-  pub going : (refusal : ℕ) (q : Ready) → ReadyFor c (bitmapIn c (ownBuffer c anchor other)) refusal (burstOf c g) q → q .no ≡ 0
+  pub going : (refusal : ℕ) (q : Ready) (p : Pattern) → ReadyFor c (bitmapIn c (ownBuffer c anchor other)) refusal (burstOf c g) q p → q .no ≡ 0
       → (i x : ℕ) → i < sentSubframes (burstOf c g)
       → goesIn (layoutOf c) (carried (burstOf c g .row) 1 (burstOf c g .codeword) i * countOf (layoutOf c) 0 subcarriers) x ≡ outgoingOf c anchor other g i x
   unfolding outgoingOf
-  going refusal q r z i x h =
+  going refusal q p r z i x h =
       let m = bitmapIn c (ownBuffer c anchor other) in
       sym (ap goesOut
-      (stands-at (usable c m) period (usable-repeats c m (q .pattern) (r .shows z))
-      (some-usable c m (q .pattern) (r .shows z) (r .answerable .going z .some)) (burstOf c g) i x h)
+      (stands-at (usable c m) period (usable-repeats c m p (r .shows z))
+      (some-usable c m p (r .shows z) (r .answerable .going z .some)) (burstOf c g) i x h)
       ∙ goes-in i x)
 
 -- ---- an element by its cases

@@ -81,7 +81,8 @@ fn judged(
 ) -> Call
     ensures { λ r. ⌜ CallFor c (now (anchor .entry)) (now (other .entry)) g i outside (now (bits .entry)) wrong level r ⌝ }
 {
-    let q = downlink::ready(c, anchor, other, g);
+    let v = cell::judged(c, anchor, other);
+    let q = downlink::ready(v.no, c, g);
     if q.no != 0 {
         return refused(q.no);
     }

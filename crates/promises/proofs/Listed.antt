@@ -17,7 +17,7 @@ use Rattle.elements.specs.Elements.{nrs, crs, eligible, used, countOf}
 use Rattle.subframes.specs.declared.Burst.{Burst}
 use Rattle.subframes.specs.declared.DownlinkPlan.{DownlinkPlan}
 use Rattle.subframes.specs.declared.DownlinkPlace.{DownlinkPlace}
-use Rattle.subframes.specs.Cells.{layoutOf, questionRefusal}
+use Rattle.subframes.specs.Cells.{layoutOf, fieldsRefusal, questionRefusal}
 use Rattle.subframes.specs.Answers.{burstPlan, burstForward, planAnswer, forwardAnswer}
 use Rattle.downlink.specs.Refusals.{grantRefusal}
 use Rattle.downlink.specs.Questions.{planOf, forwardOf}
@@ -52,7 +52,7 @@ no-delay rmax = by (ltb rmax 128)
     by false = refl
 
 no-refusal : (rmax : ℕ) → isRepetition rmax ≡ true → grantRefusal (eightSubframes 0 rmax) ≡ 0
-unfolding grantRefusal
+unfolding fieldsRefusal grantRefusal
 no-refusal rmax h = rw h refl
 
 abbrev eight : ℕ → Burst
@@ -95,7 +95,7 @@ unfolding rank count next select nrs crs eligible used allowed why bytesOf liste
 planned = refl
 
 delayed : (planOf (standalone 0 1) [] [] (eightSubframes 1 64) .first ≡ 27) × (planOf (standalone 0 1) [] [] (eightSubframes 1 128) .first ≡ 43)
-unfolding rank count next select nrs crs eligible used allowed why bytesOf listedLength badBitmap numbersRefusal formRefusal cellRefusal judgeOf questionRefusal burstPlan planAnswer isRepetition grantRefusal downlinkDelay planOf
+unfolding rank count next select nrs crs eligible used allowed why bytesOf listedLength badBitmap numbersRefusal formRefusal cellRefusal judgeOf questionRefusal burstPlan planAnswer isRepetition fieldsRefusal grantRefusal downlinkDelay planOf
 delayed = (refl, refl)
 
 pub cases : Cases

@@ -7,6 +7,7 @@ use native.Mathlib.Nat.{add-mod-right, add-comm, zero-add, mod-eq-of-lt, mod-lt,
 use native.Mathlib.Omega.{arith}
 use lib.Count.{ones, ones-step}
 use lib.Dec.{leb, eqb}
+use lib.Pow.{pow-mono}
 use mir.Val.{boolByte}
 use borrow.Author.Tests.{le-leb, lt-leb, lt-ltb, le-ltb, eq-eqb, ne-eqb}
 use Rattle.counting.specs.Counting.{rank, count, select, amongFirst, inRange}
@@ -14,13 +15,13 @@ use Rattle.counting.specs.Bits.{bitAt, NthOne}
 use Rattle.counting.proofs.Facts.{order}
 use Rattle.counting.proofs.Rank.{rank-zero, rank-suc, rank-le, rank-mono, rank-strict, rank-later, rank-same, count-between}
 use Rattle.counting.proofs.Range.{in-range, below-range, above-range, and-none, rank-before, rank-inside, rank-after}
-use Rattle.counting.proofs.Ones.{ones-low, span-part, span-whole, one-below}
+use Rattle.counting.proofs.Ones.{span-top, span-all, ones-above, one-below}
 use Rattle.counting.proofs.Select.{nth-of, among-parts}
 use Rattle.counting.proofs.Period.{rank-split, rank-periods, repeats-times, select-is, is-select}
 use Rattle.spans.specs.declared.Pattern.{Pattern}
 use Rattle.spans.specs.declared.Found.{Found}
 use Rattle.spans.specs.declared.Found.the-variants.{At, Nothing}
-use Rattle.spans.specs.Pattern.{span, withSib1, maskAt, allows, periodOf, Regular, Landed, Picked, foundAt}
+use Rattle.spans.specs.Pattern.{span, spansOf, maskBit, withSib1, maskAt, allows, periodOf, Regular, Landed, Picked, foundAt}
 
 -- ---- a number has no ones only if it is 0
 
@@ -33,8 +34,8 @@ ones-some zero m h l = absurd (omega arith)
 ones-some (suc k) m h l =
     ⊎-elim (λ e. omega (arith, ones-step m, ones-some k (m / 2) (omega (arith, pow-succ' 2 k)) e)) (λ e. omega (arith, ones-step m)) (order 0 (m / 2))
 
--- digit i of a span's mask is its subframe i
-pub mask-bits : (p : Pattern) (s i : ℕ) → i < span → bitAt (maskAt p s) i ≡ allows p (span * s + i)
+-- bit i of a span's mask is its subframe i
+pub mask-bits : (p : Pattern) (s i : ℕ) → i < span → maskBit (maskAt p s) i ≡ allows p (span * s + i)
 unfolding allows
 mask-bits p s i h =
     let q : (span * s + i) / span ≡ s = omega arith in
@@ -42,23 +43,32 @@ mask-bits p s i h =
     rw (q, r) refl
 
 module _ (p : Pattern) (ok : Regular p) where
-  pub some-spans : 0 < p .spans
+  pub some-spans : 0 < spansOf p
   some-spans = omega (arith, ok .fits)
+
+  at-most : (n : ℕ) → p .log ≤ n → spansOf p ≤ 2 ^ n
+  at-most n h = pow-mono {i = p .log} {j = n} h
+
+  at-least : (n : ℕ) → n ≤ p .log → 2 ^ n ≤ spansOf p
+  at-least n h = pow-mono {i = n} {j = p .log} h
+
+  pub few-spans : spansOf p ≤ 16
+  few-spans = at-most 4 (ok .few)
 
   -- ---- spans with SIB1
 
-  in-first-period : (x : ℕ) → x ≤ p .spans → rank (withSib1 p) x ≡ rank (inRange (p .first) 4) x
-  in-first-period x h = rank-same (withSib1 p) (inRange (p .first) 4) x (λ i l. ap (inRange (p .first) 4) (mod-eq-of-lt {n = i} {m = p .spans} (omega arith)))
+  in-first-period : (x : ℕ) → x ≤ spansOf p → rank (withSib1 p) x ≡ rank (inRange (p .first) 4) x
+  in-first-period x h = rank-same (withSib1 p) (inRange (p .first) 4) x (λ i l. ap (inRange (p .first) 4) (mod-eq-of-lt {n = i} {m = spansOf p} (omega arith)))
 
-  four-a-period : rank (withSib1 p) (p .spans) ≡ 4
+  four-a-period : rank (withSib1 p) (spansOf p) ≡ 4
   four-a-period =
-      let e : p .first + 4 + (p .spans - (p .first + 4)) ≡ p .spans = omega (arith, ok .fits) in
-      in-first-period (p .spans) (omega arith) ∙ ap (rank (inRange (p .first) 4)) (sym e) ∙ rank-after (p .first) 4 (p .spans - (p .first + 4))
+      let e : p .first + 4 + (spansOf p - (p .first + 4)) ≡ spansOf p = omega (arith, ok .fits) in
+      in-first-period (spansOf p) (omega arith) ∙ ap (rank (inRange (p .first) 4)) (sym e) ∙ rank-after (p .first) 4 (spansOf p - (p .first + 4))
 
-  pub sib1-split : (s : ℕ) → rank (withSib1 p) s ≡ s / p .spans * 4 + rank (inRange (p .first) 4) (s % p .spans)
+  pub sib1-split : (s : ℕ) → rank (withSib1 p) s ≡ s / spansOf p * 4 + rank (inRange (p .first) 4) (s % spansOf p)
   sib1-split s =
-      rank-split (withSib1 p) (p .spans) (λ t. ap (inRange (p .first) 4) (add-mod-right t (p .spans))) s
-      ∙ ap₂ (λ (x y : ℕ). s / p .spans * x + y) four-a-period (in-first-period (s % p .spans) (omega (arith, mod-lt s some-spans)))
+      rank-split (withSib1 p) (spansOf p) (λ t. ap (inRange (p .first) 4) (add-mod-right t (spansOf p))) s
+      ∙ ap₂ (λ (x y : ℕ). s / spansOf p * x + y) four-a-period (in-first-period (s % spansOf p) (omega (arith, mod-lt s some-spans)))
 
   pub sib1-le : (s : ℕ) → rank (withSib1 p) s ≤ s
   sib1-le s = rank-le (withSib1 p) s
@@ -76,10 +86,10 @@ module _ (p : Pattern) (ok : Regular p) where
   pub span-on : (s : ℕ) → rank (allows p) (span * s) + ones (maskAt p s) ≡ rank (allows p) (span * suc s)
   span-on s =
       let e : span * s + span ≡ span * suc s = omega arith in
-      span-whole (allows p) (maskAt p s) (span * s) span (mask-bits p s) (mask-small (withSib1 p s)) ∙ ap (rank (allows p)) e
+      span-all (allows p) (maskAt p s) (span * s) span (mask-small (withSib1 p s)) (mask-bits p s) ∙ ap (rank (allows p)) e
 
-  pub span-front : (s i : ℕ) → i ≤ span → rank (allows p) (span * s) + ones (maskAt p s % 2 ^ i) ≡ rank (allows p) (span * s + i)
-  span-front s i h = span-part (allows p) (maskAt p s) (span * s) span (mask-bits p s) i h
+  pub span-front : (s i : ℕ) → i ≤ span → rank (allows p) (span * s) + ones (maskAt p s / 2 ^ (40 - i)) ≡ rank (allows p) (span * s + i)
+  span-front s i h = span-top (allows p) (maskAt p s) (span * s) span (mask-small (withSib1 p s)) (mask-bits p s) i h
 
   step : (b : Bool) (h s r x y : ℕ) → h ≤ s → r ≡ h * x + (s - h) * y
       → r + (boolByte b * x + (1 - boolByte b) * y) ≡ (h + boolByte b) * x + (suc s - (h + boolByte b)) * y
@@ -103,37 +113,40 @@ module _ (p : Pattern) (ok : Regular p) where
   pub repeats : (t : ℕ) → allows p (t + periodOf p) ≡ allows p t
   unfolding allows
   repeats t =
-      let q : (t + span * p .spans) / span ≡ t / span + p .spans = omega arith in
-      let r : (t + span * p .spans) % span ≡ t % span = omega arith in
-      rw (q, r, add-mod-right (t / span) (p .spans)) refl
+      let q : (t + span * spansOf p) / span ≡ t / span + spansOf p = omega arith in
+      let r : (t + span * spansOf p) % span ≡ t % span = omega arith in
+      rw (q, r, add-mod-right (t / span) (spansOf p)) refl
 
-  pub some-of-period : rank (allows p) (periodOf p) ≡ 4 * ones (p .sib1) + (p .spans - 4) * ones (p .plain)
-  some-of-period = spans-rank (p .spans) ∙ ap (λ (h : ℕ). h * ones (p .sib1) + (p .spans - h) * ones (p .plain)) four-a-period
+  pub some-of-period : rank (allows p) (periodOf p) ≡ 4 * ones (p .sib1) + (spansOf p - 4) * ones (p .plain)
+  some-of-period = spans-rank (spansOf p) ∙ ap (λ (h : ℕ). h * ones (p .sib1) + (spansOf p - h) * ones (p .plain)) four-a-period
+
+  pub few-of-period : rank (allows p) (periodOf p) ≤ 640
+  few-of-period = omega (arith, rank-le (allows p) (periodOf p), few-spans)
 
   -- ---- spans with SIB1 before span s: none, some, or all four of its period
 
   module _ (s : ℕ) where
-    pub sib1-whole-le : s / p .spans * 4 ≤ s
+    pub sib1-whole-le : s / spansOf p * 4 ≤ s
     sib1-whole-le = omega (arith, sib1-split s, sib1-le s)
 
-    pub sib1-early : s % p .spans ≤ p .first → s / p .spans * 4 ≡ rank (withSib1 p) s
-    sib1-early h = omega (arith, sib1-split s, rank-before (p .first) 4 (s % p .spans) h)
+    pub sib1-early : s % spansOf p ≤ p .first → s / spansOf p * 4 ≡ rank (withSib1 p) s
+    sib1-early h = omega (arith, sib1-split s, rank-before (p .first) 4 (s % spansOf p) h)
 
-    pub sib1-among : p .first < s % p .spans → s % p .spans < p .first + 4
-        → s / p .spans * 4 + (s % p .spans - p .first) ≡ rank (withSib1 p) s
+    pub sib1-among : p .first < s % spansOf p → s % spansOf p < p .first + 4
+        → s / spansOf p * 4 + (s % spansOf p - p .first) ≡ rank (withSib1 p) s
     sib1-among h k =
-        let e : p .first + (s % p .spans - p .first) ≡ s % p .spans = omega arith in
-        omega (arith, sib1-split s, rank-inside (p .first) 4 (s % p .spans - p .first) (omega arith), ap (rank (inRange (p .first) 4)) e)
+        let e : p .first + (s % spansOf p - p .first) ≡ s % spansOf p = omega arith in
+        omega (arith, sib1-split s, rank-inside (p .first) 4 (s % spansOf p - p .first) (omega arith), ap (rank (inRange (p .first) 4)) e)
 
-    pub sib1-late : p .first + 4 ≤ s % p .spans → s / p .spans * 4 + 4 ≡ rank (withSib1 p) s
+    pub sib1-late : p .first + 4 ≤ s % spansOf p → s / spansOf p * 4 + 4 ≡ rank (withSib1 p) s
     sib1-late h =
-        let e : p .first + 4 + (s % p .spans - (p .first + 4)) ≡ s % p .spans = omega arith in
-        omega (arith, sib1-split s, rank-after (p .first) 4 (s % p .spans - (p .first + 4)), ap (rank (inRange (p .first) 4)) e)
+        let e : p .first + 4 + (s % spansOf p - (p .first + 4)) ≡ s % spansOf p = omega arith in
+        omega (arith, sib1-split s, rank-after (p .first) 4 (s % spansOf p - (p .first + 4)), ap (rank (inRange (p .first) 4)) e)
 
   -- ---- the three stretches of a period: before the spans with SIB1, those, and after them
 
-  first-period : (s : ℕ) → s < p .spans → withSib1 p s ≡ inRange (p .first) 4 s
-  first-period s h = ap (inRange (p .first) 4) (mod-eq-of-lt {n = s} {m = p .spans} h)
+  first-period : (s : ℕ) → s < spansOf p → withSib1 p s ≡ inRange (p .first) 4 s
+  first-period s h = ap (inRange (p .first) 4) (mod-eq-of-lt {n = s} {m = spansOf p} h)
 
   mask-plain : (s : ℕ) → withSib1 p s ≡ false → maskAt p s ≡ p .plain
   mask-plain s e = ap (λ (b : Bool). cond b (p .sib1) (p .plain)) e
@@ -142,14 +155,14 @@ module _ (p : Pattern) (ok : Regular p) where
   mask-sib1 s e = ap (λ (b : Bool). cond b (p .sib1) (p .plain)) e
 
   -- so many before span s, where h of the spans before it have SIB1
-  with-sib1 : (s h : ℕ) → s ≤ p .spans → rank (inRange (p .first) 4) s ≡ h
+  with-sib1 : (s h : ℕ) → s ≤ spansOf p → rank (inRange (p .first) 4) s ≡ h
       → rank (allows p) (span * s) ≡ h * ones (p .sib1) + (s - h) * ones (p .plain)
   with-sib1 s h l e = spans-rank s ∙ ap (λ (x : ℕ). x * ones (p .sib1) + (s - x) * ones (p .plain)) (in-first-period s l ∙ e)
 
   -- the j-th of a stretch from span s on lies in its span j / n, n the ones of its mask
   pub record Stretch (mask s j target : ℕ) : Type 0 where
     pub some : 0 < ones mask
-    pub inside : s + j / ones mask < p .spans
+    pub inside : s + j / ones mask < spansOf p
     pub its : maskAt p (s + j / ones mask) ≡ mask
     pub sum : rank (allows p) (span * (s + j / ones mask)) + j % ones mask ≡ target
 
@@ -162,7 +175,7 @@ module _ (p : Pattern) (ok : Regular p) where
       let n : ℕ = ones (p .plain) in
       let pos : 0 < n = positive (p .first) n k h in
       let q : k / n < p .first = div-lt-iff-lt-mul pos .1 h in
-      let l : 0 + k / n < p .spans = omega (arith, ok .fits) in
+      let l : 0 + k / n < spansOf p = omega (arith, ok .fits) in
       let e : 0 + k / n - 0 ≡ k / n = omega arith in
       record {
         some = pos;
@@ -182,7 +195,7 @@ module _ (p : Pattern) (ok : Regular p) where
       let n : ℕ = ones (p .sib1) in
       let pos : 0 < n = positive 4 n j h in
       let q : j / n < 4 = div-lt-iff-lt-mul pos .1 h in
-      let l : p .first + j / n < p .spans = omega (arith, ok .fits) in
+      let l : p .first + j / n < spansOf p = omega (arith, ok .fits) in
       let e : p .first + j / n - j / n ≡ p .first = omega arith in
       record {
         some = pos;
@@ -200,12 +213,12 @@ module _ (p : Pattern) (ok : Regular p) where
       → Stretch (p .plain) (p .first + 4) j (p .first * ones (p .plain) + 4 * ones (p .sib1) + j)
   in-tail j h =
       let n : ℕ = ones (p .plain) in
-      let rest : ℕ = p .spans - (p .first + 4) in
-      let e : p .spans - 4 ≡ p .first + rest = omega (arith, ok .fits) in
+      let rest : ℕ = spansOf p - (p .first + 4) in
+      let e : spansOf p - 4 ≡ p .first + rest = omega (arith, ok .fits) in
       let k : j < rest * n = omega (arith, some-of-period, ap (λ (x : ℕ). x * n) e, add-mul (p .first) rest n) in
       let pos : 0 < n = positive rest n j k in
       let q : j / n < rest = div-lt-iff-lt-mul pos .1 k in
-      let l : p .first + 4 + j / n < p .spans = omega arith in
+      let l : p .first + 4 + j / n < spansOf p = omega arith in
       let f : p .first + 4 + j / n - 4 ≡ p .first + j / n = omega arith in
       record {
         some = pos;
@@ -220,30 +233,39 @@ module _ (p : Pattern) (ok : Regular p) where
         );
       }
 
-  pub ready : (mask n s j target : ℕ) → n ≡ ones mask → mask < 2 ^ 40 → Stretch mask s j target
-      → (n ≡ ones mask) × (0 < n) × (mask < 2 ^ 40) × (s + j / n < 16)
-  ready mask n s j target e small w =
-      (e, omega (arith, w .some), small, rw e (omega (arith, w .inside, ok .few)))
+  pub ready : (mask n s j target : ℕ) → n ≡ ones mask → mask < 2 ^ 40 → j < 2 ^ 32 → Stretch mask s j target
+      → (n ≡ ones mask) × (0 < n) × (mask < 2 ^ 40) × (j < 2 ^ 32) × (s + j / n < 16)
+  ready mask n s j target e small l w =
+      (e, omega (arith, w .some), small, l, rw e (omega (arith, w .inside, few-spans)))
 
   pub landed : (mask n s j r target : ℕ) → n ≡ ones mask → mask < 2 ^ 40 → Stretch mask s j target → Landed mask n s j r → Picked p target r
   landed mask n s j r target e small w d =
       let m : ℕ = ones mask in
       let x : ℕ = d .digit in
-      let one : NthOne mask (j % m) x = subst (λ (y : ℕ). NthOne mask (j % y) x) e (d .one) in
+      let one : NthOne mask (m - 1 - j % m) x = subst (λ (y : ℕ). NthOne mask (y - 1 - j % y) x) e (d .one) in
       let at : ℕ = s + j / m in
-      let b = one-below 40 mask (j % m) x small one in
-      let t : ℕ = span * at + x in
+      let b = one-below 40 mask (m - 1 - j % m) x small one in
+      let t : ℕ = span * at + (39 - x) in
+      let up : 39 - (39 - x) ≡ x = omega (arith, b) in
+      let down : 40 - (39 - x) ≡ 1 + x = omega (arith, b) in
       let pick : Picked p target t = record {
         small = omega (arith, b, w .inside);
-        passes = sym (mask-bits p at x b) ∙ ap (λ (y : ℕ). bitAt y x) (w .its) ∙ one .set;
+        passes = sym (mask-bits p at (39 - x) (omega arith)) ∙ ap₂ bitAt (w .its) up ∙ one .set;
         before =
-            omega (arith, span-front at x (omega (arith, b)), ones-low x (maskAt p at), ap (λ (y : ℕ). rank (bitAt y) x) (w .its), one .before, w .sum);
+            omega (
+              arith,
+              span-front at (39 - x) (omega arith),
+              ap₂ (λ (y z : ℕ). ones (y / 2 ^ z)) (w .its) down,
+              ones-above mask (m - 1 - j % m) x one,
+              mod-lt j (w .some),
+              w .sum,
+            );
       } in
-      subst (λ (y : ℕ). Picked p target y) (sym (d .there ∙ ap (λ (y : ℕ). span * (s + j / y) + x) e)) pick
+      subst (λ (y : ℕ). Picked p target y) (sym (d .there ∙ ap (λ (y : ℕ). span * (s + j / y) + (39 - x)) e)) pick
 
   -- ---- the quick rank and the quick select
 
-  pub rank-quick : (t whole part : ℕ) → whole ≡ rank (allows p) (span * (t / span)) → part ≡ ones (maskAt p (t / span) % 2 ^ (t % span))
+  pub rank-quick : (t whole part : ℕ) → whole ≡ rank (allows p) (span * (t / span)) → part ≡ ones (maskAt p (t / span) / 2 ^ (40 - t % span))
       → whole + part ≡ rank (allows p) t
   rank-quick t whole part hw hp =
       let e : span * (t / span) + t % span ≡ t = omega arith in
@@ -272,41 +294,47 @@ module _ (p : Pattern) (ok : Regular p) where
 
   -- ---- nothing is allowed
 
-  pub empty-is : (eqb (p .sib1) 0 && (eqb (p .spans) 4 || eqb (p .plain) 0)) ≡ eqb (rank (allows p) (periodOf p)) 0
+  pub empty-is : (eqb (p .sib1) 0 && (eqb (p .log) 2 || eqb (p .plain) 0)) ≡ eqb (rank (allows p) (periodOf p)) 0
   empty-is = ⊎-elim sib1-some sib1-none (order 0 (p .sib1))
     where
       all : ℕ
-      all = 4 * ones (p .sib1) + (p .spans - 4) * ones (p .plain)
+      all = 4 * ones (p .sib1) + (spansOf p - 4) * ones (p .plain)
 
       is : (b : Bool) → b ≡ eqb all 0 → b ≡ eqb (rank (allows p) (periodOf p)) 0
       is b e = e ∙ ap (λ (x : ℕ). eqb x 0) (sym some-of-period)
 
-      sib1-some : 0 < p .sib1 → (eqb (p .sib1) 0 && (eqb (p .spans) 4 || eqb (p .plain) 0)) ≡ eqb (rank (allows p) (periodOf p)) 0
+      -- four spans at least
+      two : p .log ≤ 2 → p .log ≡ 2
+      two f =
+          ⊎-elim (λ l. absurd (let w : spansOf p ≤ 2 = at-most 1 (omega arith) in omega (arith, ok .fits))) (λ l. omega arith) (order (p .log) 2)
+
+      sib1-some : 0 < p .sib1 → (eqb (p .sib1) 0 && (eqb (p .log) 2 || eqb (p .plain) 0)) ≡ eqb (rank (allows p) (periodOf p)) 0
       sib1-some h =
           let o = ones-some 40 (p .sib1) (ok .sib1-small) h in
           let z : eqb (p .sib1) 0 ≡ false = ne-eqb (p .sib1) 0 (λ e. omega arith) in
           is _ (rw (z, ne-eqb all 0 (λ e. omega arith)) refl)
 
-      plain-by : ones (p .sib1) ≡ 0 → (4 < p .spans) ⊎ (p .spans ≤ 4) → (0 < p .plain) ⊎ (p .plain ≤ 0) → (eqb (p .spans) 4 || eqb (p .plain) 0) ≡ eqb all 0
+      plain-by : ones (p .sib1) ≡ 0 → (2 < p .log) ⊎ (p .log ≤ 2) → (0 < p .plain) ⊎ (p .plain ≤ 0) → (eqb (p .log) 2 || eqb (p .plain) 0) ≡ eqb all 0
       plain-by n (inr f) q =
-          let e : p .spans ≡ 4 = omega (arith, ok .fits) in
-          let y : p .spans - 4 ≡ 0 = omega arith in
-          rw (eq-eqb (p .spans) 4 e) (sym (eq-eqb all 0 (omega (arith, ap (λ (x : ℕ). x * ones (p .plain)) y, zero-mul (ones (p .plain))))))
+          let w : spansOf p ≤ 4 = at-most 2 f in
+          let y : spansOf p - 4 ≡ 0 = omega arith in
+          rw (eq-eqb (p .log) 2 (two f)) (sym (eq-eqb all 0 (omega (arith, ap (λ (x : ℕ). x * ones (p .plain)) y, zero-mul (ones (p .plain))))))
       plain-by n (inl f) (inr q) =
           let e : p .plain ≡ 0 = omega arith in
           let m : ones (p .plain) ≡ 0 = ap ones e ∙ ones-none in
-          rw (ne-eqb (p .spans) 4 (λ z. omega arith), eq-eqb (p .plain) 0 e) (sym (eq-eqb all 0 (omega (arith, ap (λ (x : ℕ). (p .spans - 4) * x) m, mul-zero (p .spans - 4)))))
+          rw (ne-eqb (p .log) 2 (λ z. omega arith), eq-eqb (p .plain) 0 e) (sym (eq-eqb all 0 (omega (arith, ap (λ (x : ℕ). (spansOf p - 4) * x) m, mul-zero (spansOf p - 4)))))
       plain-by n (inl f) (inl q) =
           let o = ones-some 40 (p .plain) (ok .plain-small) q in
-          rw (ne-eqb (p .spans) 4 (λ z. omega arith), ne-eqb (p .plain) 0 (λ z. omega arith))
-          (sym (ne-eqb all 0 (λ z. omega (arith, mul-le-mul {n₁ = 1} {m₁ = 1} {n₂ = p .spans - 4} {m₂ = ones (p .plain)} (omega arith) o))))
+          let w : 8 ≤ spansOf p = at-least 3 f in
+          rw (ne-eqb (p .log) 2 (λ z. omega arith), ne-eqb (p .plain) 0 (λ z. omega arith))
+          (sym (ne-eqb all 0 (λ z. omega (arith, mul-le-mul {n₁ = 1} {m₁ = 1} {n₂ = spansOf p - 4} {m₂ = ones (p .plain)} (omega arith) o))))
 
-      sib1-none : p .sib1 ≤ 0 → (eqb (p .sib1) 0 && (eqb (p .spans) 4 || eqb (p .plain) 0)) ≡ eqb (rank (allows p) (periodOf p)) 0
+      sib1-none : p .sib1 ≤ 0 → (eqb (p .sib1) 0 && (eqb (p .log) 2 || eqb (p .plain) 0)) ≡ eqb (rank (allows p) (periodOf p)) 0
       sib1-none h =
           let s : p .sib1 ≡ 0 = omega arith in
           let n : ones (p .sib1) ≡ 0 = ap ones s ∙ ones-none in
           let z : eqb (p .sib1) 0 ≡ true = eq-eqb (p .sib1) 0 s in
-          is _ (rw z (plain-by n (order 4 (p .spans)) (order 0 (p .plain))))
+          is _ (rw z (plain-by n (order 2 (p .log)) (order 0 (p .plain))))
 
   -- ---- the index of a subframe among those that follow the skip-th from f on
 

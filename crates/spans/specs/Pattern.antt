@@ -14,24 +14,32 @@ use Rattle.spans.specs.declared.Found.the-variants.{At, Nothing}
 abbrev pub span : ℕ
 span = 40
 
+-- the pattern repeats after so many spans
+abbrev pub spansOf : Pattern → ℕ
+spansOf p = 2 ^ p .log
+
 -- span s is one of the four with SIB1
 abbrev pub withSib1 : Pattern → ℕ → Bool
-withSib1 p s = inRange (p .first) 4 (s % p .spans)
+withSib1 p s = inRange (p .first) 4 (s % spansOf p)
 
 abbrev pub maskAt : Pattern → ℕ → ℕ
 maskAt p s = cond (withSib1 p s) (p .sib1) (p .plain)
 
--- subframe t is allowed: its digit in the mask of its span is 1
+-- bit i of a mask, for subframe i of its span: the first is the highest of forty digits
+abbrev pub maskBit : ℕ → ℕ → Bool
+maskBit m i = bitAt m (39 - i)
+
+-- subframe t is allowed: its bit in the mask of its span is 1
 unfoldable pub allows : Pattern → ℕ → Bool
-allows p t = bitAt (maskAt p (t / span)) (t % span)
+allows p t = maskBit (maskAt p (t / span)) (t % span)
 
 -- the pattern repeats after so many subframes
 abbrev pub periodOf : Pattern → ℕ
-periodOf p = span * p .spans
+periodOf p = span * spansOf p
 
 pub record Regular (p : Pattern) : Type 0 where
-  pub fits : p .first + 4 ≤ p .spans
-  pub few : p .spans ≤ 16
+  pub fits : p .first + 4 ≤ spansOf p
+  pub few : p .log ≤ 4
   pub plain-small : p .plain < 2 ^ 40
   pub sib1-small : p .sib1 < 2 ^ 40
 
@@ -43,8 +51,8 @@ pub record Counts (p : Pattern) (a b : ℕ) : Type 0 where
 -- r is the k-th subframe of a stretch of spans from span s on, all with one mask of n ones
 pub record Landed (mask n s k r : ℕ) : Type 0 where
   pub digit : ℕ
-  pub one : NthOne mask (k % n) digit
-  pub there : r ≡ span * (s + k / n) + digit
+  pub one : NthOne mask (n - 1 - k % n) digit
+  pub there : r ≡ span * (s + k / n) + (39 - digit)
 
 -- r is the subframe of the first period before which k allowed ones lie
 pub record Picked (p : Pattern) (k r : ℕ) : Type 0 where

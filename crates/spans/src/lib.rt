@@ -7,10 +7,10 @@ ghost use lib.Dec.{eqb};
 ghost use Rattle.counting.specs.Counting.{rank, select};
 ghost use Rattle.spans.specs.Pattern.{span, withSib1, maskAt, allows, periodOf, Regular, Counts, Landed, Picked, foundAt};
 
-// Spans of forty subframes, digit i of a mask for subframe i of the span. The pattern repeats after `spans` spans; in the four from
-// `first` on SIB1 stands and `sib1` is their mask, `plain` is that of the others.
+// Spans of forty subframes, the first subframe at the highest of forty digits of a mask. The pattern repeats after 2^log spans; in the
+// four from `first` on SIB1 stands and `sib1` is their mask, `plain` is that of the others.
 pub struct Pattern {
-    pub spans: u64,
+    pub log: u64,
     pub first: u64,
     pub plain: u64,
     pub sib1: u64,
@@ -28,47 +28,14 @@ pub enum Found {
     Nothing,
 }
 
-// s over the spans of a period, and the rest: a division by a constant where a period has 4, 8 or 16 spans.
-fn whole_periods(spans: u64, s: u64) -> u64
-    requires { ⌜ 0 < spans ⌝ }
-    ensures { λ r. ⌜ r ≡ s / spans ⌝ }
-{
-    if spans == 4 {
-        return s / 4;
-    }
-    if spans == 8 {
-        return s / 8;
-    }
-    if spans == 16 {
-        return s / 16;
-    }
-    s / spans
-}
-
-fn rest_of_period(spans: u64, s: u64) -> u64
-    requires { ⌜ 0 < spans ⌝ }
-    ensures { λ r. ⌜ r ≡ s % spans ⌝ }
-{
-    if spans == 4 {
-        return s % 4;
-    }
-    if spans == 8 {
-        return s % 8;
-    }
-    if spans == 16 {
-        return s % 16;
-    }
-    s % spans
-}
-
 // How many spans before span s have SIB1.
 fn sib1_before(p: Pattern, s: u64) -> u64
     requires { ⌜ Regular p ⌝ }
     ensures { λ r. ⌜ r ≡ rank (withSib1 p) s ⌝ }
 {
     let first = p.first;
-    let whole = whole_periods(p.spans, s) * 4;
-    let x = rest_of_period(p.spans, s);
+    let whole = (s >> p.log) * 4;
+    let x = counting::low(s, p.log);
     if x <= first {
         return whole;
     }
@@ -84,7 +51,7 @@ fn mask_at(p: Pattern, s: u64) -> u64
     ensures { λ r. ⌜ r ≡ maskAt p s ⌝ }
 {
     let first = p.first;
-    let x = rest_of_period(p.spans, s);
+    let x = counting::low(s, p.log);
     if (first <= x) & (x < first + 4) {
         return p.sib1;
     }
@@ -106,7 +73,7 @@ fn rank_of(p: Pattern, a: u64, b: u64, t: u64) -> u64
     ensures { λ r. ⌜ r ≡ rank (allows p) t ⌝ }
 {
     let s = t / 40;
-    let part = counting::ones_of(counting::low(mask_at(p, s), t % 40));
+    let part = counting::ones_of(mask_at(p, s) >> (40 - t % 40));
     whole_spans(p, a, b, s) + part
 }
 
@@ -116,7 +83,7 @@ pub fn is_allowed(p: Pattern, t: u64) -> bool
     ensures { λ r. ⌜ r ≡ allows p t ⌝ }
 {
     let i = t % 40;
-    (mask_at(p, t / 40) >> i) % 2 == 1
+    (mask_at(p, t / 40) >> (39 - i)) % 2 == 1
 }
 
 // How many subframes of a period are allowed.
@@ -124,8 +91,7 @@ fn in_period(p: Pattern, a: u64, b: u64) -> u64
     requires { ⌜ Regular p × Counts p a b ⌝ }
     ensures { λ r. ⌜ (r ≡ rank (allows p) (periodOf p)) × (r ≤ 640) ⌝ }
 {
-    let spans = p.spans;
-    4 * a + (spans - 4) * b
+    4 * a + (counting::power_of_two(p.log) - 4) * b
 }
 
 // No subframe is allowed.
@@ -133,15 +99,17 @@ pub fn is_empty(p: Pattern) -> bool
     requires { ⌜ Regular p ⌝ }
     ensures { λ r. ⌜ r ≡ eqb (rank (allows p) (periodOf p)) 0 ⌝ }
 {
-    (p.sib1 == 0) & ((p.spans == 4) | (p.plain == 0))
+    (p.sib1 == 0) & ((p.log == 2) | (p.plain == 0))
 }
 
 // The k-th allowed subframe of a stretch of spans from span s on, all with one mask of n ones.
 fn in_stretch(mask: u64, n: u64, s: u64, k: u64) -> u64
-    requires { ⌜ (n ≡ ones mask) × (0 < n) × (mask < 2 ^ 40) × (s + k / n < 16) ⌝ }
+    requires { ⌜ (n ≡ ones mask) × (0 < n) × (mask < 2 ^ 40) × (k < 2 ^ 32) × (s + k / n < 16) ⌝ }
     ensures { λ r. ⌜ Landed mask n s k r ⌝ }
 {
-    40 * (s + k / n) + counting::nth_one(mask, k % n)
+    let q = counting::quotient(k, n);
+    let rest = k - q * n;
+    40 * (s + q) + (39 - counting::nth_one(mask, n - 1 - rest))
 }
 
 // The subframe of the first period before which k allowed ones lie.
@@ -165,17 +133,18 @@ fn pick(p: Pattern, a: u64, b: u64, k: u64) -> u64
 
 // The allowed subframe before which k allowed ones lie: whole periods, then the rest.
 fn at(p: Pattern, a: u64, b: u64, k: u64) -> u64
-    requires { ⌜ Regular p × Counts p a b × (0 < rank (allows p) (periodOf p)) × (k < 2 ^ 42) ⌝ }
+    requires { ⌜ Regular p × Counts p a b × (0 < rank (allows p) (periodOf p)) × (k < 2 ^ 32) ⌝ }
     ensures { λ r. ⌜ (allows p r ≡ true) × (rank (allows p) r ≡ k) ⌝ }
 {
-    let spans = p.spans;
     let per = in_period(p, a, b);
-    k / per * (40 * spans) + pick(p, a, b, k % per)
+    let q = counting::quotient(k, per);
+    let period = 40 * counting::power_of_two(p.log);
+    q * period + pick(p, a, b, k - q * per)
 }
 
 // The j-th allowed subframe from a given one on, counted from 0.
 pub fn nth(p: Pattern, from: u64, j: u64) -> u64
-    requires { ⌜ Regular p × (0 < rank (allows p) (periodOf p)) × (from < 2 ^ 40) × (j < 2 ^ 32) ⌝ }
+    requires { ⌜ Regular p × (0 < rank (allows p) (periodOf p)) × (from < 2 ^ 31) × (j < 2 ^ 31) ⌝ }
     ensures { λ r. ⌜ r ≡ select (allows p) (periodOf p) from j ⌝ }
 {
     let a = counting::ones_of(p.sib1);
@@ -185,7 +154,7 @@ pub fn nth(p: Pattern, from: u64, j: u64) -> u64
 
 // The j-th from a given one on, and the one that follows it after `more`.
 pub fn first_and_last(p: Pattern, from: u64, j: u64, more: u64) -> Ends
-    requires { ⌜ Regular p × (0 < rank (allows p) (periodOf p)) × (from < 2 ^ 40) × (j + more < 2 ^ 32) ⌝ }
+    requires { ⌜ Regular p × (0 < rank (allows p) (periodOf p)) × (from < 2 ^ 31) × (j + more < 2 ^ 31) ⌝ }
     ensures { λ r. ⌜ (r .first ≡ select (allows p) (periodOf p) from j) × (r .last ≡ select (allows p) (periodOf p) from (j + more)) ⌝ }
 {
     let a = counting::ones_of(p.sib1);

@@ -64,17 +64,16 @@ backward-refused : (t slot l k n : ℕ) → (n ≡ 0 → ⊥) → (u v : ℕ →
 unfolding backwardAnswer
 backward-refused t slot l k n h u v P Q a d = simp (ne-eqb n 0 h)
 
-module _ (c : Cell) (m : List ℕ) (refusal : ℕ) (b : Burst) (q : Ready) (r : ReadyFor c m refusal b q) where
+module _ (c : Cell) (m : List ℕ) (refusal : ℕ) (b : Burst) (q : Ready) (p : Pattern) (r : ReadyFor c m refusal b q p) where
   -- an answer that reads the test and its select alone: f over a refusal, a test, a period and a burst
   module _ {A : Type 0} (f : ℕ → (ℕ → Bool) → ℕ → Burst → A)
       (period-free : (u : ℕ → Bool) (P Q : ℕ) → ((x j : ℕ) → select u P x j ≡ select u Q x j) → f 0 u P b ≡ f 0 u Q b)
       (refused-free : (n : ℕ) → (n ≡ 0 → ⊥) → (u v : ℕ → Bool) (P Q : ℕ) (a d : Burst) → f n u P a ≡ f n v Q d) where
-    pub answer-same : f (q .no) (allows (q .pattern)) (periodOf (q .pattern)) (q .burst) ≡ f refusal (usable c m) period b
+    pub answer-same : f (q .no) (allows p) (periodOf p) (q .burst) ≡ f refusal (usable c m) period b
     answer-same = by (ℕ-discrete (q .no) 0)
       where
-        by : Dec (q .no ≡ 0) → f (q .no) (allows (q .pattern)) (periodOf (q .pattern)) (q .burst) ≡ f refusal (usable c m) period b
+        by : Dec (q .no ≡ 0) → f (q .no) (allows p) (periodOf p) (q .burst) ≡ f refusal (usable c m) period b
         by (yes e) =
-            let p = q .pattern in
             let s = r .shows e in
             ap₂ (λ (n : ℕ) (d : Burst). f n (allows p) (periodOf p) d) e (r .burst e)
             ∙ ap (λ (u : ℕ → Bool). f 0 u (periodOf p) b) (same-test c m p s)
@@ -82,16 +81,16 @@ module _ (c : Cell) (m : List ℕ) (refusal : ℕ) (b : Burst) (q : Ready) (r : 
             (λ x j. ap (λ (u : ℕ → Bool). select u (periodOf p) x j) (sym (same-test c m p s)) ∙ select-usable c m p s (r .answerable .going e .some) x j)
             ∙ ap (λ (n : ℕ). f n (usable c m) period b) (sym e ∙ r .number)
         by (no n) =
-            refused-free (q .no) n (allows (q .pattern)) (usable c m) (periodOf (q .pattern)) period (q .burst) b
+            refused-free (q .no) n (allows p) (usable c m) (periodOf p) period (q .burst) b
             ∙ ap (λ (x : ℕ). f x (usable c m) period b) (r .number)
 
-  pub plan-ready : planAnswer (q .no) (allows (q .pattern)) (periodOf (q .pattern)) (q .burst) ≡ planAnswer refusal (usable c m) period b
+  pub plan-ready : planAnswer (q .no) (allows p) (periodOf p) (q .burst) ≡ planAnswer refusal (usable c m) period b
   plan-ready = answer-same planAnswer (plan-free b) plan-refused
 
-  pub forward-ready : (p : ℕ) → forwardAnswer (q .no) (allows (q .pattern)) (periodOf (q .pattern)) (q .burst) p ≡ forwardAnswer refusal (usable c m) period b p
-  forward-ready p = answer-same (λ n u P d. forwardAnswer n u P d p) (forward-free p b) (forward-refused p)
+  pub forward-ready : (x : ℕ) → forwardAnswer (q .no) (allows p) (periodOf p) (q .burst) x ≡ forwardAnswer refusal (usable c m) period b x
+  forward-ready x = answer-same (λ n u P d. forwardAnswer n u P d x) (forward-free x b) (forward-refused x)
 
-  pub backward-ready : (t slot l k : ℕ) → backwardAnswer (q .no) (allows (q .pattern)) (periodOf (q .pattern)) (q .burst) t slot l k
+  pub backward-ready : (t slot l k : ℕ) → backwardAnswer (q .no) (allows p) (periodOf p) (q .burst) t slot l k
       ≡ backwardAnswer refusal (usable c m) period b t slot l k
   backward-ready t slot l k =
       answer-same (λ n u P d. backwardAnswer n u P d t slot l k) (backward-free t slot l k b) (backward-refused t slot l k)

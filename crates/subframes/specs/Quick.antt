@@ -3,11 +3,13 @@ use mathlib.Core.Bool.{cond}
 use mathlib.Core.List.{List}
 use mathlib.Core.Path.{_≡_}
 use Prim.Native.Nat.{ℕ, _+_, _*_}
+use lib.Dec.{eqb}
 use Rattle.sending.specs.CopyOrder.{carried}
 use Rattle.sending.specs.Sending.{Content, ours, other}
 use Rattle.elements.specs.Elements.{kindOf, used, countOf, numberOf}
 use Rattle.cell.specs.declared.Cell.{Cell}
 use Rattle.cell.specs.Quick.{Shows}
+use Rattle.spans.specs.declared.Pattern.{Pattern}
 use Rattle.subframes.specs.declared.Burst.{Burst}
 use Rattle.subframes.specs.declared.Ready.{Ready}
 use Rattle.subframes.specs.Fits.{Fits, Going}
@@ -20,14 +22,19 @@ standsIn b i x =
     (i * countOf (b .layout) (b .low) (b .width) + numberOf (b .layout) (b .low) (b .width) x))
     (other (kindOf (b .layout) x))
 
--- an accepted question has what its answer needs
-pub record Answerable (q : Ready) : Type 0 where
-  pub going : q .no ≡ 0 → Going (q .pattern)
+-- an accepted question, over pattern p, has what its answer needs
+pub record Answerable (q : Ready) (p : Pattern) : Type 0 where
+  pub going : q .no ≡ 0 → Going p
   pub fits : q .no ≡ 0 → Fits (q .burst)
 
--- a question on cell c with bitmap m, judged: its refusal, and for an accepted one the cell's usable subframes and burst b
-pub record ReadyFor (c : Cell) (m : List ℕ) (refusal : ℕ) (b : Burst) (q : Ready) : Type 0 where
+-- a grant judged after its cell: the number of the first that refuses, and for an accepted one burst b
+pub record Judged (cell grant : ℕ) (b : Burst) (q : Ready) : Type 0 where
+  pub number : q .no ≡ cond (eqb cell 0) grant cell
+  pub burst : q .no ≡ 0 → q .burst ≡ b
+
+-- a question on cell c with bitmap m, judged: its refusal, and for an accepted one burst b and p, the cell's usable subframes
+pub record ReadyFor (c : Cell) (m : List ℕ) (refusal : ℕ) (b : Burst) (q : Ready) (p : Pattern) : Type 0 where
   pub number : q .no ≡ refusal
-  pub answerable : Answerable q
-  pub shows : q .no ≡ 0 → Shows c m (q .pattern)
+  pub answerable : Answerable q p
+  pub shows : q .no ≡ 0 → Shows c m p
   pub burst : q .no ≡ 0 → q .burst ≡ b

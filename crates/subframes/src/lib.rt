@@ -9,7 +9,7 @@ ghost use Rattle.sending.specs.CopyOrder.{carried};
 ghost use Rattle.sending.specs.Answer.{backOf};
 ghost use Rattle.subframes.specs.Fits.{Fits, Going};
 ghost use Rattle.subframes.specs.Quick.{standsIn, Answerable};
-ghost use Rattle.subframes.specs.Cells.{layoutOf};
+ghost use Rattle.subframes.specs.Cells.{layoutOf, fieldsRefusal};
 ghost use Rattle.subframes.specs.Mapping.{sentSubframes};
 ghost use Rattle.subframes.specs.Answers.{refusedPlan, refusedPlace, placeOf, burstPlan, burstForward, burstBackward, planAnswer, forwardAnswer, backwardAnswer};
 use cell::Cell;
@@ -33,10 +33,9 @@ pub struct Burst {
     pub row: u64,
 }
 
-// A question on a burst, judged: the refusal number, and for an accepted one the usable subframes and the burst.
+// A question on a burst, judged: the refusal number, and for an accepted one the burst.
 pub struct Ready {
     pub no: u64,
-    pub pattern: Pattern,
     pub burst: Burst,
 }
 
@@ -220,13 +219,30 @@ pub fn layout(c: Cell) -> Layout
     }
 }
 
+const LAST_SUBFRAME: u64 = 0x3fff_ffff;
+
+// Refusals 9, 10 and 12 of a grant.
+pub fn fields_refusal(n: u64, above: bool, repetitions: u64) -> u64
+    ensures { λ r. ⌜ r ≡ fieldsRefusal n above repetitions ⌝ }
+{
+    if n > LAST_SUBFRAME {
+        return 9;
+    }
+    if above {
+        return 10;
+    }
+    if !grid::is_repetition(repetitions) {
+        return 12;
+    }
+    0
+}
+
 // A refused question.
-pub fn not_ready(no: u64, pattern: Pattern) -> Ready
+pub fn not_ready(no: u64) -> Ready
     ensures { λ r. ⌜ r .no ≡ no ⌝ }
 {
     Ready {
         no,
-        pattern,
         burst: Burst {
             layout: Layout {
                 v: 0,
@@ -245,35 +261,35 @@ pub fn not_ready(no: u64, pattern: Pattern) -> Ready
     }
 }
 
-// Plan: the refusal, or first, last, copies and places.
-pub fn plan(q: Ready) -> DownlinkPlan
-    requires { ⌜ Answerable q ⌝ }
-    ensures { λ r. ⌜ r ≡ planAnswer (q .no) (allows (q .pattern)) (periodOf (q .pattern)) (q .burst) ⌝ }
+// Plan over pattern p of the usable subframes: the refusal, or first, last, copies and places.
+pub fn plan(q: Ready, p: Pattern) -> DownlinkPlan
+    requires { ⌜ Answerable q p ⌝ }
+    ensures { λ r. ⌜ r ≡ planAnswer (q .no) (allows p) (periodOf p) (q .burst) ⌝ }
 {
     if q.no != 0 {
         return refused_plan(q.no);
     }
-    burst_plan(q.pattern, q.burst)
+    burst_plan(p, q.burst)
 }
 
 // Forward: the refusal, or the place of a position and the symbol there.
-pub fn forward(q: Ready, position: u64) -> DownlinkPlace
-    requires { ⌜ Answerable q ⌝ }
-    ensures { λ r. ⌜ r ≡ forwardAnswer (q .no) (allows (q .pattern)) (periodOf (q .pattern)) (q .burst) position ⌝ }
+pub fn forward(q: Ready, p: Pattern, position: u64) -> DownlinkPlace
+    requires { ⌜ Answerable q p ⌝ }
+    ensures { λ r. ⌜ r ≡ forwardAnswer (q .no) (allows p) (periodOf p) (q .burst) position ⌝ }
 {
     if q.no != 0 {
         return refused_place(q.no);
     }
-    burst_forward(q.pattern, q.burst, position)
+    burst_forward(p, q.burst, position)
 }
 
 // Backward: the refusal, or what stands at an element of subframe t.
-pub fn backward(q: Ready, t: u64, slot: u64, l: u64, k: u64) -> Back
-    requires { ⌜ Answerable q ⌝ }
-    ensures { λ r. ⌜ r ≡ backwardAnswer (q .no) (allows (q .pattern)) (periodOf (q .pattern)) (q .burst) t slot l k ⌝ }
+pub fn backward(q: Ready, p: Pattern, t: u64, slot: u64, l: u64, k: u64) -> Back
+    requires { ⌜ Answerable q p ⌝ }
+    ensures { λ r. ⌜ r ≡ backwardAnswer (q .no) (allows p) (periodOf p) (q .burst) t slot l k ⌝ }
 {
     if q.no != 0 {
         return sending::refused(q.no);
     }
-    burst_backward(q.pattern, q.burst, t, slot, l, k)
+    burst_backward(p, q.burst, t, slot, l, k)
 }

@@ -5,7 +5,7 @@ use native.Mathlib.Omega.{arith}
 use native.Mathlib.Nat.{mul-le-mul}
 use borrow.Author.Needs.{needs}
 use lib.Count.{ones, ones-le}
-use Rattle.spans.proofs.Laws.{Stretch, in-lead, in-sib1, in-tail, ready, landed}
+use Rattle.spans.proofs.Laws.{Stretch, few-spans, few-of-period, in-lead, in-sib1, in-tail, ready, landed}
 use Rattle.spans.proofs.pick.Statement.{statement}
 use Rattle.spans.proofs.pick.Tie as tie
 
@@ -32,6 +32,9 @@ tail c =
     omega (arith, c .before .if1 .left, c .if2 .left, ap (λ (n : ℕ). q .first * n) (s .pre .1 .plain), s .pre .1 .sib1) in
     subst (λ (n : ℕ). Stretch q (s .pre .0) (q .plain) (q .first + 4) j n) e (in-tail q (s .pre .0) j (omega (arith, s .pre .2)))
 
+short : (s : tie.Start) → s .args .k < 2 ^ 32
+short s = omega (arith, s .pre .2, few-of-period (s .args .p) (s .pre .0))
+
 few : (a n m : ℕ) → a ≤ 16 → n ≡ ones m → m < 2 ^ 40 → a * n ≤ 640
 few a n m h e l = omega (arith, mul-le-mul h (ones-le 40 m l), ap (λ (y : ℕ). a * y) e)
 
@@ -39,14 +42,14 @@ pub pick-spec : {M : Type 1} → statement M
 pick-spec =
     tie.close
     (tie.spec
-    (λ c. omega (arith, few (c .args .p .first) (c .args .b) (c .args .p .plain) (omega (arith, c .pre .0 .fits, c .pre .0 .few)) (c .pre .1 .plain) (c .pre .0 .plain-small)))
-    (λ c κs. let s = c .before in ready (s .args .p) (s .pre .0) _ _ _ _ _ (s .pre .1 .plain) (s .pre .0 .plain-small) (lead c))
+    (λ c. omega (arith, few (c .args .p .first) (c .args .b) (c .args .p .plain) (omega (arith, c .pre .0 .fits, few-spans (c .args .p) (c .pre .0))) (c .pre .1 .plain) (c .pre .0 .plain-small)))
+    (λ c κs. let s = c .before in ready (s .args .p) (s .pre .0) _ _ _ _ _ (s .pre .1 .plain) (s .pre .0 .plain-small) (short s) (lead c))
     (λ c. let s = c .before .before in landed (s .args .p) (s .pre .0) _ _ _ _ _ _ (s .pre .1 .plain) (s .pre .0 .plain-small) (lead (c .before)) (c .in-stretch .ensures))
     (λ c. let s = c .before in omega (arith, s .pre .1 .sib1, ones-le 40 (s .args .p .sib1) (s .pre .0 .sib1-small)))
-    (λ c κs. let s = c .before .before in ready (s .args .p) (s .pre .0) _ _ _ _ _ (s .pre .1 .sib1) (s .pre .0 .sib1-small) (sib1 c))
+    (λ c κs. let s = c .before .before in ready (s .args .p) (s .pre .0) _ _ _ _ _ (s .pre .1 .sib1) (s .pre .0 .sib1-small) (omega (arith, short s)) (sib1 c))
     (λ c. let s = c .before .before .before in landed (s .args .p) (s .pre .0) _ _ _ _ _ _ (s .pre .1 .sib1) (s .pre .0 .sib1-small) (sib1 (c .before)) (c .in-stretch2 .ensures))
-    (λ c. let s = c .before .before in omega (arith, s .pre .0 .fits, s .pre .0 .few))
+    (λ c. let s = c .before .before in omega (arith, s .pre .0 .fits, few-spans (s .args .p) (s .pre .0)))
     (λ c. let s = c .before .before in omega (arith, s .pre .1 .sib1, ones-le 40 (s .args .p .sib1) (s .pre .0 .sib1-small)))
     (λ c. omega (arith, c .if2 .left))
-    (λ c κs. let s = c .before .before in ready (s .args .p) (s .pre .0) _ _ _ _ _ (s .pre .1 .plain) (s .pre .0 .plain-small) (tail c))
+    (λ c κs. let s = c .before .before in ready (s .args .p) (s .pre .0) _ _ _ _ _ (s .pre .1 .plain) (s .pre .0 .plain-small) (omega (arith, short s)) (tail c))
     (λ c. let s = c .before .before .before in landed (s .args .p) (s .pre .0) _ _ _ _ _ _ (s .pre .1 .plain) (s .pre .0 .plain-small) (tail (c .before)) (c .in-stretch3 .ensures)))

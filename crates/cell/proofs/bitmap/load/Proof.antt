@@ -1,4 +1,4 @@
--- Reversed bytes, the last at the top; ten bits four times.
+-- The first byte at the top; ten bits four times.
 use mathlib.Core.Path.{_≡_, sym, _∙_}
 use Prim.Native.Nat.{ℕ, _≤_}
 use native.Mathlib.Omega.{arith}
@@ -29,7 +29,7 @@ returns-2 c =
     let r2 = c .before in
     let r1 = r2 .before .before in
     let e1 = r1 .before .before in
-    rw (c .if2 .taken, r2 .reversed2 .ensures .0, r1 .reversed .ensures .0) (loaded-ten _ (λ q. e1 .before .shared-slice-known .given q .fits))
+    rw (c .if2 .taken, r2 .wide2 .ensures .0, r1 .wide .ensures .0) (loaded-ten _ (λ q. e1 .before .shared-slice-known .given q .fits))
 
 returns-3 : tie.Need-returns-3
 returns-3 c =
@@ -39,7 +39,7 @@ returns-3 c =
     let r2 = e2 .before in
     let r1 = r2 .before .before in
     let e1 = r1 .before .before in
-    rw (is-forty e2, c .reversed5 .ensures .0, r4 .reversed4 .ensures .0, r3 .reversed3 .ensures .0, r2 .reversed2 .ensures .0, r1 .reversed .ensures .0)
+    rw (is-forty e2, c .wide5 .ensures .0, r4 .wide4 .ensures .0, r3 .wide3 .ensures .0, r2 .wide2 .ensures .0, r1 .wide .ensures .0)
     (loaded-forty _ (λ q. e1 .before .shared-slice-known .given q .fits))
 
 pub load-spec : {M : Type 1} → statement M
