@@ -86,7 +86,7 @@ backward-spec =
     (omega (arith, c .carried-by .ensures .1), w .slot-data .ensures .2, omega (arith, c .before .number-of .ensures .1, w .slot-data .ensures .0)))
     (λ c κs.
     let w = c .before .before .before in
-    (index-small (w .before .before .before), w .slot-data .ensures .2, omega (arith, c .before .before .number-of .ensures .1, w .slot-data .ensures .0)))
+    (omega (arith, index-small (w .before .before .before), c .before .carried-by .ensures .1), w .slot-data .ensures .2, omega (arith, c .before .before .number-of .ensures .1, w .slot-data .ensures .0)))
     (λ c κs. search needs)
     (λ c.
     let u = c .before .before .before in
