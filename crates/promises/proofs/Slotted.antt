@@ -1,4 +1,4 @@
--- DEMAND 3 of every accepted NPUSCH grant.
+-- DEMAND 3 of every accepted uplink grant: each kind is a shape.
 use mathlib.Core.Path.{_≡_, refl, sym, ap, _∙_, subst}
 use mathlib.Core.Logic.{_⊎_, inl, inr, ⊎-elim}
 use Prim.Native.Nat.{ℕ, _-_, _*_, _/_, _%_, _≤_, _<_}
@@ -11,8 +11,9 @@ use Rattle.slots.specs.declared.Shape.{Shape}
 use Rattle.slots.specs.Fits.{Fits}
 use Rattle.slots.specs.Elements.{slotData}
 use Rattle.slots.specs.Mapping.{sendingOf, places}
-use Rattle.slots.specs.Answers.{shapePlan, shapeForward, shapeBackward}
+use Rattle.slots.specs.Answers.{shapePlan, shapeForward, shapeBackward, planAnswer, forwardAnswer, backwardAnswer}
 use Rattle.slots.proofs.Joined.{forward-refused}
+use Rattle.slots.proofs.Judging.{plan-accepted, forward-accepted, backward-accepted, plan-no}
 use Rattle.slots.proofs.Lines.{slot-data, some-data}
 use Rattle.slots.proofs.Lawfulness.{shape-sound, forward-place, backward-content, place-symbol, place-subcarrier}
 use Rattle.uplink.specs.declared.UplinkGrant.{UplinkGrant}
@@ -20,8 +21,7 @@ use Rattle.uplink.specs.Refusals.{refusal}
 use Rattle.uplink.specs.Shaping.{grantTones, shapeOf}
 use Rattle.uplink.specs.Questions.{planOf, forwardOf, backwardOf}
 use Rattle.uplink.proofs.Acceptance.{fits}
-use Rattle.uplink.proofs.Answered.{plan-accepted, forward-accepted, backward-accepted, plan-no}
-use Rattle.promises.specs.Demand.{Answers, Demand, firstBy}
+use Rattle.promises.specs.Demand.{Answers, Granted, Demand, firstBy}
 use Rattle.promises.specs.Grids.{SlotPlace, uplinkGrid, uplinkColumns, uplinkAnswers}
 use Rattle.promises.specs.Promises.{dataSymbols, uplinkGranted}
 use Rattle.promises.proofs.Bridge.{Numbered, Read, demand}
@@ -68,11 +68,26 @@ module _ (s : Shape) (f : Fits s) where
     backward = λ x i. backward-content s f (x .slot) (x .l) (x .k) (i .0) (i .1);
   }
 
--- ---- NPUSCH
+-- ---- a question on it, with refusals
 
-answers-are : (g : UplinkGrant) → refusal g ≡ 0 → shapeAnswers (shapeOf g) ≡ uplinkAnswers (planOf g) (forwardOf g) (backwardOf g)
-answers-are g e =
-    λ i. uplinkAnswers (plan-accepted g e i) (λ p. forward-accepted g e p i) (λ slot l k. backward-accepted g e slot l k i)
+module _ (refusal : ℕ) (s : Shape) (fit : refusal ≡ 0 → Fits s) (copies symbols : ℕ) where
+  abbrev granted : Granted
+  granted = record { copies = copies; symbols = symbols; sending = sendingOf s }
+
+  answers-are : refusal ≡ 0 → shapeAnswers s ≡ uplinkAnswers (planAnswer refusal s) (forwardAnswer refusal s) (backwardAnswer refusal s)
+  answers-are e =
+      λ i. uplinkAnswers (plan-accepted refusal s e i) (λ p. forward-accepted refusal s e p i) (λ slot l k. backward-accepted refusal s e slot l k i)
+
+  pub question-demand : copies ≡ s .copies → (refusal ≡ 0 → symbols ≡ s .codeword * slotData s) → planAnswer refusal s .no ≡ 0
+      → Demand (uplinkGrid (s .subcarriers)) granted (uplinkAnswers (planAnswer refusal s) (forwardAnswer refusal s) (backwardAnswer refusal s))
+  question-demand R N h =
+      let e : refusal ≡ 0 = sym (plan-no refusal s) ∙ h in
+      let f : Fits s = fit e in
+      subst (Demand (uplinkGrid (s .subcarriers)) granted) (answers-are e)
+      (demand (uplinkGrid (s .subcarriers)) (uplink-numbered (s .subcarriers) (some-tones s f)) granted (shapeAnswers s)
+      (shape-read s f) (s .codeword) (s .copies) (shape-sound s f) R (N e))
+
+-- ---- NPUSCH
 
 -- six data symbols on each tone
 six-each : (g : UplinkGrant) → refusal g ≡ 0 → grantTones g * dataSymbols ≡ slotData (shapeOf g)
@@ -81,11 +96,6 @@ six-each g e = mul-comm (grantTones g) dataSymbols ∙ slot-data (shapeOf g) (fi
 
 pub uplink-demand : (g : UplinkGrant) → planOf g .no ≡ 0
     → Demand (uplinkGrid (uplinkSubcarriers (g .spacing))) (uplinkGranted g) (uplinkAnswers (planOf g) (forwardOf g) (backwardOf g))
-unfolding shapeOf
-uplink-demand g h =
-    let e : refusal g ≡ 0 = sym (plan-no g) ∙ h in
-    let s : Shape = shapeOf g in
-    let f : Fits s = fits g e in
-    subst (Demand (uplinkGrid (s .subcarriers)) (uplinkGranted g)) (answers-are g e)
-    (demand (uplinkGrid (s .subcarriers)) (uplink-numbered (s .subcarriers) (some-tones s f)) (uplinkGranted g) (shapeAnswers s)
-    (shape-read s f) (s .codeword) (s .copies) (shape-sound s f) refl (ap (λ (w : ℕ). s .codeword * w) (six-each g e)))
+unfolding shapeOf planOf forwardOf backwardOf
+uplink-demand g =
+    question-demand (refusal g) (shapeOf g) (fits g) _ _ refl (λ e. ap (λ (w : ℕ). shapeOf g .codeword * w) (six-each g e))

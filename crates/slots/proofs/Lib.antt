@@ -5,3 +5,4 @@ pub mod Joined
 pub mod Splitting
 pub mod Lawfulness
 pub mod Sizes
+pub mod Judging

@@ -1,7 +1,7 @@
 -- What plan, forward and backward answer for a shape: 01 "Questions". A refused question has its number and zeros.
 use mathlib.Core.Bool.{cond, _&&_}
 use Prim.Native.Nat.{ℕ, _-_}
-use lib.Dec.{ltb}
+use lib.Dec.{eqb, ltb}
 use Rattle.grid.specs.Grid.{symbols, uplinkElementOf, uplinkSymbolOf, uplinkSubcarrierOf}
 use Rattle.sending.specs.declared.Back.{Back}
 use Rattle.sending.specs.Sending.{Spot, spotAt, contentAt}
@@ -50,3 +50,14 @@ shapeBackward s slot l k =
     cond (ltb l symbols && ltb k (s .subcarriers))
     (backOf (contentAt (sendingOf s) slot (uplinkElementOf (s .subcarriers) l k)))
     (refusedBack 14)
+
+-- ---- a question on a grant: its refusal, or what its shape answers
+
+unfoldable pub planAnswer : ℕ → Shape → UplinkPlan
+planAnswer refusal s = cond (eqb refusal 0) (shapePlan s) (refusedPlan refusal)
+
+unfoldable pub forwardAnswer : ℕ → Shape → ℕ → UplinkPlace
+forwardAnswer refusal s p = cond (eqb refusal 0) (shapeForward s p) (refusedPlace refusal)
+
+unfoldable pub backwardAnswer : ℕ → Shape → ℕ → ℕ → ℕ → Back
+backwardAnswer refusal s slot l k = cond (eqb refusal 0) (shapeBackward s slot l k) (refusedBack refusal)

@@ -18,15 +18,15 @@ use Rattle.slots.specs.Numerology.{firstAfter}
 use Rattle.uplink.specs.Fields.{toneFields, tonesOf, firstTone, unitSlots, rowOf}
 use Rattle.uplink.specs.Refusals.{lastSubframe, refusalWithin, refusal}
 use Rattle.uplink.specs.Shaping.{shapeOf}
-use Rattle.uplink.specs.Questions.{planOf}
+use Rattle.uplink.specs.Questions.{planOf, forwardOf}
 use Rattle.uplink.specs.Cases.{grant, Sends, upTo, carriedSlots, firstPass, UplinkCases}
 use Rattle.uplink.proofs.Acceptance.{accepts}
-use Rattle.uplink.proofs.Answered.{plan-accepted, forward-accepted, plan-refused}
+use Rattle.slots.proofs.Judging.{plan-accepted, forward-accepted, refused-plan-is}
 
 sends : (g : UplinkGrant) (a b : ℕ) → refusal g ≡ 0 → shapePlan (shapeOf g) .first ≡ a → shapePlan (shapeOf g) .last ≡ b → Sends g a b
-unfolding shapePlan
+unfolding planOf shapePlan
 sends g a b e x y =
-    let q = plan-accepted g e in
+    let q = plan-accepted (refusal g) (shapeOf g) e in
     record { no = rw (← q) refl; first = rw (← q) x; last = rw (← q) y }
 
 case2 : (mcs : ℕ) → mcs ≤ 4 → Sends (grant 100 1 18 0 3 0 mcs) 218 233 × (codewordSymbols (shapeOf (grant 100 1 18 0 3 0 mcs)) ≡ 144)
@@ -41,9 +41,10 @@ case3 n mcs (inr e) h = rw e (sends (grant 101 0 47 0 0 0 mcs) 55 70 (accepts la
 -- the chain passes 9 and 10, and stops at 11
 case4 : (n spacing subcarrier units copies delay mcs : ℕ) → n ≤ lastSubframe → spacing ≤ 1 → toneFields spacing ≤ subcarrier → subcarrier ≤ 63
     → units ≤ 7 → copies ≤ 7 → delay ≤ 3 → mcs ≤ 15 → planOf (grant n spacing subcarrier units copies delay mcs) ≡ refusedPlan 11
-unfolding refusalWithin
+unfolding planOf refusalWithin
 case4 n spacing subcarrier units copies delay mcs a b c d e f g h =
-    sym (plan-refused (grant n spacing subcarrier units copies delay mcs) 11
+    let x : UplinkGrant = grant n spacing subcarrier units copies delay mcs in
+    sym (refused-plan-is (refusal x) 11 (shapeOf x)
     (rw (
       le-ltb lastSubframe n a,
       le-ltb 1 spacing b,
@@ -60,12 +61,12 @@ map-same f h e [] = refl
 map-same f h e (x ∷ l) = ap₂ _∷_ (e x) (map-same f h e l)
 
 case5 : (n delay mcs : ℕ) → n ≤ lastSubframe → delay ≤ 3 → mcs ≤ 4 → carriedSlots (grant n 1 12 0 2 delay mcs) 32 ≡ firstPass ++ firstPass
-unfolding shapeForward shapeOf tonesOf firstTone unitSlots rowOf slotData rank carriesData
+unfolding forwardOf shapeForward shapeOf tonesOf firstTone unitSlots rowOf slotData rank carriesData
 case5 n delay mcs a b c =
     let g : UplinkGrant = grant n 1 12 0 2 delay mcs in
     let e : refusal g ≡ 0 = accepts lastSubframe g (omega arith) in
     map-same _ (λ i. shapeForward (shapeOf g) (i * 18) .symbol / 18)
-    (λ i. ap (λ (x : UplinkPlace). x .symbol / 18) (sym (forward-accepted g e (i * 18)))) (upTo 32)
+    (λ i. ap (λ (x : UplinkPlace). x .symbol / 18) (sym (forward-accepted (refusal g) (shapeOf g) e (i * 18)))) (upTo 32)
 
 -- one tone at 3.75 kHz, one resource unit
 module _ (n tone copies delay mcs : ℕ) (a : n ≤ lastSubframe) (b : tone ≤ 47) (c : copies ≤ 7) (d : delay ≤ 3) (f : mcs ≤ 4) where
@@ -77,9 +78,9 @@ module _ (n tone copies delay mcs : ℕ) (a : n ≤ lastSubframe) (b : tone ≤ 
   one-tone-sent = rw (lt-ltb tone (uplinkSubcarriers 0) (omega arith)) refl
 
   case6 : (planOf one-tone .first ≡ slotAt (shapeOf one-tone) 0) × (planOf one-tone .last ≡ slotAt (shapeOf one-tone) (entry uplinkCopies copies * 16 - 1))
-  unfolding shapePlan
+  unfolding planOf shapePlan
   case6 =
-      let q = plan-accepted one-tone (accepts lastSubframe one-tone (omega arith)) in
+      let q = plan-accepted (refusal one-tone) (shapeOf one-tone) (accepts lastSubframe one-tone (omega arith)) in
       (rw (← q) refl, rw (← q) (ap (λ (k : ℕ). slotAt (shapeOf one-tone) (k - 1)) one-tone-sent))
 
 pub uplink-cases : UplinkCases

@@ -10,6 +10,8 @@ use borrow.Author.Tests.{eq-eqb, ne-eqb, lt-ltb, le-ltb}
 use Rattle.elements.proofs.Laws.{count-le}
 use Rattle.cell.specs.declared.Cell.{Cell}
 use Rattle.cell.specs.Judge.{judgeOf}
+use Rattle.slots.specs.declared.Shape.{Shape}
+use Rattle.slots.specs.Fits as uplinkFits
 use Rattle.slots.specs.Answers as slots
 use Rattle.slots.specs.Mapping as uplinkMapping
 use Rattle.slots.proofs.Joined as uplinkJoined
@@ -21,11 +23,10 @@ use Rattle.subframes.specs.Answers.{burstPlan, burstForward, planAnswer, forwar
 use Rattle.subframes.specs.Cells.{questionRefusal}
 use Rattle.subframes.proofs.Joined.{sent-small, places-small}
 use Rattle.subframes.proofs.Judging.{accepted-cell}
-use Rattle.uplink.specs.declared.UplinkGrant.{UplinkGrant}
-use Rattle.uplink.specs.Refusals.{refusal}
-use Rattle.uplink.specs.Shaping.{shapeOf}
+use Rattle.uplink.specs.Refusals as upRefusals
+use Rattle.uplink.specs.Shaping as upShaping
 use Rattle.uplink.specs.Questions as up
-use Rattle.uplink.proofs.Acceptance.{fits}
+use Rattle.uplink.proofs.Acceptance as upAcceptance
 use Rattle.downlink.specs.Questions as down
 use Rattle.downlink.proofs.Accepting as downAccepting
 use Rattle.control.specs.Questions as control
@@ -43,27 +44,25 @@ pub record Agrees (q : Asked) : Type 0 where
 
 -- ---- uplink
 
-module _ (g : UplinkGrant) where
-  abbrev upAsked : Asked
-  upAsked = record { no = up.planOf g .no; places = up.planOf g .places; at = λ p. fromUplink (up.forwardOf g p) }
+module _ (refusal : ℕ) (s : Shape) (f : refusal ≡ 0 → uplinkFits.Fits s) where
+  abbrev shapeAsked : Asked
+  shapeAsked = record { no = slots.planAnswer refusal s .no; places = slots.planAnswer refusal s .places; at = λ p. fromUplink (slots.forwardAnswer refusal s p) }
 
-  up-small : refusal g ≡ 0 → uplinkMapping.places (shapeOf g) < 2 ^ 63
-  up-small e =
-      let f = fits g e in
-      omega (arith, mul-le-mul (le-of-lt (uplinkJoined.sent-small (shapeOf g) f)) (le-of-lt (slot-data-small (shapeOf g) f)))
+  shape-small : refusal ≡ 0 → uplinkMapping.places s < 2 ^ 63
+  shape-small e = omega (arith, mul-le-mul (le-of-lt (uplinkJoined.sent-small s (f e))) (le-of-lt (slot-data-small s (f e))))
 
-  up-agrees : Agrees upAsked
-  unfolding up.planOf up.forwardOf slots.shapePlan slots.shapeForward
-  up-agrees = by (ℕ-discrete (refusal g) 0)
+  shape-agrees : Agrees shapeAsked
+  unfolding slots.planAnswer slots.forwardAnswer slots.shapePlan slots.shapeForward
+  shape-agrees = by (ℕ-discrete refusal 0)
     where
-      by : Dec (refusal g ≡ 0) → Agrees upAsked
-      by (yes e) = rw (eq-eqb (refusal g) 0 e) record {
+      by : Dec (refusal ≡ 0) → Agrees shapeAsked
+      by (yes e) = rw (eq-eqb refusal 0 e) record {
         refused = λ p n. absurd (n refl);
-        inside = λ p z h. rw (lt-ltb p (uplinkMapping.places (shapeOf g)) h) refl;
-        past = λ p z h. rw (le-ltb p (uplinkMapping.places (shapeOf g)) h) refl;
-        small = λ z. up-small e;
+        inside = λ p z h. rw (lt-ltb p (uplinkMapping.places s) h) refl;
+        past = λ p z h. rw (le-ltb p (uplinkMapping.places s) h) refl;
+        small = λ z. shape-small e;
       }
-      by (no n) = rw (ne-eqb (refusal g) 0 n) record {
+      by (no n) = rw (ne-eqb refusal 0 n) record {
         refused = λ p h. refl;
         inside = λ p z h. absurd (n z);
         past = λ p z h. absurd (n z);
@@ -109,8 +108,8 @@ both-accepted c anchor other grant e = by (ℕ-discrete (judgeOf c anchor other)
 -- ---- any grant
 
 pub agrees : (c : Cell) (anchor other : List ℕ) (g : Grant) → Agrees (asked c anchor other g)
-unfolding asked down.planOf down.forwardOf control.planOf control.forwardOf
-agrees c anchor other (Up g) = up-agrees g
+unfolding asked up.planOf up.forwardOf down.planOf down.forwardOf control.planOf control.forwardOf
+agrees c anchor other (Up g) = shape-agrees (upRefusals.refusal g) (upShaping.shapeOf g) (upAcceptance.fits g)
 agrees c anchor other (Down g) =
     burst-agrees _ _ _ (down.burstOf c g)
     (λ e. let a = both-accepted c anchor other _ e in downAccepting.burst-fits c g (accepted-cell c anchor other (a .0)) (a .1))

@@ -1,12 +1,28 @@
 use mathlib.Core.Path.{sym, ap, _∙_}
 use Rattle.slots.specs.declared.Shape.{Shape}
 use Rattle.slots.specs.Answers.{shapeForward}
+use Rattle.slots.proofs.Judging.{forward-accepted, refused-place-is}
 use Rattle.slots.proofs.Sizes.{fits-sized, forward-sized}
 use Rattle.uplink.specs.Shaping.{shapeOf}
+use Rattle.uplink.specs.Questions.{forwardOf}
 use Rattle.uplink.proofs.Acceptance.{fits}
-use Rattle.uplink.proofs.Answered.{forward-accepted, forward-refused}
 use Rattle.uplink.proofs.forward.Statement.{statement}
 use Rattle.uplink.proofs.forward.Tie as tie
+
+returns : tie.Need-returns
+unfolding forwardOf
+returns c =
+    let j = c .before .before in
+    let a = j .before .args in
+    c .refused-place .ensures ∙ refused-place-is _ _ (shapeOf (a .g)) (j .judge .ensures) (c .before .if1 .taken) (a .p)
+
+returns-2 : tie.Need-returns-2
+unfolding forwardOf
+returns-2 c =
+    let j = c .before .before .before in
+    let a = j .before .args in
+    c .forward .ensures ∙ ap (λ (s : Shape). shapeForward s (a .p)) (c .before .shape .ensures) ∙ forward-sized (shapeOf (a .g)) 0 0 (a .p)
+    ∙ forward-accepted _ (shapeOf (a .g)) (sym (j .judge .ensures) ∙ c .before .before .if1 .left) (a .p)
 
 pub forward-spec : {M : Type 1} → statement M
 forward-spec =
@@ -14,15 +30,9 @@ forward-spec =
     (tie.spec
     (λ c κs. tt)
     (λ c κs. tt)
-    (λ c.
-    let j = c .before .before in
-    c .refused-place .ensures ∙ forward-refused (j .before .args .g) _ (j .judge .ensures) (c .before .if1 .taken) (j .before .args .p))
+    returns
     (λ c κs. sym (c .before .judge .ensures) ∙ c .if1 .left)
     (λ c κs.
     let j = c .before .before in
     rw (c .shape .ensures) (fits-sized _ 0 0 (fits (j .before .args .g) (sym (j .judge .ensures) ∙ c .before .if1 .left))))
-    (λ c.
-    let j = c .before .before .before in
-    let a = j .before .args in
-    c .forward .ensures ∙ ap (λ (s : Shape). shapeForward s (a .p)) (c .before .shape .ensures) ∙ forward-sized (shapeOf (a .g)) 0 0 (a .p)
-    ∙ forward-accepted (a .g) (sym (j .judge .ensures) ∙ c .before .before .if1 .left) (a .p)))
+    returns-2)
