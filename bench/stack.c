@@ -10,7 +10,8 @@ enum { STACK = 1 << 18, PAINT = 0xa5 };
 
 static uint64_t answer[8];
 static float output[336], pair[2];
-static const uint64_t cell[] = {1, 0, 5, 1, 4, 1, 1, 40}, down[] = {1000, 3, 64, 7, 9}, control[] = {1000, 64, 0, 1}, up[] = {1000, 1, 14, 5, 6, 2, 3};
+static const uint64_t cell[] = {1, 0, 5, 1, 4, 1, 1, 40}, down[] = {1000, 3, 64, 7, 9}, control[] = {1000, 64, 0, 1};
+static const uint64_t up[] = {1000, 1, 14, 5, 6, 2, 3}, ack[] = {1000, 1, 6, 5};
 static const uint8_t anchor[] = {0xff, 0xf7, 0xdb, 0xff, 0xff}, other[5];
 static uint8_t bits[320];
 
@@ -21,12 +22,15 @@ static uint64_t nothing(void) { return 0; }
 static uint64_t judge(void) { return nbiot_judge(CELL); }
 static uint64_t bitmap(void) { return nbiot_bitmap(CELL, ANSWER); }
 static uint64_t plan_up(void) { return nbiot_plan_up(up, 7, ANSWER); }
+static uint64_t plan_ack(void) { return nbiot_plan_ack(ack, 4, ANSWER); }
 static uint64_t plan_down(void) { return nbiot_plan_down(CELL, down, 5, ANSWER); }
 static uint64_t plan_control(void) { return nbiot_plan_control(CELL, control, 4, ANSWER); }
 static uint64_t forward_up(void) { return nbiot_forward_up(up, 7, 100, ANSWER); }
+static uint64_t forward_ack(void) { return nbiot_forward_ack(ack, 4, 100, ANSWER); }
 static uint64_t forward_down(void) { return nbiot_forward_down(CELL, down, 5, 5000, ANSWER); }
 static uint64_t forward_control(void) { return nbiot_forward_control(CELL, control, 4, 100, ANSWER); }
 static uint64_t backward_up(void) { return nbiot_backward_up(up, 7, 2100, 2, 7, ANSWER); }
+static uint64_t backward_ack(void) { return nbiot_backward_ack(ack, 4, 2040, 0, 2, ANSWER); }
 static uint64_t backward_down(void) { return nbiot_backward_down(CELL, down, 5, 1100, 1, 2, 7, ANSWER); }
 static uint64_t backward_control(void) { return nbiot_backward_control(CELL, control, 4, 1011, 1, 2, 7, ANSWER); }
 
@@ -34,6 +38,12 @@ static uint64_t step_up(void) {
     uint64_t walk[8] = {100};
     memcpy(walk + 1, up, sizeof up);
     return nbiot_step_up(walk, 8, ANSWER);
+}
+
+static uint64_t step_ack(void) {
+    uint64_t walk[5] = {100};
+    memcpy(walk + 1, ack, sizeof ack);
+    return nbiot_step_ack(walk, 5, ANSWER);
 }
 
 static uint64_t step_down(void) {
@@ -77,10 +87,10 @@ static size_t depth(uint64_t (*question)(void), uint64_t *number) {
 
 int main(void) {
     static const struct { const char *name; uint64_t (*question)(void); } questions[] = {
-        {"judge", judge}, {"bitmap", bitmap}, {"plan up", plan_up}, {"plan down", plan_down}, {"plan control", plan_control},
-        {"forward up", forward_up}, {"forward down", forward_down}, {"forward control", forward_control},
-        {"backward up", backward_up}, {"backward down", backward_down}, {"backward control", backward_control},
-        {"step up", step_up}, {"step down", step_down}, {"step control", step_control}, {"fill", fill}, {"element", element},
+        {"judge", judge}, {"bitmap", bitmap}, {"plan up", plan_up}, {"plan ack", plan_ack}, {"plan down", plan_down}, {"plan control", plan_control},
+        {"forward up", forward_up}, {"forward ack", forward_ack}, {"forward down", forward_down}, {"forward control", forward_control},
+        {"backward up", backward_up}, {"backward ack", backward_ack}, {"backward down", backward_down}, {"backward control", backward_control},
+        {"step up", step_up}, {"step ack", step_ack}, {"step down", step_down}, {"step control", step_control}, {"fill", fill}, {"element", element},
     };
     uint64_t number;
     size_t base = depth(nothing, &number);

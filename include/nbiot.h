@@ -17,7 +17,7 @@
  *     6  SIB1 schedule above 11
  *     7  bitmap length not 0, 10 or 40, its buffer too short, or spare bits set
  *     8  no usable subframe among the 2,560
- *     9  n above 2^30 - 1
+ *     9  n above 2^30 - 1, of an acknowledgement above 2^31 - 1
  *    10  a field above its largest number, or NCCE 1 with format 1
  *    11  subcarrier field 48 to 63 at 3.75 kHz, 19 to 63 at 15 kHz
  *    12  Rmax or NPDCCH copies not a power of two, 1 to 2048
@@ -66,6 +66,15 @@ enum {
     NBIOT_UP_DELAY,
     NBIOT_UP_MCS,
     NBIOT_UP_NUMBERS
+};
+
+/* An acknowledgement on NPUSCH format 2 of an NPDSCH that ends in subframe n. The rest are fields. */
+enum {
+    NBIOT_ACK_N,
+    NBIOT_ACK_SPACING,   /* 0: 3.75 kHz, 1: 15 kHz */
+    NBIOT_ACK_FIELD,     /* the 4-bit field of tone and delay */
+    NBIOT_ACK_COPIES,
+    NBIOT_ACK_NUMBERS
 };
 
 /* An NPDSCH grant that ends in subframe n. Delay, subframes and copies are fields, rmax is the number itself. */
@@ -127,6 +136,9 @@ enum {
 uint64_t nbiot_plan_up(const uint64_t *grant, size_t grant_len,
                        uint64_t *answer, size_t answer_len);
 
+uint64_t nbiot_plan_ack(const uint64_t *grant, size_t grant_len,
+                        uint64_t *answer, size_t answer_len);
+
 uint64_t nbiot_plan_down(const uint64_t *cell, size_t cell_len,
                          const uint8_t *anchor, size_t anchor_len,
                          const uint8_t *other, size_t other_len,
@@ -162,6 +174,9 @@ enum {
 uint64_t nbiot_forward_up(const uint64_t *grant, size_t grant_len, uint64_t p,
                           uint64_t *answer, size_t answer_len);
 
+uint64_t nbiot_forward_ack(const uint64_t *grant, size_t grant_len, uint64_t p,
+                           uint64_t *answer, size_t answer_len);
+
 uint64_t nbiot_forward_down(const uint64_t *cell, size_t cell_len,
                             const uint8_t *anchor, size_t anchor_len,
                             const uint8_t *other, size_t other_len,
@@ -188,6 +203,10 @@ uint64_t nbiot_backward_up(const uint64_t *grant, size_t grant_len,
                            uint64_t slot, uint64_t l, uint64_t k,
                            uint64_t *answer, size_t answer_len);
 
+uint64_t nbiot_backward_ack(const uint64_t *grant, size_t grant_len,
+                            uint64_t slot, uint64_t l, uint64_t k,
+                            uint64_t *answer, size_t answer_len);
+
 uint64_t nbiot_backward_down(const uint64_t *cell, size_t cell_len,
                              const uint8_t *anchor, size_t anchor_len,
                              const uint8_t *other, size_t other_len,
@@ -213,6 +232,7 @@ enum {
     NBIOT_WALK_CELL = NBIOT_WALK_UP_GRANT,
     NBIOT_WALK_GRANT = NBIOT_WALK_CELL + NBIOT_CELL_NUMBERS,
     NBIOT_WALK_UP_NUMBERS = NBIOT_WALK_UP_GRANT + NBIOT_UP_NUMBERS,
+    NBIOT_WALK_ACK_NUMBERS = NBIOT_WALK_UP_GRANT + NBIOT_ACK_NUMBERS,
     NBIOT_WALK_DOWN_NUMBERS = NBIOT_WALK_GRANT + NBIOT_DOWN_NUMBERS,
     NBIOT_WALK_CONTROL_NUMBERS = NBIOT_WALK_GRANT + NBIOT_CONTROL_NUMBERS
 };
@@ -230,6 +250,9 @@ enum {
 
 uint64_t nbiot_step_up(uint64_t *walk, size_t walk_len,
                        uint64_t *answer, size_t answer_len);
+
+uint64_t nbiot_step_ack(uint64_t *walk, size_t walk_len,
+                        uint64_t *answer, size_t answer_len);
 
 uint64_t nbiot_step_down(uint64_t *walk, size_t walk_len,
                          const uint8_t *anchor, size_t anchor_len,

@@ -2,12 +2,14 @@
 //! its grant. No loop runs over subframes or elements, but for the fill, which writes its numbers once.
 //! Cells, grants and answers are in the order of include/nbiot.h.
 
+mod acknowledgement;
 mod cell;
 mod downlink;
 mod elements;
 mod fill;
 mod uplink;
 
+pub use acknowledgement::{backward_ack, forward_ack, plan_ack, step_ack};
 pub use cell::judge;
 pub use downlink::{backward_control, backward_down, forward_control, forward_down, plan_control, plan_down, step_control, step_down};
 pub use fill::{element, fill};
@@ -15,9 +17,11 @@ pub use uplink::{backward_up, forward_up, plan_up, step_up};
 
 pub type Cell = [u64; 8];
 pub type UpGrant = [u64; 7];
+pub type AckGrant = [u64; 4];
 pub type DownGrant = [u64; 5];
 pub type ControlGrant = [u64; 4];
 pub type UpWalk = [u64; 8];
+pub type AckWalk = [u64; 5];
 pub type DownWalk = [u64; 14];
 pub type ControlWalk = [u64; 13];
 

@@ -1,6 +1,6 @@
 //! The proved library, through its C functions. A call is safe: each buffer goes with its own length.
 
-use crate::fast::{Cell, ControlGrant, ControlWalk, DownGrant, DownWalk, UpGrant, UpWalk};
+use crate::fast::{AckGrant, AckWalk, Cell, ControlGrant, ControlWalk, DownGrant, DownWalk, UpGrant, UpWalk};
 
 extern "C" {
     fn nbiot_judge(cell: *const u64, cells: usize, anchor: *const u8, anchors: usize, other: *const u8, others: usize) -> u64;
@@ -8,6 +8,10 @@ extern "C" {
     fn nbiot_forward_up(grant: *const u64, grants: usize, p: u64, answer: *mut u64, answers: usize) -> u64;
     fn nbiot_backward_up(grant: *const u64, grants: usize, slot: u64, l: u64, k: u64, answer: *mut u64, answers: usize) -> u64;
     fn nbiot_step_up(walk: *mut u64, walks: usize, answer: *mut u64, answers: usize) -> u64;
+    fn nbiot_plan_ack(grant: *const u64, grants: usize, answer: *mut u64, answers: usize) -> u64;
+    fn nbiot_forward_ack(grant: *const u64, grants: usize, p: u64, answer: *mut u64, answers: usize) -> u64;
+    fn nbiot_backward_ack(grant: *const u64, grants: usize, slot: u64, l: u64, k: u64, answer: *mut u64, answers: usize) -> u64;
+    fn nbiot_step_ack(walk: *mut u64, walks: usize, answer: *mut u64, answers: usize) -> u64;
     fn nbiot_step_down(
         walk: *mut u64, walks: usize, anchor: *const u8, anchors: usize, other: *const u8, others: usize, answer: *mut u64, answers: usize,
     ) -> u64;
@@ -83,6 +87,30 @@ pub fn backward_up(grant: &UpGrant, slot: u64, l: u64, k: u64, answer: &mut [u64
 pub fn step_up(walk: &mut UpWalk, answer: &mut [u64; 7]) -> u64 {
     // SAFETY: as above; only `walk` and `answer` are written.
     unsafe { nbiot_step_up(walk.as_mut_ptr(), walk.len(), answer.as_mut_ptr(), answer.len()) }
+}
+
+#[inline(always)]
+pub fn plan_ack(grant: &AckGrant, answer: &mut [u64; 7]) -> u64 {
+    // SAFETY: as above; only `answer` is written.
+    unsafe { nbiot_plan_ack(grant.as_ptr(), grant.len(), answer.as_mut_ptr(), answer.len()) }
+}
+
+#[inline(always)]
+pub fn forward_ack(grant: &AckGrant, p: u64, answer: &mut [u64; 5]) -> u64 {
+    // SAFETY: as above; only `answer` is written.
+    unsafe { nbiot_forward_ack(grant.as_ptr(), grant.len(), p, answer.as_mut_ptr(), answer.len()) }
+}
+
+#[inline(always)]
+pub fn backward_ack(grant: &AckGrant, slot: u64, l: u64, k: u64, answer: &mut [u64; 5]) -> u64 {
+    // SAFETY: as above; only `answer` is written.
+    unsafe { nbiot_backward_ack(grant.as_ptr(), grant.len(), slot, l, k, answer.as_mut_ptr(), answer.len()) }
+}
+
+#[inline(always)]
+pub fn step_ack(walk: &mut AckWalk, answer: &mut [u64; 7]) -> u64 {
+    // SAFETY: as above; only `walk` and `answer` are written.
+    unsafe { nbiot_step_ack(walk.as_mut_ptr(), walk.len(), answer.as_mut_ptr(), answer.len()) }
 }
 
 #[inline(always)]

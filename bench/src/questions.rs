@@ -57,6 +57,7 @@ fn judge(timed: &mut [Scene], compared: &[Scene]) {
 
 fn plans(timed: &mut [Scene], compared: &mut [Scene]) {
     line!("plan up", timed, compared, 7, |s, a| ours::plan_up(&s.up, a), fast::plan_up(&s.up));
+    line!("plan ack", timed, compared, 7, |s, a| ours::plan_ack(&s.ack, a), fast::plan_ack(&s.ack));
     line!(
         "plan down", timed, compared, 5,
         |s, a| ours::plan_down(&s.cell, &s.anchor, &s.other, &s.down, a),
@@ -76,6 +77,11 @@ fn forwards(timed: &mut [Scene], compared: &mut [Scene]) {
         fast::forward_up(&s.up, s.p[0])
     );
     line!(
+        "forward ack", timed, compared, 5,
+        |s, a| ours::forward_ack(&s.ack, s.p[3], a),
+        fast::forward_ack(&s.ack, s.p[3])
+    );
+    line!(
         "forward down", timed, compared, 6,
         |s, a| ours::forward_down(&s.cell, &s.anchor, &s.other, &s.down, s.p[1], a),
         fast::forward_down(&s.cell, &s.anchor, &s.other, &s.down, s.p[1])
@@ -92,6 +98,11 @@ fn backwards(timed: &mut [Scene], compared: &mut [Scene]) {
         "backward up", timed, compared, 5,
         |s, a| ours::backward_up(&s.up, s.at_up[0], s.at_up[1], s.at_up[2], a),
         fast::backward_up(&s.up, s.at_up)
+    );
+    line!(
+        "backward ack", timed, compared, 5,
+        |s, a| ours::backward_ack(&s.ack, s.at_ack[0], s.at_ack[1], s.at_ack[2], a),
+        fast::backward_ack(&s.ack, s.at_ack)
     );
     line!(
         "backward down", timed, compared, 5,
@@ -140,6 +151,7 @@ macro_rules! step {
 
 fn steps(timed: &mut [Scene], compared: &mut [Scene]) {
     step!("step up", timed, compared, walk_up, 0, |s, a| ours::step_up(&mut s.walk_up, a), fast::step_up(&mut s.walk_up));
+    step!("step ack", timed, compared, walk_ack, 3, |s, a| ours::step_ack(&mut s.walk_ack, a), fast::step_ack(&mut s.walk_ack));
     step!(
         "step down", timed, compared, walk_down, 1,
         |s, a| ours::step_down(&mut s.walk_down, &s.anchor, &s.other, a),

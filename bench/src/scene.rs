@@ -1,6 +1,6 @@
 //! Inputs: cells and grants at random, accepted ones for the times and any for the comparison.
 
-use crate::fast::{self, Cell, ControlGrant, ControlWalk, DownGrant, DownWalk, UpGrant, UpWalk};
+use crate::fast::{self, AckGrant, AckWalk, Cell, ControlGrant, ControlWalk, DownGrant, DownWalk, UpGrant, UpWalk};
 
 /// xorshift64*: the same numbers in every run.
 pub struct Random(u64);
@@ -43,13 +43,16 @@ pub struct Scene {
     pub anchor: [u8; 5],
     pub other: [u8; 5],
     pub up: UpGrant,
+    pub ack: AckGrant,
     pub down: DownGrant,
     pub control: ControlGrant,
-    pub p: [u64; 3],
+    pub p: [u64; 4],
     pub at_up: [u64; 3],
+    pub at_ack: [u64; 3],
     pub at_down: [u64; 4],
     pub at_control: [u64; 4],
     pub walk_up: UpWalk,
+    pub walk_ack: AckWalk,
     pub walk_down: DownWalk,
     pub walk_control: ControlWalk,
     pub i: u64,
@@ -88,6 +91,10 @@ fn up(r: &mut Random) -> UpGrant {
     [r.below(1 << 30), spacing, r.below(fields), r.below(8), r.below(8), r.below(4), r.below(5)]
 }
 
+fn ack(r: &mut Random) -> AckGrant {
+    [r.below(1 << 31), r.below(2), r.below(16), r.below(8)]
+}
+
 fn down(r: &mut Random) -> DownGrant {
     [r.below(1 << 30), r.below(8), 1 << r.below(12), r.below(8), r.below(16)]
 }
@@ -101,22 +108,23 @@ impl Scene {
     fn plain(r: &mut Random) -> Scene {
         let cell = cell(r);
         let (anchor, other) = (bitmap(r, cell[7]), bitmap(r, cell[7]));
-        let (up, down, control) = (up(r), down(r), control(r));
-        let (at_up, at_down, at_control) = ([0; 3], [0; 4], [0; 4]);
-        let (walk_up, walk_down, walk_control) = ([0; 8], [0; 14], [0; 13]);
+        let (up, ack, down, control) = (up(r), ack(r), down(r), control(r));
+        let (at_up, at_ack, at_down, at_control) = ([0; 3], [0; 3], [0; 4], [0; 4]);
+        let (walk_up, walk_ack, walk_down, walk_control) = ([0; 8], [0; 5], [0; 14], [0; 13]);
         let (i, bits, level) = (0, Vec::new(), 1.0);
         Scene {
-            cell, anchor, other, up, down, control, p: [0; 3], at_up, at_down, at_control,
-            walk_up, walk_down, walk_control, i, bits, level,
+            cell, anchor, other, up, ack, down, control, p: [0; 4], at_up, at_ack, at_down, at_control,
+            walk_up, walk_ack, walk_down, walk_control, i, bits, level,
         }
     }
 
     /// The walks' records, at the positions.
     pub fn record(&mut self) {
-        let Scene { cell, up, down, control, p, .. } = self;
+        let Scene { cell, up, ack, down, control, p, .. } = self;
         self.walk_up = joined(&[&p[..1], &up[..]]);
+        self.walk_ack = joined(&[&p[3..], &ack[..]]);
         self.walk_down = joined(&[&p[1..2], &cell[..], &down[..]]);
-        self.walk_control = joined(&[&p[2..], &cell[..], &control[..]]);
+        self.walk_control = joined(&[&p[2..3], &cell[..], &control[..]]);
     }
 
     /// Bits of the whole codeword, and a transmitted subframe, from the plan of the downlink grant.
@@ -137,15 +145,18 @@ impl Scene {
             fast::plan_up(&s.up)[4],
             fast::plan_down(&s.cell, &s.anchor, &s.other, &s.down)[4],
             fast::plan_control(&s.cell, &s.anchor, &s.other, &s.control)[4],
+            fast::plan_ack(&s.ack)[4],
         ];
         let p = plans.map(|places| r.below(places.max(1)));
         let [_, slot, l, k, _] = fast::forward_up(&s.up, p[0]);
         let [_, t, a, b, c, _] = fast::forward_down(&s.cell, &s.anchor, &s.other, &s.down, p[1]);
         let [_, u, d, e, f, _] = fast::forward_control(&s.cell, &s.anchor, &s.other, &s.control, p[2]);
-        (self.at_up, self.at_down, self.at_control) = ([slot, l, k], [t, a, b, c], [u, d, e, f]);
+        let [_, at_ack @ .., _] = fast::forward_ack(&s.ack, p[3]);
+        (self.at_up, self.at_ack, self.at_down, self.at_control) = ([slot, l, k], at_ack, [t, a, b, c], [u, d, e, f]);
         if r.below(2) == 0 {
             let (slot, l, k) = (r.below(2), r.below(7), r.below(12));
             self.at_up = [self.at_up[0] + r.below(3), l, k];
+            self.at_ack = [self.at_ack[0] + r.below(3), l, self.at_ack[2] + r.below(2)];
             self.at_down = [t + r.below(3), slot, l, k];
             self.at_control = [u + r.below(3), slot, l, k];
         }
@@ -197,6 +208,7 @@ impl Scene {
         let i = r.below(14) as usize;
         if i < 7 {
             scene.up[i] = r.wild([1 << 30, 2, 64, 8, 8, 4, 16][i]);
+            scene.ack[i % 4] = r.wild([1 << 31, 2, 16, 8][i % 4]);
             scene.down[i % 5] = r.wild([1 << 30, 8, 2049, 8, 16][i % 5]);
             scene.control[i % 4] = r.wild([1 << 30, 2049, 2, 2][i % 4]);
         }
@@ -204,6 +216,7 @@ impl Scene {
             scene.p = scene.p.map(|p| r.wild(p + 1));
             let (slot, l, k) = (r.wild(2), r.wild(7), r.wild(48));
             scene.at_up = [r.wild(scene.at_up[0] + 2), l, k];
+            scene.at_ack = [r.wild(scene.at_ack[0] + 2), l, k];
             scene.at_down = [r.wild(scene.at_down[0] + 2), slot, l, k % 13];
             scene.at_control = [r.wild(scene.at_control[0] + 2), slot, l, k % 13];
             scene.i = r.wild(scene.i + 1);

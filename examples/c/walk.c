@@ -1,4 +1,4 @@
-/* Plans an NPDSCH grant, walks it to its end, and fills its first subframe. */
+/* Plans an NPDSCH grant, walks it to its end, fills its first subframe, and plans its acknowledgement. */
 #include "nbiot.h"
 
 #include <inttypes.h>
@@ -19,7 +19,7 @@ static int refused(const char *what, uint64_t no)
     return no != 0;
 }
 
-static int plan(uint64_t *places)
+static int plan(uint64_t *last, uint64_t *places)
 {
     uint64_t a[NBIOT_PLAN_DOWN_NUMBERS];
     uint64_t no = nbiot_plan_down(cell, LEN(cell), NULL, 0, NULL, 0, grant, LEN(grant), a, LEN(a));
@@ -28,6 +28,7 @@ static int plan(uint64_t *places)
     }
     printf("plan: subframes %" PRIu64 " to %" PRIu64 ", copies %" PRIu64 ", places %" PRIu64 "\n",
            a[NBIOT_PLAN_FIRST], a[NBIOT_PLAN_LAST], a[NBIOT_PLAN_COPIES], a[NBIOT_PLAN_PLACES]);
+    *last = a[NBIOT_PLAN_LAST];
     *places = a[NBIOT_PLAN_PLACES];
     return 0;
 }
@@ -95,8 +96,21 @@ static int fill(void)
     return 0;
 }
 
+/* The acknowledgement of an NPDSCH that ends in subframe n: 15 kHz, field 0, one copy. */
+static int acknowledge(uint64_t n)
+{
+    const uint64_t ack[NBIOT_ACK_NUMBERS] = {n, 1, 0, 0};
+    uint64_t a[NBIOT_PLAN_UP_NUMBERS];
+    if (refused("acknowledgement", nbiot_plan_ack(ack, LEN(ack), a, LEN(a)))) {
+        return 1;
+    }
+    printf("acknowledgement: slots %" PRIu64 " to %" PRIu64 ", places %" PRIu64 "\n",
+           a[NBIOT_PLAN_FIRST], a[NBIOT_PLAN_LAST], a[NBIOT_PLAN_PLACES]);
+    return 0;
+}
+
 int main(void)
 {
-    uint64_t places;
-    return plan(&places) || walk(places) || fill();
+    uint64_t last, places;
+    return plan(&last, &places) || walk(places) || fill() || acknowledge(last);
 }

@@ -1,11 +1,10 @@
 //! Where a generated question aims: positions, transmitted subframes or
 //! slots, places that the grant has and places that it just misses.
 
-use crate::elements::{self, Element, SLOTS, SUBCARRIERS, SYMBOLS};
-use crate::grant::Grant;
+use crate::elements::{self, Element, SLOTS, SYMBOLS};
 use crate::random::Random;
 use crate::scene::{Scene, Word};
-use crate::text::{Kind, Question};
+use crate::text::Question;
 
 /// The number of a transmitted subframe or slot: ends, passes, gaps, any.
 pub fn draw_sent(random: &mut Random, scene: &Scene) -> u64 {
@@ -51,15 +50,15 @@ pub fn draw_position(random: &mut Random, scene: &Scene, question: Question) -> 
 pub fn place_words(random: &mut Random, scene: &Scene) -> Vec<Word> {
     let (unit, e) = draw_place(random, scene);
     let (l, k) = (e.l.to_string(), e.k.to_string());
-    match scene.kind {
-        Kind::Up => vec![("slot", unit.to_string()), ("l", l), ("k", k)],
-        _ => vec![
-            ("t", unit.to_string()),
-            ("slot", e.slot.to_string()),
-            ("l", l),
-            ("k", k),
-        ],
+    if scene.kind.is_uplink() {
+        return vec![("slot", unit.to_string()), ("l", l), ("k", k)];
     }
+    vec![
+        ("t", unit.to_string()),
+        ("slot", e.slot.to_string()),
+        ("l", l),
+        ("k", k),
+    ]
 }
 
 /// A place that forward gives, a near miss, a reference, or far away.
@@ -78,22 +77,15 @@ fn draw_place(random: &mut Random, scene: &Scene) -> (u64, Element) {
         89..=92 => (
             unit,
             Element {
-                k: (e.k + 6) % subcarriers(scene),
+                k: (e.k + 6) % scene.grant.subcarriers(),
                 ..e
             },
         ),
         _ => {
             let l = random.below(scene.cell.control.max(1));
-            let k = random.below(subcarriers(scene));
+            let k = random.below(scene.grant.subcarriers());
             (unit, Element { slot: 0, l, k })
         }
-    }
-}
-
-fn subcarriers(scene: &Scene) -> u64 {
-    match scene.grant {
-        Grant::Up(g) => g.subcarriers(),
-        _ => SUBCARRIERS,
     }
 }
 
@@ -110,7 +102,7 @@ fn beside(random: &mut Random, scene: &Scene, e: Element) -> Element {
             l: e.l.saturating_sub(1),
             ..e
         },
-        _ if scene.kind == Kind::Up => Element { k: e.k + 3, ..e },
+        _ if scene.kind.is_uplink() => Element { k: e.k + 3, ..e },
         _ => Element {
             slot: 1 - e.slot,
             ..e
@@ -152,6 +144,7 @@ fn unit_far(random: &mut Random, unit: u64) -> u64 {
         unit + 2560,
         unit + 10240,
         unit + (1 << 32),
+        unit % (1 << 32),
         unit + (1 << 63),
         (1 << 32) - 1,
         1 << 32,
@@ -163,22 +156,22 @@ fn unit_far(random: &mut Random, unit: u64) -> u64 {
 
 fn any_element(random: &mut Random, scene: &Scene) -> Element {
     Element {
-        slot: match scene.kind {
-            Kind::Up => 0,
-            _ => random.below(SLOTS),
+        slot: match scene.kind.is_uplink() {
+            true => 0,
+            false => random.below(SLOTS),
         },
         l: random.below(SYMBOLS),
-        k: random.below(subcarriers(scene)),
+        k: random.below(scene.grant.subcarriers()),
     }
 }
 
 /// A reference element; in the uplink also its symbol on tones not granted.
 fn reference(random: &mut Random, scene: &Scene) -> Element {
-    if let Grant::Up(g) = scene.grant {
-        let l = g.reference_symbol();
+    if let Some(slot) = scene.grant.slot_use() {
+        let l = random.between(slot.references.start, slot.references.end - 1);
         let e = random.pick(&scene.listing.elements);
         let k = match random.below(4) {
-            0 => random.below(g.subcarriers()),
+            0 => random.below(slot.subcarriers()),
             _ => e.k,
         };
         return Element { slot: 0, l, k };

@@ -42,13 +42,12 @@ struct Last {
 #[derive(Debug, Default)]
 pub struct Answerer {
     pub values: Values,
-    last: [Option<Last>; 3],
+    last: [Option<Last>; 4],
 }
 
 impl Last {
     fn serves(&self, cell: &Cell, grant: &Grant) -> bool {
-        let cell_matters = !matches!(grant, Grant::Up(_));
-        self.grant == *grant && (!cell_matters || self.cell == *cell)
+        self.grant == *grant && (grant.is_uplink() || self.cell == *cell)
     }
 }
 

@@ -36,24 +36,6 @@ pub fn generate(
     generator.out.flush()
 }
 
-/// The words with which a question's line begins.
-fn question_text(question: Question) -> &'static str {
-    match question {
-        Question::Set => "set",
-        Question::Cell => "cell",
-        Question::Bitmap => "bitmap",
-        Question::Plan(kind) => ["plan down", "plan control", "plan up"][kind as usize],
-        Question::Forward(kind) => ["forward down", "forward control", "forward up"][kind as usize],
-        Question::Backward(kind) => {
-            ["backward down", "backward control", "backward up"][kind as usize]
-        }
-        Question::Step(kind) => ["step down", "step control", "step up"][kind as usize],
-        Question::Fill => "fill",
-        Question::Element => "element",
-        Question::Picture(kind) => ["picture down", "picture control", "picture up"][kind as usize],
-    }
-}
-
 /// A value that the same line gives anew.
 fn passing_value(name: &str) -> &'static str {
     match name {
@@ -68,7 +50,7 @@ fn draw_question(random: &mut Random, kind: Kind) -> Question {
     let shares = match kind {
         Kind::Down => [80, 220, 280, 100, 50, 50, 30, 187, 3],
         Kind::Control => [100, 300, 380, 150, 33, 34, 0, 0, 3],
-        Kind::Up => [120, 300, 400, 180, 0, 0, 0, 0, 0],
+        Kind::Up | Kind::Ack => [120, 300, 400, 180, 0, 0, 0, 0, 0],
     };
     let questions = [
         Question::Plan(kind),
@@ -91,27 +73,16 @@ fn draw_question(random: &mut Random, kind: Kind) -> Question {
     Question::Plan(kind)
 }
 
-/// The kind of scene that a question needs.
-fn kind_of(question: Question) -> Kind {
-    match question {
-        Question::Plan(kind)
-        | Question::Forward(kind)
-        | Question::Backward(kind)
-        | Question::Step(kind)
-        | Question::Picture(kind) => kind,
-        _ => Kind::Down,
-    }
-}
-
 impl<W: Write> Generator<'_, W> {
     /// One scene: a `set` line, then some tens of questions.
     fn scene(&mut self) -> io::Result<()> {
         let kind = match self.only {
-            Some(question) => kind_of(question),
+            Some(question) => question.kind().unwrap_or(Kind::Down),
             None => match self.random.below(100) {
-                0..=44 => Kind::Down,
-                45..=66 => Kind::Control,
-                _ => Kind::Up,
+                0..=38 => Kind::Down,
+                39..=58 => Kind::Control,
+                59..=84 => Kind::Up,
+                _ => Kind::Ack,
             },
         };
         let scene = Scene::draw(&mut self.random, kind);
@@ -130,7 +101,7 @@ impl<W: Write> Generator<'_, W> {
         for at in (1..words.len()).rev() {
             words.swap(at, self.random.below(at as u64 + 1) as usize);
         }
-        let mut line = question_text(question).to_string();
+        let mut line = question.text();
         for (name, text) in words {
             if self.random.below(400) == 0 {
                 // A value given twice: the last one holds.

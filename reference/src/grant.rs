@@ -1,18 +1,21 @@
 //! A grant of any kind and the questions asked of it (01, "Questions").
 
+use crate::ack::Ack;
 use crate::cell::Cell;
 use crate::downlink::{Npdcch, Npdsch};
-use crate::elements::{self, Element};
+use crate::elements::{self, Element, SUBCARRIERS};
 use crate::places::{Listing, Place};
+use crate::slots::SlotUse;
 use crate::uplink::Npusch;
 use crate::{refuse, Refusal};
 
-/// One of the three kinds of grant.
+/// One of the kinds of grant.
 #[derive(Clone, Copy, Debug, PartialEq, Eq)]
 pub enum Grant {
     Down(Npdsch),
     Control(Npdcch),
     Up(Npusch),
+    Ack(Ack),
 }
 
 /// What plan answers; size and order are an uplink grant's only.
@@ -49,12 +52,33 @@ impl Grant {
             Grant::Down(g) => g.list(cell),
             Grant::Control(g) => g.list(cell),
             Grant::Up(g) => g.list(),
+            Grant::Ack(g) => g.list(),
         }
+    }
+
+    /// An uplink grant has no cell.
+    pub fn is_uplink(&self) -> bool {
+        matches!(self, Grant::Up(_) | Grant::Ack(_))
+    }
+
+    /// What an accepted uplink grant uses of a slot; a downlink grant has none.
+    pub fn slot_use(&self) -> Option<SlotUse> {
+        match self {
+            Grant::Down(_) | Grant::Control(_) => None,
+            Grant::Up(g) => Some(g.slot_use()),
+            Grant::Ack(g) => Some(g.slot_use()),
+        }
+    }
+
+    /// Subcarriers of an accepted grant's grid.
+    pub fn subcarriers(&self) -> u64 {
+        self.slot_use().map_or(SUBCARRIERS, |s| s.subcarriers())
     }
 
     pub fn plan(&self, listing: &Listing) -> Plan {
         let (size, order) = match self {
             Grant::Up(g) => g.size_and_order(),
+            Grant::Ack(g) => g.size_and_order(),
             _ => (0, 0),
         };
         Plan {
@@ -69,16 +93,16 @@ impl Grant {
 
     /// Is the element inside the grid, whatever the subframe or uplink slot?
     fn in_grid(&self, e: Element) -> bool {
-        match self {
-            Grant::Up(g) => g.in_grid(e),
-            _ => e.in_downlink_grid(),
+        match self.slot_use() {
+            Some(slot) => slot.in_grid(e),
+            None => e.in_downlink_grid(),
         }
     }
 
     fn reference_kind(&self, cell: &Cell, e: Element) -> u64 {
-        match self {
-            Grant::Up(g) => g.reference_kind(e),
-            _ => elements::reference_kind(cell, e),
+        match self.slot_use() {
+            Some(slot) => slot.reference_kind(e),
+            None => elements::reference_kind(cell, e),
         }
     }
 

@@ -2,6 +2,7 @@
 //! scanning and listing. It is slow and simple on purpose: it is what the
 //! proved library is compared with.
 
+pub mod ack;
 pub mod aim;
 pub mod answer;
 pub mod cell;
@@ -15,6 +16,7 @@ pub mod lines;
 pub mod places;
 pub mod random;
 pub mod scene;
+pub mod slots;
 pub mod spoil;
 pub mod table;
 pub mod text;

@@ -1,6 +1,7 @@
 //! Scenes of a question file: an accepted cell and grant that some tens of
 //! questions share.
 
+use crate::ack::{self, Ack};
 use crate::cell::{Cell, PERIOD};
 use crate::downlink::{self, Npdcch, Npdsch, LARGEST_N, SUBFRAMES};
 use crate::elements;
@@ -185,11 +186,34 @@ fn draw_npusch(random: &mut Random) -> Npusch {
     }
 }
 
+/// Near the largest n the slots at 15 kHz pass 2^32.
+fn draw_ack_n(random: &mut Random) -> u64 {
+    match random.below(10) {
+        0..=2 => random.below(3 * PERIOD),
+        3 => random.pick(&[0, 1, 2, 9, 10, 99, 100, 101, 2559, 10239, 10240]),
+        4 => random.pick(&[ack::LARGEST_N, ack::LARGEST_N - 1, ack::LARGEST_N - 17]),
+        5 => ack::LARGEST_N - random.below(40),
+        6 => ack::LARGEST_N - random.below(600),
+        7 => random.between(LARGEST_N - 40, LARGEST_N + 40),
+        _ => random.below(1 << 31),
+    }
+}
+
+fn draw_ack(random: &mut Random) -> Ack {
+    Ack {
+        n: draw_ack_n(random),
+        spacing: random.below(2),
+        field: random.below(16),
+        copies: random.below(8),
+    }
+}
+
 fn draw_grant(random: &mut Random, kind: Kind, cell: &Cell) -> Grant {
     match kind {
         Kind::Down => Grant::Down(draw_bearable_npdsch(random, cell)),
         Kind::Control => Grant::Control(draw_npdcch(random)),
         Kind::Up => Grant::Up(draw_npusch(random)),
+        Kind::Ack => Grant::Ack(draw_ack(random)),
     }
 }
 
@@ -238,6 +262,12 @@ pub fn grant_words(grant: &Grant) -> Vec<Word> {
             number("delay", g.delay),
             number("mcs", g.mcs),
         ],
+        Grant::Ack(g) => vec![
+            number("n", g.n),
+            number("spacing", g.spacing),
+            number("field", g.field),
+            number("copies", g.copies),
+        ],
     }
 }
 
@@ -270,8 +300,17 @@ fn idle_words(random: &mut Random, kind: Kind) -> Vec<Word> {
             "subcarrier",
             "units",
             "mcs",
+            "field",
         ],
-        Kind::Control => &["delay", "rmax", "subframes", "copies", "spacing", "mcs"],
+        Kind::Control => &[
+            "delay",
+            "rmax",
+            "subframes",
+            "copies",
+            "spacing",
+            "mcs",
+            "field",
+        ],
         Kind::Up => &[
             "mode",
             "carrier",
@@ -281,6 +320,18 @@ fn idle_words(random: &mut Random, kind: Kind) -> Vec<Word> {
             "rmax",
             "subframes",
             "r",
+            "field",
+        ],
+        Kind::Ack => &[
+            "mode",
+            "nports",
+            "bits",
+            "subframes",
+            "r",
+            "subcarrier",
+            "units",
+            "delay",
+            "mcs",
         ],
     };
     let mut words = Vec::new();
@@ -303,7 +354,7 @@ impl Scene {
             Err(no) => unreachable!("drawn to be accepted, refused with {no}"),
         };
         let mut words = grant_words(&grant);
-        if kind != Kind::Up {
+        if !kind.is_uplink() {
             words.extend(cell_words(random, &cell));
         }
         if kind == Kind::Down {
@@ -331,7 +382,7 @@ impl Scene {
 
     /// Another accepted grant in the same cell, for plan; none where scans are long.
     pub fn other_grant(&self, random: &mut Random) -> Option<Vec<Word>> {
-        if self.kind != Kind::Up && usable_in_period(&self.cell) < 200 {
+        if !self.kind.is_uplink() && usable_in_period(&self.cell) < 200 {
             return None;
         }
         Some(grant_words(&draw_grant(random, self.kind, &self.cell)))

@@ -1,5 +1,7 @@
 //! Words that make a question of a scene refused with a wanted number.
 
+use crate::ack;
+use crate::downlink;
 use crate::grant::Grant;
 use crate::random::Random;
 use crate::scene::{bitmap_of, buffer, data_word, Scene, Word};
@@ -8,8 +10,10 @@ use crate::text::{Kind, Question};
 const CELL: &[u64] = &[1, 2, 3, 4, 5, 6, 7, 8];
 const PLAN: &[u64] = &[1, 2, 3, 4, 5, 6, 7, 8, 9, 10, 12];
 const PLAN_UP: &[u64] = &[9, 10, 11, 13];
+const PLAN_ACK: &[u64] = &[9, 10];
 const PLACE: &[u64] = &[1, 2, 3, 4, 5, 6, 7, 8, 9, 10, 12, 14];
 const PLACE_UP: &[u64] = &[9, 10, 11, 13, 14];
+const PLACE_ACK: &[u64] = &[9, 10, 14];
 const FILL: &[u64] = &[
     1, 2, 3, 4, 5, 6, 7, 8, 9, 10, 12, 14, 15, 15, 15, 16, 16, 16, 17,
 ];
@@ -48,12 +52,14 @@ pub fn numbers_of(question: Question) -> &'static [u64] {
         Question::Set => &[],
         Question::Cell | Question::Bitmap => CELL,
         Question::Plan(Kind::Up) => PLAN_UP,
+        Question::Plan(Kind::Ack) => PLAN_ACK,
         Question::Plan(_) => PLAN,
-        Question::Forward(Kind::Up) | Question::Backward(Kind::Up) | Question::Step(Kind::Up) => {
-            PLACE_UP
-        }
         Question::Fill | Question::Element => FILL,
-        _ => PLACE,
+        _ => match question.kind() {
+            Some(Kind::Up) => PLACE_UP,
+            Some(Kind::Ack) => PLACE_ACK,
+            _ => PLACE,
+        },
     }
 }
 
@@ -101,7 +107,8 @@ pub fn spoil(random: &mut Random, scene: &Scene, question: Question, no: u64) ->
         6 => one_above(random, "sib1", 11),
         7 => bad_bitmap(random, scene),
         8 => nothing_usable(random, scene),
-        9 => one_above(random, "n", (1 << 30) - 1),
+        9 if scene.kind == Kind::Ack => one_above(random, "n", ack::LARGEST_N),
+        9 => one_above(random, "n", downlink::LARGEST_N),
         10 => bad_field(random, scene),
         11 => bad_subcarrier(random, scene),
         12 => bad_power(random, scene),
@@ -180,6 +187,7 @@ fn bad_field(random: &mut Random, scene: &Scene) -> Vec<Word> {
             ("delay", 3),
             ("mcs", 15),
         ],
+        Kind::Ack => &[("spacing", 1), ("field", 15), ("copies", 7)],
     };
     if scene.kind == Kind::Control && random.chance(33) {
         return vec![("format", "1".to_string()), ("ncce", "1".to_string())];
@@ -226,13 +234,10 @@ fn bad_place(random: &mut Random, scene: &Scene, question: Question) -> Vec<Word
 }
 
 fn outside_grid(random: &mut Random, scene: &Scene) -> Vec<Word> {
-    let subcarriers = match scene.grant {
-        Grant::Up(g) => g.subcarriers(),
-        _ => 12,
-    };
+    let subcarriers = scene.grant.subcarriers();
     match random.below(3) {
         0 => one_above(random, "l", 6),
-        1 if scene.kind != Kind::Up => one_above(random, "slot", 1),
+        1 if !scene.kind.is_uplink() => one_above(random, "slot", 1),
         _ => one_above(random, "k", subcarriers - 1),
     }
 }

@@ -4,30 +4,8 @@ use crate::answer::{Answer, Answerer};
 use crate::fill::Shown;
 use crate::grant::Step;
 use crate::lines::next_line;
-use crate::text::{Fault, Kind};
+use crate::text::{Fault, Question};
 use std::io::{self, BufRead, Write};
-
-/// Rows by question and kind.
-const ROWS: [&str; 18] = [
-    "cell",
-    "bitmap",
-    "plan down",
-    "plan control",
-    "plan up",
-    "forward down",
-    "forward control",
-    "forward up",
-    "backward down",
-    "backward control",
-    "backward up",
-    "step down",
-    "step control",
-    "step up",
-    "fill",
-    "element",
-    "picture down",
-    "picture control",
-];
 
 /// What one row counts.
 #[derive(Clone, Copy, Debug, Default, PartialEq, Eq)]
@@ -42,34 +20,11 @@ pub struct Row {
     pub refused: [u64; 18],
 }
 
-/// The whole table.
-#[derive(Clone, Debug, Default)]
+/// The whole table: a row for each question and kind.
+#[derive(Clone, Debug)]
 pub struct Table {
-    pub rows: [Row; 18],
+    pub rows: Vec<(Question, Row)>,
     pub faults: [u64; 8],
-}
-
-fn kind_number(kind: Kind) -> usize {
-    match kind {
-        Kind::Down => 0,
-        Kind::Control => 1,
-        Kind::Up => 2,
-    }
-}
-
-fn row_number(answer: &Answer) -> Option<usize> {
-    match answer {
-        Answer::Fault(_) => None,
-        Answer::Cell(_) => Some(0),
-        Answer::Bitmap(_) => Some(1),
-        Answer::Plan(kind, _) => Some(2 + kind_number(*kind)),
-        Answer::Forward(kind, _) => Some(5 + kind_number(*kind)),
-        Answer::Backward(kind, _) => Some(8 + kind_number(*kind)),
-        Answer::Step(kind, _, _) => Some(11 + kind_number(*kind)),
-        Answer::Fill(_, _) => Some(14),
-        Answer::Element(_) => Some(15),
-        Answer::Picture(kind, _) => Some(16 + kind_number(*kind)),
-    }
 }
 
 impl Row {
@@ -118,22 +73,38 @@ impl Row {
     }
 }
 
+impl Default for Table {
+    fn default() -> Table {
+        let questions = Question::all().into_iter();
+        Table {
+            rows: questions.map(|q| (q, Row::default())).collect(),
+            faults: [0; 8],
+        }
+    }
+}
+
 impl Table {
     pub fn count(&mut self, answer: &Answer) {
-        match answer {
-            Answer::Fault(fault) => self.faults[*fault as usize] += 1,
-            _ => {
-                if let Some(row) = row_number(answer) {
-                    self.rows[row].count(answer);
-                }
+        if let Answer::Fault(fault) = answer {
+            self.faults[*fault as usize] += 1;
+        }
+        for (question, row) in &mut self.rows {
+            if answer.question() == Some(*question) {
+                row.count(answer);
             }
         }
+    }
+
+    /// The row of a question.
+    pub fn row(&self, question: Question) -> Row {
+        let found = self.rows.iter().find(|(q, _)| *q == question);
+        found.map_or(Row::default(), |(_, row)| *row)
     }
 
     /// All rows in one.
     pub fn total(&self) -> Row {
         let mut total = Row::default();
-        for row in &self.rows {
+        for (_, row) in &self.rows {
             total.add(row);
         }
         total
@@ -150,8 +121,8 @@ impl Table {
             write!(out, " {:>6}", format!("no{no}"))?;
         }
         writeln!(out)?;
-        for (row, name) in self.rows.iter().zip(ROWS) {
-            row.write(out, name)?;
+        for (question, row) in &self.rows {
+            row.write(out, &question.text())?;
         }
         self.total().write(out, "all")?;
         self.write_faults(out)

@@ -1,5 +1,6 @@
 //! The words of a question line and the values kept from line to line.
 
+use crate::ack::Ack;
 use crate::cell::Cell;
 use crate::downlink::{Npdcch, Npdsch};
 use crate::elements::Element;
@@ -13,6 +14,26 @@ pub enum Kind {
     Down,
     Control,
     Up,
+    /// An acknowledgement, in the uplink too.
+    Ack,
+}
+
+impl Kind {
+    pub const ALL: [Kind; 4] = [Kind::Down, Kind::Control, Kind::Up, Kind::Ack];
+
+    pub fn word(self) -> &'static str {
+        match self {
+            Kind::Down => "down",
+            Kind::Control => "control",
+            Kind::Up => "up",
+            Kind::Ack => "ack",
+        }
+    }
+
+    /// An uplink grant has no cell, and its places are in slots.
+    pub fn is_uplink(self) -> bool {
+        matches!(self, Kind::Up | Kind::Ack)
+    }
 }
 
 /// A question word with its kind.
@@ -28,6 +49,56 @@ pub enum Question {
     Fill,
     Element,
     Picture(Kind),
+}
+
+impl Question {
+    /// Every question but `set`.
+    pub fn all() -> Vec<Question> {
+        let mut list = vec![Question::Cell, Question::Bitmap];
+        for make in [
+            Question::Plan,
+            Question::Forward,
+            Question::Backward,
+            Question::Step,
+        ] {
+            list.extend(Kind::ALL.map(make));
+        }
+        list.extend([Question::Fill, Question::Element]);
+        list.extend([Kind::Down, Kind::Control].map(Question::Picture));
+        list
+    }
+
+    /// The kind that the question names.
+    pub fn kind(self) -> Option<Kind> {
+        match self {
+            Question::Plan(kind)
+            | Question::Forward(kind)
+            | Question::Backward(kind)
+            | Question::Step(kind)
+            | Question::Picture(kind) => Some(kind),
+            _ => None,
+        }
+    }
+
+    /// The words with which the question's line begins.
+    pub fn text(self) -> String {
+        let word = match self {
+            Question::Set => "set",
+            Question::Cell => "cell",
+            Question::Bitmap => "bitmap",
+            Question::Plan(_) => "plan",
+            Question::Forward(_) => "forward",
+            Question::Backward(_) => "backward",
+            Question::Step(_) => "step",
+            Question::Fill => "fill",
+            Question::Element => "element",
+            Question::Picture(_) => "picture",
+        };
+        match self.kind() {
+            Some(kind) => format!("{word} {}", kind.word()),
+            None => word.to_string(),
+        }
+    }
 }
 
 /// Why a line is no question.
@@ -85,6 +156,7 @@ pub struct Values {
     pub subcarrier: u64,
     pub units: u64,
     pub mcs: u64,
+    pub field: u64,
     pub p: u64,
     pub t: u64,
     pub slot: u64,
@@ -112,6 +184,7 @@ impl Default for Values {
             subcarrier: 0,
             units: 0,
             mcs: 0,
+            field: 0,
             p: 0,
             t: 0,
             slot: 0,
@@ -165,6 +238,7 @@ impl Values {
             b"subcarrier" => &mut self.subcarrier,
             b"units" => &mut self.units,
             b"mcs" => &mut self.mcs,
+            b"field" => &mut self.field,
             b"p" => &mut self.p,
             b"t" => &mut self.t,
             b"slot" => &mut self.slot,
@@ -201,14 +275,21 @@ impl Values {
                 delay: self.delay,
                 mcs: self.mcs,
             }),
+            Kind::Ack => Grant::Ack(Ack {
+                n: self.n,
+                spacing: self.spacing,
+                field: self.field,
+                copies: self.copies,
+            }),
         }
     }
 
     /// The unit and element asked of a kind: the uplink's unit is the slot.
     pub fn place(&self, kind: Kind) -> (u64, Element) {
-        let (unit, slot) = match kind {
-            Kind::Up => (self.slot, 0),
-            _ => (self.t, self.slot),
+        let (unit, slot) = if kind.is_uplink() {
+            (self.slot, 0)
+        } else {
+            (self.t, self.slot)
         };
         let (l, k) = (self.l, self.k);
         (unit, Element { slot, l, k })
@@ -307,12 +388,10 @@ fn keep(values: &mut Values, name: &[u8], read: Read) {
 }
 
 fn read_kind(word: Option<&[u8]>) -> Option<Kind> {
-    match word? {
-        b"down" => Some(Kind::Down),
-        b"control" => Some(Kind::Control),
-        b"up" => Some(Kind::Up),
-        _ => None,
-    }
+    let word = word?;
+    Kind::ALL
+        .into_iter()
+        .find(|kind| kind.word().as_bytes() == word)
 }
 
 /// A question that wants no kind.
@@ -350,7 +429,7 @@ fn read_question(words: &[&[u8]]) -> Result<(Question, usize), Fault> {
     }
     let make = with_kind(words[0]).ok_or(Fault::Question)?;
     let question = make(kind.ok_or(Fault::Kind)?);
-    if question == Question::Picture(Kind::Up) {
+    if matches!(question, Question::Picture(kind) if kind.is_uplink()) {
         return Err(Fault::Kind);
     }
     Ok((question, 2))

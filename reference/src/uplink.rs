@@ -1,8 +1,8 @@
 //! NPUSCH format 1 grants (01, "Uplink grants").
 
 use crate::downlink::{LARGEST_N, SUBFRAMES};
-use crate::elements::{Element, SYMBOLS};
 use crate::places::{copy_order, Listing};
+use crate::slots::{self, SlotUse};
 use crate::{refuse, Refusal};
 use std::ops::Range;
 
@@ -23,10 +23,6 @@ const SIZE: [[u64; 8]; 5] = [
 /// Size row and modulation order of one tone, by MCS.
 const ONE_TONE_ROW: [usize; 5] = [0, 2, 1, 3, 4];
 const ONE_TONE_ORDER: [u64; 5] = [1, 1, 2, 2, 2];
-
-/// Time is counted in half milliseconds: 256 ms of sending, 40 ms empty.
-const SENDING: u64 = 2 * 256;
-const EMPTY: u64 = 2 * 40;
 
 /// An NPUSCH grant; all but n are fields.
 #[derive(Clone, Copy, Debug, Default, PartialEq, Eq)]
@@ -51,17 +47,8 @@ impl Npusch {
         refuse(13, self.mcs > 4)
     }
 
-    /// Subcarriers of the grid at this spacing.
-    pub fn subcarriers(&self) -> u64 {
-        if self.spacing == 0 {
-            48
-        } else {
-            12
-        }
-    }
-
     /// The granted tones.
-    pub fn tones(&self) -> Range<u64> {
+    fn tones(&self) -> Range<u64> {
         let f = self.subcarrier;
         if self.spacing == 0 {
             return f..f + 1;
@@ -78,12 +65,13 @@ impl Npusch {
         self.tones().count() as u64
     }
 
-    /// The symbol of a slot that carries the reference.
-    pub fn reference_symbol(&self) -> u64 {
-        if self.spacing == 0 {
-            4
-        } else {
-            3
+    /// What is used of each slot: the tones, and the symbol that carries the reference.
+    pub fn slot_use(&self) -> SlotUse {
+        let l = if self.spacing == 0 { 4 } else { 3 };
+        SlotUse {
+            spacing: self.spacing,
+            tones: self.tones(),
+            references: l..l + 1,
         }
     }
 
@@ -96,45 +84,9 @@ impl Npusch {
         }
     }
 
-    /// How long a slot lasts, in half milliseconds.
-    fn slot_time(&self) -> u64 {
-        if self.spacing == 0 {
-            4
-        } else {
-            1
-        }
-    }
-
     /// The first slot that begins after the end of subframe n + delay.
     fn start(&self) -> u64 {
-        let last_subframe = self.n + DELAY[self.delay as usize];
-        let end = 2 * (last_subframe + 1);
-        let mut slot = 2 * last_subframe / self.slot_time();
-        while slot * self.slot_time() < end {
-            slot += 1;
-        }
-        slot
-    }
-
-    /// Step slot by slot: after every 256 ms of sending, if slots remain, 40 ms empty.
-    fn sent_slots(&self, count: u64) -> Vec<u64> {
-        let mut list = Vec::new();
-        let mut slot = self.start();
-        let mut sending = 0;
-        while (list.len() as u64) < count {
-            if sending == SENDING {
-                let mut empty = 0;
-                while empty < EMPTY {
-                    slot += 1;
-                    empty += self.slot_time();
-                }
-                sending = 0;
-            }
-            list.push(slot);
-            slot += 1;
-            sending += self.slot_time();
-        }
-        list
+        slots::first_after(self.spacing, self.n + DELAY[self.delay as usize])
     }
 
     /// m: how often a group of slots is sent before the next one.
@@ -146,32 +98,19 @@ impl Npusch {
         }
     }
 
-    /// Data elements of a slot, by l, then k.
-    fn data_elements(&self) -> Vec<Element> {
-        let mut list = Vec::new();
-        for l in 0..SYMBOLS {
-            for k in self.tones() {
-                if l != self.reference_symbol() {
-                    list.push(Element { slot: 0, l, k });
-                }
-            }
-        }
-        list
-    }
-
     /// Judge the grant, then list what is sent.
     pub fn list(&self) -> Result<Listing, Refusal> {
         self.judge()?;
         let copies = COPIES[self.copies as usize];
         let slots = SUBFRAMES[self.units as usize] * self.slots_in_unit();
-        let g = if self.spacing == 0 { 1 } else { 2 };
+        let g = slots::group(self.spacing);
         let m = self.repeats_in_pass(copies);
         Ok(Listing {
             copies,
             codeword_units: slots,
-            sent: self.sent_slots(copies * slots),
+            sent: slots::sent_slots(self.spacing, self.start(), copies * slots),
             carries: copy_order(copies, slots, m, g),
-            elements: self.data_elements(),
+            elements: self.slot_use().data_elements(),
         })
     }
 
@@ -184,15 +123,5 @@ impl Npusch {
         } else {
             (SIZE[mcs][units], 2)
         }
-    }
-
-    /// 1 at the reference symbol of the granted tones, else 0.
-    pub fn reference_kind(&self, e: Element) -> u64 {
-        u64::from(e.l == self.reference_symbol() && self.tones().contains(&e.k))
-    }
-
-    /// Inside the uplink grid of this spacing.
-    pub fn in_grid(&self, e: Element) -> bool {
-        e.l < SYMBOLS && e.k < self.subcarriers()
     }
 }

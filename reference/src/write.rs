@@ -5,7 +5,7 @@ use crate::elements::Element;
 use crate::fill::Shown;
 use crate::grant::{Found, Plan, Step};
 use crate::places::Place;
-use crate::text::Kind;
+use crate::text::{Kind, Question};
 use crate::Refusal;
 use std::io::{self, Write};
 
@@ -26,6 +26,22 @@ pub fn hex_text(bytes: &[u8]) -> String {
 }
 
 impl Answer {
+    /// The question that is answered; none for a line that is no question.
+    pub fn question(&self) -> Option<Question> {
+        Some(match self {
+            Answer::Fault(_) => return None,
+            Answer::Cell(_) => Question::Cell,
+            Answer::Bitmap(_) => Question::Bitmap,
+            Answer::Plan(kind, _) => Question::Plan(*kind),
+            Answer::Forward(kind, _) => Question::Forward(*kind),
+            Answer::Backward(kind, _) => Question::Backward(*kind),
+            Answer::Step(kind, _, _) => Question::Step(*kind),
+            Answer::Fill(_, _) => Question::Fill,
+            Answer::Element(_) => Question::Element,
+            Answer::Picture(kind, _) => Question::Picture(*kind),
+        })
+    }
+
     /// The answer's number, 0 if accepted; none for a line that is no question.
     pub fn number(&self) -> Option<u64> {
         match self {
@@ -67,7 +83,7 @@ impl Answer {
 fn write_plan(out: &mut impl Write, kind: Kind, no: u64, plan: Plan) -> io::Result<()> {
     write!(out, "no={no} first={} last={}", plan.first, plan.last)?;
     write!(out, " copies={} places={}", plan.copies, plan.places)?;
-    if kind == Kind::Up {
+    if kind.is_uplink() {
         write!(out, " size={} order={}", plan.size, plan.order)?;
     }
     writeln!(out)
@@ -75,9 +91,10 @@ fn write_plan(out: &mut impl Write, kind: Kind, no: u64, plan: Plan) -> io::Resu
 
 fn write_place(out: &mut impl Write, kind: Kind, place: Place) -> io::Result<()> {
     let Element { slot, l, k } = place.element;
-    match kind {
-        Kind::Up => write!(out, " slot={}", place.unit)?,
-        _ => write!(out, " t={} slot={slot}", place.unit)?,
+    if kind.is_uplink() {
+        write!(out, " slot={}", place.unit)?;
+    } else {
+        write!(out, " t={} slot={slot}", place.unit)?;
     }
     write!(out, " l={l} k={k} symbol={}", place.symbol)
 }

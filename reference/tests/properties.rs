@@ -1,6 +1,7 @@
 //! What holds of plan, forward, backward and the walk together, and the copy
 //! order as 01 writes it.
 
+use reference::ack::Ack;
 use reference::cell::Cell;
 use reference::downlink::{self, Npdcch, Npdsch};
 use reference::elements::Element;
@@ -76,6 +77,15 @@ fn npusch(spacing: u64, subcarrier: u64, units: u64, copies: u64) -> Grant {
     })
 }
 
+fn ack(spacing: u64, field: u64, copies: u64) -> Grant {
+    Grant::Ack(Ack {
+        n: 11,
+        spacing,
+        field,
+        copies,
+    })
+}
+
 fn grants() -> Vec<(Cell, Grant)> {
     let mut list = Vec::new();
     for cell in [standalone(), in_band(), non_anchor()] {
@@ -95,6 +105,9 @@ fn grants() -> Vec<(Cell, Grant)> {
         (1, 18, 2, 6),
     ] {
         list.push((Cell::default(), npusch(spacing, subcarrier, units, copies)));
+    }
+    for (spacing, field, copies) in [(0, 0, 0), (0, 15, 7), (1, 3, 7), (1, 12, 2)] {
+        list.push((Cell::default(), ack(spacing, field, copies)));
     }
     list
 }
@@ -143,10 +156,8 @@ fn all_places(listing: &Listing) -> HashMap<(u64, Element), (u64, u64)> {
 }
 
 fn grid(grant: &Grant) -> Vec<Element> {
-    let (slots, subcarriers) = match grant {
-        Grant::Up(g) => (1, g.subcarriers()),
-        _ => (2, 12),
-    };
+    let slots = if grant.is_uplink() { 1 } else { 2 };
+    let subcarriers = grant.subcarriers();
     let mut list = Vec::new();
     for slot in 0..slots {
         for l in 0..7 {
@@ -178,10 +189,8 @@ fn backward_undoes_forward() {
 fn backward_outside_the_grid() {
     for (cell, grant) in grants() {
         let listing = listing(&cell, &grant);
-        let (subcarriers, slot) = match &grant {
-            Grant::Up(g) => (g.subcarriers(), 0),
-            _ => (12, 2),
-        };
+        let subcarriers = grant.subcarriers();
+        let slot = if grant.is_uplink() { 0 } else { 2 };
         let outside = [
             (0, 7, 0),
             (0, 0, subcarriers),
@@ -204,7 +213,7 @@ fn backward_outside_the_grid() {
 #[test]
 fn every_usable_subframe_within_the_span_is_sent() {
     for (cell, grant) in grants() {
-        if let Grant::Up(_) = grant {
+        if grant.is_uplink() {
             continue;
         }
         let listing = listing(&cell, &grant);

@@ -4,6 +4,7 @@ mod common;
 use common::{ask, value};
 use reference::generate::generate;
 use reference::table::table_of;
+use reference::text::{Kind, Question};
 
 const CELL: &str = "set mode=3 nports=1 rmax=1 r=1\n";
 
@@ -107,16 +108,31 @@ fn generated_questions_have_their_shares() {
     for no in 1..18 {
         assert!(all.refused[no] >= 20, "number {no}");
     }
-    assert!(table.rows.iter().all(|row| row.asked > 0));
+    assert!(table.rows.iter().all(|(_, row)| row.asked > 0));
     assert!(table.faults.iter().all(|&count| count > 0));
 }
 
 #[test]
+fn generated_acknowledgements() {
+    let mut file = Vec::new();
+    generate(8, 20_000, None, &mut file).expect("memory takes all");
+    let table = table_of(&mut &file[..]).expect("memory gives all");
+    let of_ack = |question: &Question| question.kind() == Some(Kind::Ack);
+    let rows: Vec<_> = table.rows.iter().filter(|(q, _)| of_ack(q)).collect();
+    let asked: u64 = rows.iter().map(|(_, row)| row.asked).sum();
+    assert!(asked >= 2400, "at least 12 of a hundred");
+    for no in [9, 10, 14] {
+        let refused: u64 = rows.iter().map(|(_, row)| row.refused[no]).sum();
+        assert!(refused >= 20, "number {no}");
+    }
+}
+
+#[test]
 fn generated_questions_of_one_kind() {
-    let only = reference::text::Question::Forward(reference::text::Kind::Up);
+    let only = Question::Forward(Kind::Up);
     let mut file = Vec::new();
     generate(1, 1000, Some(only), &mut file).expect("memory takes all");
     let table = table_of(&mut &file[..]).expect("memory gives all");
     assert_eq!(table.total().asked, 1000);
-    assert_eq!(table.rows[7].asked, 1000);
+    assert_eq!(table.row(only).asked, 1000);
 }

@@ -57,7 +57,14 @@ fn error_question() {
 
 #[test]
 fn error_kind() {
-    for line in ["plan", "plan p=1", "plan  down", "plan Down", "picture up"] {
+    for line in [
+        "plan",
+        "plan p=1",
+        "plan  down",
+        "plan Down",
+        "picture up",
+        "picture ack",
+    ] {
         fault(line.as_bytes(), "kind");
     }
     for line in [
@@ -65,6 +72,7 @@ fn error_kind() {
         "set up",
         "fill down",
         "element up",
+        "cell ack",
         "plan down\r",
     ] {
         fault(line.as_bytes(), "kind");

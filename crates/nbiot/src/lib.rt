@@ -2,8 +2,10 @@
 ghost use mathlib.Core.Path.{_≡_};
 ghost use Rattle.cell.specs.Judge.{judgeOf, inForceOf};
 ghost use Rattle.uplink.specs.Questions as up;
+ghost use Rattle.acknowledgement.specs.Questions as ack;
 ghost use Rattle.downlink.specs.Questions as down;
 ghost use Rattle.control.specs.Questions as control;
+use acknowledgement::AckGrant;
 use cell::Cell;
 use control::ControlGrant;
 use downlink::DownlinkGrant;
@@ -34,6 +36,12 @@ pub fn plan_up(g: UplinkGrant) -> UplinkPlan
     uplink::plan(g)
 }
 
+pub fn plan_ack(g: AckGrant) -> UplinkPlan
+    ensures { λ r. ⌜ r ≡ ack.planOf g ⌝ }
+{
+    acknowledgement::plan(g)
+}
+
 pub fn plan_down(c: Cell, anchor: &[u8], other: &[u8], g: DownlinkGrant) -> DownlinkPlan
     ensures { λ r. ⌜ r ≡ down.planOf c (now (anchor .entry)) (now (other .entry)) g ⌝ }
 {
@@ -50,6 +58,12 @@ pub fn forward_up(g: UplinkGrant, p: u64) -> UplinkPlace
     ensures { λ r. ⌜ r ≡ up.forwardOf g p ⌝ }
 {
     uplink::forward(g, p)
+}
+
+pub fn forward_ack(g: AckGrant, p: u64) -> UplinkPlace
+    ensures { λ r. ⌜ r ≡ ack.forwardOf g p ⌝ }
+{
+    acknowledgement::forward(g, p)
 }
 
 pub fn forward_down(c: Cell, anchor: &[u8], other: &[u8], g: DownlinkGrant, p: u64) -> DownlinkPlace
@@ -74,6 +88,12 @@ pub fn backward_up(g: UplinkGrant, slot: u64, l: u64, k: u64) -> Back
     ensures { λ r. ⌜ r ≡ up.backwardOf g slot l k ⌝ }
 {
     uplink::backward(g, slot, l, k)
+}
+
+pub fn backward_ack(g: AckGrant, slot: u64, l: u64, k: u64) -> Back
+    ensures { λ r. ⌜ r ≡ ack.backwardOf g slot l k ⌝ }
+{
+    acknowledgement::backward(g, slot, l, k)
 }
 
 pub fn backward_down(

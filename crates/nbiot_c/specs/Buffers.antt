@@ -8,13 +8,14 @@ use lib.Ieee.{Float}
 use lib.ListN.{length, getD, drop}
 use Rattle.cell.specs.declared.Cell.{Cell}
 use Rattle.uplink.specs.declared.UplinkGrant.{UplinkGrant}
+use Rattle.acknowledgement.specs.declared.AckGrant.{AckGrant}
 use Rattle.downlink.specs.declared.DownlinkGrant.{DownlinkGrant}
 use Rattle.control.specs.declared.ControlGrant.{ControlGrant}
 use Rattle.sending.specs.declared.Back.{Back}
 use Rattle.slots.specs.declared.UplinkPlan.{UplinkPlan}
 use Rattle.slots.specs.declared.UplinkPlace.{UplinkPlace}
 use Rattle.walk.specs.declared.Grant.{Grant}
-use Rattle.walk.specs.declared.Grant.the-variants.{Up, Down, Control}
+use Rattle.walk.specs.declared.Grant.the-variants.{Up, Ack, Down, Control}
 use Rattle.walk.specs.declared.Walk.{Walk}
 use Rattle.walk.specs.declared.WalkPlace.{WalkPlace}
 use Rattle.walk.specs.declared.Stepped.{Stepped}
@@ -47,6 +48,9 @@ upGrantOf s = record {
   mcs = getD s 6 0;
 }
 
+abbrev pub ackGrantOf : List ℕ → AckGrant
+ackGrantOf s = record { n = getD s 0 0; spacing = getD s 1 0; field = getD s 2 0; copies = getD s 3 0 }
+
 abbrev pub downGrantOf : List ℕ → DownlinkGrant
 downGrantOf s = record {
   n = getD s 0 0;
@@ -65,6 +69,9 @@ walkOf c g p = record { cell = c; grant = g; p = p }
 
 abbrev pub upWalkOf : List ℕ → Walk
 upWalkOf s = walkOf (cellOf []) (Up (upGrantOf (drop 1 s))) (getD s 0 0)
+
+abbrev pub ackWalkOf : List ℕ → Walk
+ackWalkOf s = walkOf (cellOf []) (Ack (ackGrantOf (drop 1 s))) (getD s 0 0)
 
 abbrev pub downWalkOf : List ℕ → Walk
 downWalkOf s = walkOf (cellOf (drop 1 s)) (Down (downGrantOf (drop 9 s))) (getD s 0 0)

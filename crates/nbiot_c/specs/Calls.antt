@@ -8,6 +8,7 @@ use lib.ListN.{length, take, getD}
 use Rattle.cell.specs.declared.Cell.{Cell}
 use Rattle.cell.specs.Judge.{judgeOf, inForceOf}
 use Rattle.uplink.specs.Questions as up
+use Rattle.acknowledgement.specs.Questions as ack
 use Rattle.downlink.specs.Questions as down
 use Rattle.control.specs.Questions as control
 use Rattle.walk.specs.Step.{steppedOf}
@@ -15,7 +16,7 @@ use Rattle.symbol.specs.Outgoing.{numbersOf}
 use Rattle.fill.specs.Refusals.{fillRefusal}
 use Rattle.fill.specs.Fill.{outputOf}
 use Rattle.fill.specs.Element.{elementAnswer}
-use Rattle.nbiot_c.specs.Buffers.{cellOf, upGrantOf, downGrantOf, controlGrantOf, upPlanNumbers, downPlanNumbers, upPlaceNumbers, downPlaceNumbers, backNumbers, upWalkOf, downWalkOf, controlWalkOf, lacks, tooShort, Reply, replyOf, StepReply, stepReplyOf, FillReply, fillReplyOf, ElementReply, elementReplyOf}
+use Rattle.nbiot_c.specs.Buffers.{cellOf, upGrantOf, ackGrantOf, downGrantOf, controlGrantOf, upPlanNumbers, downPlanNumbers, upPlaceNumbers, downPlaceNumbers, backNumbers, upWalkOf, ackWalkOf, downWalkOf, controlWalkOf, lacks, tooShort, Reply, replyOf, StepReply, stepReplyOf, FillReply, fillReplyOf, ElementReply, elementReplyOf}
 
 unfoldable pub judge : List ℕ → List ℕ → List ℕ → ℕ
 judge cell anchor other = cond (lacks 8 cell) tooShort (judgeOf (cellOf cell) anchor other)
@@ -38,6 +39,9 @@ bitmap cell anchor other answer =
 unfoldable pub planUp : List ℕ → List ℕ → Reply
 planUp grant answer = replyOf (lacks 7 grant || lacks 7 answer) (upPlanNumbers (up.planOf (upGrantOf grant))) answer
 
+unfoldable pub planAck : List ℕ → List ℕ → Reply
+planAck grant answer = replyOf (lacks 4 grant || lacks 7 answer) (upPlanNumbers (ack.planOf (ackGrantOf grant))) answer
+
 unfoldable pub planDown : List ℕ → List ℕ → List ℕ → List ℕ → List ℕ → Reply
 planDown cell anchor other grant answer =
     replyOf (lacks 8 cell || (lacks 5 grant || lacks 5 answer))
@@ -54,6 +58,9 @@ planControl cell anchor other grant answer =
 
 unfoldable pub forwardUp : List ℕ → ℕ → List ℕ → Reply
 forwardUp grant p answer = replyOf (lacks 7 grant || lacks 5 answer) (upPlaceNumbers (up.forwardOf (upGrantOf grant) p)) answer
+
+unfoldable pub forwardAck : List ℕ → ℕ → List ℕ → Reply
+forwardAck grant p answer = replyOf (lacks 4 grant || lacks 5 answer) (upPlaceNumbers (ack.forwardOf (ackGrantOf grant) p)) answer
 
 unfoldable pub forwardDown : List ℕ → List ℕ → List ℕ → List ℕ → ℕ → List ℕ → Reply
 forwardDown cell anchor other grant p answer =
@@ -73,6 +80,10 @@ unfoldable pub backwardUp : List ℕ → ℕ → ℕ → ℕ → List ℕ → Re
 backwardUp grant slot l k answer =
     replyOf (lacks 7 grant || lacks 5 answer) (backNumbers (up.backwardOf (upGrantOf grant) slot l k)) answer
 
+unfoldable pub backwardAck : List ℕ → ℕ → ℕ → ℕ → List ℕ → Reply
+backwardAck grant slot l k answer =
+    replyOf (lacks 4 grant || lacks 5 answer) (backNumbers (ack.backwardOf (ackGrantOf grant) slot l k)) answer
+
 unfoldable pub backwardDown : List ℕ → List ℕ → List ℕ → List ℕ → ℕ → ℕ → ℕ → ℕ → List ℕ → Reply
 backwardDown cell anchor other grant t slot l k answer =
     replyOf (lacks 8 cell || (lacks 5 grant || lacks 5 answer))
@@ -89,6 +100,9 @@ backwardControl cell anchor other grant t slot l k answer =
 
 unfoldable pub stepUp : List ℕ → List ℕ → StepReply
 stepUp walk answer = stepReplyOf (lacks 8 walk || lacks 7 answer) (steppedOf (upWalkOf walk) [] []) walk answer
+
+unfoldable pub stepAck : List ℕ → List ℕ → StepReply
+stepAck walk answer = stepReplyOf (lacks 5 walk || lacks 7 answer) (steppedOf (ackWalkOf walk) [] []) walk answer
 
 unfoldable pub stepDown : List ℕ → List ℕ → List ℕ → List ℕ → StepReply
 stepDown walk anchor other answer =

@@ -4,11 +4,12 @@ ghost use mathlib.Core.Path.{_≡_};
 ghost use Prim.Native.Nat.{_+_, _^_, _≤_, _<_};
 ghost use lib.ListN.{length, getD, drop};
 ghost use Rattle.uplink.specs.Questions as up;
+ghost use Rattle.acknowledgement.specs.Questions as ack;
 ghost use Rattle.downlink.specs.Questions as down;
 ghost use Rattle.control.specs.Questions as control;
 ghost use Rattle.walk.specs.Step.{askedOf, isEnd};
 ghost use Rattle.walk.specs.Quick.{walkAt, stoppedAt};
-ghost use Rattle.nbiot_c.specs.Buffers.{cellOf, upGrantOf, downGrantOf, controlGrantOf, upPlanNumbers, downPlanNumbers, upPlaceNumbers, downPlaceNumbers, upWalkOf, downWalkOf, controlWalkOf, stepNumbers, laid};
+ghost use Rattle.nbiot_c.specs.Buffers.{cellOf, upGrantOf, ackGrantOf, downGrantOf, controlGrantOf, upPlanNumbers, downPlanNumbers, upPlaceNumbers, downPlaceNumbers, upWalkOf, ackWalkOf, downWalkOf, controlWalkOf, stepNumbers, laid};
 use super::buffers;
 
 pub fn plan_up(grant: &[u64], answer: &mut [u64]) -> u64
@@ -16,6 +17,23 @@ pub fn plan_up(grant: &[u64], answer: &mut [u64]) -> u64
     ensures { λ r. ⌜ (r ≡ up.planOf (upGrantOf (now (grant .entry))) .no) × (now (answer .exit) ≡ laid (upPlanNumbers (up.planOf (upGrantOf (now (grant .entry))))) (now (answer .entry))) ⌝ }
 {
     let a = nbiot::plan_up(buffers::up_grant_of(grant));
+    buffers::put7(
+        answer,
+        a.no,
+        a.first,
+        a.last,
+        a.copies,
+        a.places,
+        a.size,
+        a.order,
+    )
+}
+
+pub fn plan_ack(grant: &[u64], answer: &mut [u64]) -> u64
+    requires { ⌜ (4 ≤ length (now grant)) × (7 ≤ length (now answer)) ⌝ }
+    ensures { λ r. ⌜ (r ≡ ack.planOf (ackGrantOf (now (grant .entry))) .no) × (now (answer .exit) ≡ laid (upPlanNumbers (ack.planOf (ackGrantOf (now (grant .entry))))) (now (answer .entry))) ⌝ }
+{
+    let a = nbiot::plan_ack(buffers::ack_grant_of(grant));
     buffers::put7(
         answer,
         a.no,
@@ -74,6 +92,14 @@ pub fn place_up(grant: &[u64], p: u64, answer: &mut [u64]) -> u64
     buffers::put5(answer, a.no, a.slot, a.l, a.k, a.symbol)
 }
 
+pub fn place_ack(grant: &[u64], p: u64, answer: &mut [u64]) -> u64
+    requires { ⌜ (4 ≤ length (now grant)) × (5 ≤ length (now answer)) ⌝ }
+    ensures { λ r. ⌜ (r ≡ ack.forwardOf (ackGrantOf (now (grant .entry))) p .no) × (now (answer .exit) ≡ laid (upPlaceNumbers (ack.forwardOf (ackGrantOf (now (grant .entry))) p)) (now (answer .entry))) ⌝ }
+{
+    let a = nbiot::forward_ack(buffers::ack_grant_of(grant), p);
+    buffers::put5(answer, a.no, a.slot, a.l, a.k, a.symbol)
+}
+
 pub fn place_down(
     cell: &[u64],
     anchor: &[u8],
@@ -125,6 +151,14 @@ pub fn walked_up(walk: &[u64], answer: &mut [u64]) -> u64
     buffers::put3(answer, no, 0, 0)
 }
 
+pub fn walked_ack(walk: &[u64], answer: &mut [u64]) -> u64
+    requires { ⌜ (5 ≤ length (now walk)) × (7 ≤ length (now answer)) ⌝ }
+    ensures { λ r. ⌜ (r ≡ walkAt (ackWalkOf (now (walk .entry))) [] [] .no) × (now (answer .exit) ≡ laid (stepNumbers (walkAt (ackWalkOf (now (walk .entry))) [] [])) (now (answer .entry))) ⌝ }
+{
+    let no = place_ack(&walk[1..], walk[0], &mut answer[2..]);
+    buffers::put3(answer, no, 0, 0)
+}
+
 pub fn walked_down(walk: &[u64], anchor: &[u8], other: &[u8], answer: &mut [u64]) -> u64
     requires { ⌜ (14 ≤ length (now walk)) × (7 ≤ length (now answer)) ⌝ }
     ensures { λ r. ⌜ (r ≡ walkAt (downWalkOf (now (walk .entry))) (now (anchor .entry)) (now (other .entry)) .no) × (now (answer .exit) ≡ laid (stepNumbers (walkAt (downWalkOf (now (walk .entry))) (now (anchor .entry)) (now (other .entry)))) (now (answer .entry))) ⌝ }
@@ -161,6 +195,14 @@ pub fn ended_up(walk: &[u64], answer: &mut [u64]) -> bool
     ensures { λ r. ⌜ (r ≡ isEnd (askedOf (upWalkOf (now (walk .entry))) [] []) (getD (now (walk .entry)) 0 0)) × (drop 7 (now (answer .exit)) ≡ drop 7 (now (answer .entry))) ⌝ }
 {
     plan_up(&walk[1..], answer);
+    walk::is_end(answer[0], answer[4], walk[0])
+}
+
+pub fn ended_ack(walk: &[u64], answer: &mut [u64]) -> bool
+    requires { ⌜ (5 ≤ length (now walk)) × (7 ≤ length (now answer)) ⌝ }
+    ensures { λ r. ⌜ (r ≡ isEnd (askedOf (ackWalkOf (now (walk .entry))) [] []) (getD (now (walk .entry)) 0 0)) × (drop 7 (now (answer .exit)) ≡ drop 7 (now (answer .entry))) ⌝ }
+{
+    plan_ack(&walk[1..], answer);
     walk::is_end(answer[0], answer[4], walk[0])
 }
 

@@ -3,7 +3,8 @@ ghost use mathlib.Core.List.{[], _∷_};
 ghost use mathlib.Core.Path.{_≡_};
 ghost use Prim.Native.Nat.{_≤_};
 ghost use lib.ListN.{length};
-ghost use Rattle.nbiot_c.specs.Buffers.{cellOf, upGrantOf, downGrantOf, controlGrantOf, Short2, Short3, laid};
+ghost use Rattle.nbiot_c.specs.Buffers.{cellOf, upGrantOf, ackGrantOf, downGrantOf, controlGrantOf, Short2, Short3, laid};
+use acknowledgement::AckGrant;
 use cell::Cell;
 use control::ControlGrant;
 use downlink::DownlinkGrant;
@@ -50,6 +51,18 @@ pub fn up_grant_of(s: &[u64]) -> UplinkGrant
         copies: s[4],
         delay: s[5],
         mcs: s[6],
+    }
+}
+
+pub fn ack_grant_of(s: &[u64]) -> AckGrant
+    requires { ⌜ 4 ≤ length (now s) ⌝ }
+    ensures { λ r. ⌜ r ≡ ackGrantOf (now (s .entry)) ⌝ }
+{
+    AckGrant {
+        n: s[0],
+        spacing: s[1],
+        field: s[2],
+        copies: s[3],
     }
 }
 

@@ -52,6 +52,17 @@ pub extern "C" fn nbiot_plan_up(grant: &[u64], answer: &mut [u64]) -> u64
     answers::plan_up(grant, answer)
 }
 
+// First and last slot, copies, places, size and order.
+#[no_mangle]
+pub extern "C" fn nbiot_plan_ack(grant: &[u64], answer: &mut [u64]) -> u64
+    ensures { λ r. ⌜ (r ≡ calls.planAck (now (grant .entry)) (now (answer .entry)) .number) × (now (answer .exit) ≡ calls.planAck (now (grant .entry)) (now (answer .entry)) .answer) ⌝ }
+{
+    if buffers::short2(4, 7, grant.len(), answer.len()) {
+        return TOO_SHORT;
+    }
+    answers::plan_ack(grant, answer)
+}
+
 // First and last subframe, copies and places.
 #[no_mangle]
 pub extern "C" fn nbiot_plan_down(
@@ -95,6 +106,17 @@ pub extern "C" fn nbiot_forward_up(grant: &[u64], p: u64, answer: &mut [u64]) ->
         return TOO_SHORT;
     }
     answers::place_up(grant, p, answer)
+}
+
+// The place of position p, and the symbol there.
+#[no_mangle]
+pub extern "C" fn nbiot_forward_ack(grant: &[u64], p: u64, answer: &mut [u64]) -> u64
+    ensures { λ r. ⌜ (r ≡ calls.forwardAck (now (grant .entry)) p (now (answer .entry)) .number) × (now (answer .exit) ≡ calls.forwardAck (now (grant .entry)) p (now (answer .entry)) .answer) ⌝ }
+{
+    if buffers::short2(4, 5, grant.len(), answer.len()) {
+        return TOO_SHORT;
+    }
+    answers::place_ack(grant, p, answer)
 }
 
 // The place of position p, and the symbol there.
@@ -148,6 +170,24 @@ pub extern "C" fn nbiot_backward_up(
         return TOO_SHORT;
     }
     let a = nbiot::backward_up(buffers::up_grant_of(grant), slot, l, k);
+    buffers::put5(answer, a.no, a.ours, a.symbol, a.position, a.kind)
+}
+
+// What stands at symbol l and subcarrier k of a slot.
+#[no_mangle]
+pub extern "C" fn nbiot_backward_ack(
+    grant: &[u64],
+    slot: u64,
+    l: u64,
+    k: u64,
+    answer: &mut [u64],
+) -> u64
+    ensures { λ r. ⌜ (r ≡ calls.backwardAck (now (grant .entry)) slot l k (now (answer .entry)) .number) × (now (answer .exit) ≡ calls.backwardAck (now (grant .entry)) slot l k (now (answer .entry)) .answer) ⌝ }
+{
+    if buffers::short2(4, 5, grant.len(), answer.len()) {
+        return TOO_SHORT;
+    }
+    let a = nbiot::backward_ack(buffers::ack_grant_of(grant), slot, l, k);
     buffers::put5(answer, a.no, a.ours, a.symbol, a.position, a.kind)
 }
 
@@ -226,6 +266,22 @@ pub extern "C" fn nbiot_step_up(walk: &mut [u64], answer: &mut [u64]) -> u64
         return answers::moved(walk);
     }
     let end = answers::ended_up(walk, answer);
+    answers::stopped(no, end, answer)
+}
+
+// One step of a walk: the answer at its position, which moves on.
+#[no_mangle]
+pub extern "C" fn nbiot_step_ack(walk: &mut [u64], answer: &mut [u64]) -> u64
+    ensures { λ r. ⌜ (r ≡ calls.stepAck (now (walk .entry)) (now (answer .entry)) .number) × (now (walk .exit) ≡ calls.stepAck (now (walk .entry)) (now (answer .entry)) .walk) × (now (answer .exit) ≡ calls.stepAck (now (walk .entry)) (now (answer .entry)) .answer) ⌝ }
+{
+    if buffers::short2(5, 7, walk.len(), answer.len()) {
+        return TOO_SHORT;
+    }
+    let no = answers::walked_ack(walk, answer);
+    if no == 0 {
+        return answers::moved(walk);
+    }
+    let end = answers::ended_ack(walk, answer);
     answers::stopped(no, end, answer)
 }
 

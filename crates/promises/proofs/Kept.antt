@@ -19,7 +19,7 @@ use Rattle.control.specs.Refusals as npdcch-refusals
 use Rattle.control.specs.Questions as npdcch
 use Rattle.control.proofs.Accepting as npdcch-accepting
 use Rattle.promises.specs.Promises.{eligibleCount, Promises}
-use Rattle.promises.proofs.Slotted.{uplink-demand}
+use Rattle.promises.proofs.Slotted.{uplink-demand, ack-demand}
 use Rattle.promises.proofs.Framed.{question-demand}
 
 -- on all subcarriers each eligible element is used
@@ -33,6 +33,7 @@ pub kept : Promises
 unfolding npdsch.planOf npdsch.forwardOf npdsch.backwardOf npdcch.planOf npdcch.forwardOf npdcch.backwardOf
 kept = record {
   uplink = uplink-demand;
+  acknowledgement = ack-demand;
   downlink = λ c anchor other g h.
       question-demand c anchor other (npdsch-refusals.grantRefusal g) (npdsch.burstOf c g) (npdsch-accepting.burst-fits c g) refl
       (entry downlinkCopies (g .copies)) (entry lengths (g .subframes) * eligibleCount c) refl

@@ -1,4 +1,4 @@
--- P1 to P11 hold.
+-- P1 to P11 and the cases of L1 hold.
 use mathlib.Core.Bool.{Bool, true, false, cond, not}
 use mathlib.Core.List.{List, [], _∷_, map}
 use mathlib.Core.Path.{_≡_, refl, sym, ap, ap₂, _∙_}
@@ -22,6 +22,7 @@ use Rattle.subframes.specs.Answers.{burstPlan, burstForward, planAnswer, forwar
 use Rattle.downlink.specs.Refusals.{grantRefusal}
 use Rattle.downlink.specs.Questions.{planOf, forwardOf}
 use Rattle.uplink.proofs.Cases as uplink
+use Rattle.acknowledgement.proofs.Cases as ack
 use Rattle.promises.specs.Cases.{elementsOf, standalone, inBand, eightSubframes, sentIn, Cases}
 
 -- ---- P1: E reads the identity by its remainder mod 6 alone
@@ -116,4 +117,5 @@ cases = record {
   p10-other = cell.cases .p10-other;
   p11-schedule-2 = cell.cases .p11-sixteen-copies;
   p11-schedule-1 = cell.cases .p11-eight-copies;
+  acknowledgements = ack.ack-cases;
 }

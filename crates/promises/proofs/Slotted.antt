@@ -21,9 +21,14 @@ use Rattle.uplink.specs.Refusals.{refusal}
 use Rattle.uplink.specs.Shaping.{grantTones, shapeOf}
 use Rattle.uplink.specs.Questions.{planOf, forwardOf, backwardOf}
 use Rattle.uplink.proofs.Acceptance.{fits}
+use Rattle.acknowledgement.specs.declared.AckGrant.{AckGrant}
+use Rattle.acknowledgement.specs.Refusals as ack-refusals
+use Rattle.acknowledgement.specs.Shaping as ack-shaping
+use Rattle.acknowledgement.specs.Questions as ack
+use Rattle.acknowledgement.proofs.Accepting as ack-accepting
 use Rattle.promises.specs.Demand.{Answers, Granted, Demand, firstBy}
 use Rattle.promises.specs.Grids.{SlotPlace, uplinkGrid, uplinkColumns, uplinkAnswers}
-use Rattle.promises.specs.Promises.{dataSymbols, uplinkGranted}
+use Rattle.promises.specs.Promises.{dataSymbols, uplinkGranted, ackDataSymbols, ackGranted}
 use Rattle.promises.proofs.Bridge.{Numbered, Read, demand}
 
 -- ---- the grid
@@ -99,3 +104,16 @@ pub uplink-demand : (g : UplinkGrant) → planOf g .no ≡ 0
 unfolding shapeOf planOf forwardOf backwardOf
 uplink-demand g =
     question-demand (refusal g) (shapeOf g) (fits g) _ _ refl (λ e. ap (λ (w : ℕ). shapeOf g .codeword * w) (six-each g e))
+
+-- ---- acknowledgements
+
+-- four data symbols on the tone
+four-each : (g : AckGrant) → ack-refusals.refusal g ≡ 0 → ackDataSymbols ≡ slotData (ack-shaping.shapeOf g)
+unfolding ack-shaping.shapeOf
+four-each g e = slot-data (ack-shaping.shapeOf g) (ack-accepting.fits g e)
+
+pub ack-demand : (g : AckGrant) → ack.planOf g .no ≡ 0
+    → Demand (uplinkGrid (uplinkSubcarriers (g .spacing))) (ackGranted g) (uplinkAnswers (ack.planOf g) (ack.forwardOf g) (ack.backwardOf g))
+unfolding ack-shaping.shapeOf ack.planOf ack.forwardOf ack.backwardOf
+ack-demand g =
+    question-demand (ack-refusals.refusal g) (ack-shaping.shapeOf g) (ack-accepting.fits g) _ _ refl (λ e. ap (λ (w : ℕ). 4 * w) (four-each g e))

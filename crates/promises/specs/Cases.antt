@@ -1,4 +1,4 @@
--- The cases P1 to P11 of 01, as one list. Each starts from the fields that 01 prints and speaks of the answers that the contracts cite.
+-- The cases P1 to P11 of 01, and those of 02 L1, as one list. Each starts from the fields that 01 prints and speaks of the answers that the contracts cite.
 -- What a case leaves free is any number that is accepted; where it is typed in, a comment says so.
 use mathlib.Core.List.{List, [], _∷_, map}
 use mathlib.Core.Bool.{true}
@@ -13,6 +13,7 @@ use Rattle.subframes.specs.declared.DownlinkPlan.{DownlinkPlan}
 use Rattle.subframes.specs.declared.DownlinkPlace.{DownlinkPlace}
 use Rattle.subframes.specs.Cells.{layoutOf}
 use Rattle.uplink.specs.Cases.{UplinkCases}
+use Rattle.acknowledgement.specs.Cases.{AckCases}
 use Rattle.downlink.specs.declared.DownlinkGrant.{DownlinkGrant}
 use Rattle.downlink.specs.Questions.{planOf, forwardOf}
 
@@ -101,3 +102,5 @@ pub record Cases : Type 0 where
   -- P11
   pub p11-schedule-2 : judgeOf (withBitmap 0 2 40) onlyFour [] ≡ 8
   pub p11-schedule-1 : judgeOf (withBitmap 0 1 40) onlyFour [] ≡ 0
+  -- L1
+  pub acknowledgements : AckCases

@@ -19,6 +19,9 @@ use Rattle.uplink.specs.declared.UplinkGrant.{UplinkGrant}
 use Rattle.uplink.specs.Fields.{unitSlots}
 use Rattle.uplink.specs.Shaping.{shapeOf, grantTones}
 use Rattle.uplink.specs.Questions as npusch
+use Rattle.acknowledgement.specs.declared.AckGrant.{AckGrant}
+use Rattle.acknowledgement.specs.Shaping as ack-shaping
+use Rattle.acknowledgement.specs.Questions as ack
 use Rattle.downlink.specs.declared.DownlinkGrant.{DownlinkGrant}
 use Rattle.downlink.specs.Questions as npdsch
 use Rattle.control.specs.declared.ControlGrant.{ControlGrant}
@@ -97,6 +100,17 @@ uplinkGranted g = record {
   sending = slots.sendingOf (shapeOf g);
 }
 
+-- an acknowledgement: 4 slots of one tone, and of the seven l of a slot three are reference symbols
+abbrev pub ackDataSymbols : ℕ
+ackDataSymbols = 4
+
+abbrev pub ackGranted : AckGrant → Granted
+ackGranted g = record {
+  copies = entry uplinkCopies (g .copies);
+  symbols = 4 * ackDataSymbols;
+  sending = slots.sendingOf (ack-shaping.shapeOf g);
+}
+
 -- ---- the promises
 
 pub record Promises : Type 0 where
@@ -104,6 +118,10 @@ pub record Promises : Type 0 where
   pub uplink : (g : UplinkGrant) → npusch.planOf g .no ≡ 0
       → Demand (uplinkGrid (uplinkSubcarriers (g .spacing))) (uplinkGranted g)
       (uplinkAnswers (npusch.planOf g) (npusch.forwardOf g) (npusch.backwardOf g))
+  -- acknowledgements
+  pub acknowledgement : (g : AckGrant) → ack.planOf g .no ≡ 0
+      → Demand (uplinkGrid (uplinkSubcarriers (g .spacing))) (ackGranted g)
+      (uplinkAnswers (ack.planOf g) (ack.forwardOf g) (ack.backwardOf g))
   -- NPDSCH
   pub downlink : (c : Cell) (anchor other : List ℕ) (g : DownlinkGrant) → npdsch.planOf c anchor other g .no ≡ 0
       → DownlinkDemand c (bitmapOf c anchor other) (downlinkGranted c (bitmapOf c anchor other) g)

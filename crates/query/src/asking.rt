@@ -31,10 +31,11 @@ fn plan(k: Kind, v: &Values, anchor: &[u8], other: &[u8], out: &mut Page, at: us
     requires { ⌜ at + 320 ≤ 65536 ⌝ }
     ensures { λ r. ⌜ r ≤ at + 320 ⌝ }
 {
-    if let Kind::Up = k {
-        return answers::put_uplink_plan(nbiot::plan_up(questions::uplink_grant(v)), out, at);
+    match k {
+        Kind::Up => answers::put_uplink_plan(nbiot::plan_up(questions::uplink_grant(v)), out, at),
+        Kind::Ack => answers::put_uplink_plan(nbiot::plan_ack(questions::ack_grant(v)), out, at),
+        _ => answers::put_downlink_plan(either::plan(k, v, anchor, other), out, at),
     }
-    answers::put_downlink_plan(either::plan(k, v, anchor, other), out, at)
 }
 
 fn forward(k: Kind, v: &Values, anchor: &[u8], other: &[u8], out: &mut Page, at: usize) -> usize
@@ -42,11 +43,17 @@ fn forward(k: Kind, v: &Values, anchor: &[u8], other: &[u8], out: &mut Page, at:
     ensures { λ r. ⌜ r ≤ at + 320 ⌝ }
 {
     let p = v[P];
-    if let Kind::Up = k {
-        let x = nbiot::forward_up(questions::uplink_grant(v), p);
-        return answers::put_uplink_place(x, out, at);
+    match k {
+        Kind::Up => {
+            let x = nbiot::forward_up(questions::uplink_grant(v), p);
+            answers::put_uplink_place(x, out, at)
+        }
+        Kind::Ack => {
+            let x = nbiot::forward_ack(questions::ack_grant(v), p);
+            answers::put_uplink_place(x, out, at)
+        }
+        _ => answers::put_downlink_place(either::forward(k, v, anchor, other, p), out, at),
     }
-    answers::put_downlink_place(either::forward(k, v, anchor, other, p), out, at)
 }
 
 fn backward(k: Kind, v: &Values, anchor: &[u8], other: &[u8], out: &mut Page, at: usize) -> usize
@@ -56,15 +63,12 @@ fn backward(k: Kind, v: &Values, anchor: &[u8], other: &[u8], out: &mut Page, at
     let slot = v[SLOT];
     let l = v[L];
     let s = v[K];
-    if let Kind::Up = k {
-        let x = nbiot::backward_up(questions::uplink_grant(v), slot, l, s);
-        return answers::put_back(x, out, at);
-    }
-    answers::put_back(
-        either::backward(k, v, anchor, other, v[T], slot, l, s),
-        out,
-        at,
-    )
+    let x = match k {
+        Kind::Up => nbiot::backward_up(questions::uplink_grant(v), slot, l, s),
+        Kind::Ack => nbiot::backward_ack(questions::ack_grant(v), slot, l, s),
+        _ => either::backward(k, v, anchor, other, v[T], slot, l, s),
+    };
+    answers::put_back(x, out, at)
 }
 
 // The position after the step is kept.
@@ -76,10 +80,11 @@ fn step(k: Kind, v: &mut Values, anchor: &[u8], other: &[u8], out: &mut Page, at
     let answer = s.answer;
     let p = s.walk.p;
     v[P] = p;
-    if let Kind::Up = k {
-        return answers::put_uplink_step(answer, p, out, at);
+    match k {
+        Kind::Up => answers::put_uplink_step(answer, p, out, at),
+        Kind::Ack => answers::put_uplink_step(answer, p, out, at),
+        _ => answers::put_downlink_step(answer, p, out, at),
     }
-    answers::put_downlink_step(answer, p, out, at)
 }
 
 // How many numbers of output are lent.

@@ -1,4 +1,4 @@
-// The questions of a downlink grant of either kind. Up, which is neither, is taken as down.
+// The questions of a downlink grant of either kind. A kind of the uplink is taken as down.
 use questions::Kind;
 use questions::Values;
 use sending::Back;

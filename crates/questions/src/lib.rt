@@ -20,6 +20,7 @@ pub use values::ROOM;
 pub use values::SLOT;
 pub use values::T;
 pub use values::Values;
+pub use values::ack_grant;
 pub use values::cell_of;
 pub use values::codeword_subframes;
 pub use values::control_grant;

@@ -34,14 +34,21 @@ const WITHOUT_KIND: usize = 5;
 
 const PICTURE: usize = 9;
 
-const UP: usize = 0;
+// The kinds of the uplink stand first.
+const ACK: usize = 1;
 
-const NO_KIND: usize = 3;
+const NO_KIND: usize = 4;
 
-const KINDS: [[u8; 10]; 3] = [*b"up        ", *b"down      ", *b"control   "];
+const KINDS: [[u8; 10]; 4] = [
+    *b"up        ",
+    *b"ack       ",
+    *b"down      ",
+    *b"control   ",
+];
 
 pub enum Kind {
     Up,
+    Ack,
     Down,
     Control,
 }
@@ -87,7 +94,8 @@ enum Word {
 fn kind_of(row: usize) -> Kind {
     match row {
         0 => Kind::Up,
-        1 => Kind::Down,
+        1 => Kind::Ack,
+        2 => Kind::Down,
         _ => Kind::Control,
     }
 }
@@ -231,7 +239,7 @@ fn suits(row: usize, kind: usize) -> bool {
     if row < WITHOUT_KIND {
         return kind == NO_KIND;
     }
-    (kind < NO_KIND) & ((row != PICTURE) | (kind != UP))
+    (kind < NO_KIND) & ((row != PICTURE) | (kind > ACK))
 }
 
 // The end of the words that name the question.
@@ -276,7 +284,7 @@ pub fn read_line(line: &[u8]) -> Line {
 }
 
 fn keep_number(v: &mut Values, name: usize, x: u64) {
-    if name < 31 {
+    if name < 32 {
         v[name] = x;
     }
 }

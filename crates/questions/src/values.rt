@@ -1,5 +1,6 @@
 // The values kept from line to line: numbers by the row of their name, and the counts of the three buffers' bytes.
 use crate::reading::Kind;
+use acknowledgement::AckGrant;
 use cell::Cell;
 use control::ControlGrant;
 use downlink::DownlinkGrant;
@@ -8,7 +9,7 @@ use walk::Grant;
 use walk::Walk;
 
 // The numbers' names; then the level, a number too, and the buffers.
-pub const NAMES: [[u8; 10]; 31] = [
+pub const NAMES: [[u8; 10]; 32] = [
     *b"mode      ",
     *b"carrier   ",
     *b"identity  ",
@@ -29,6 +30,7 @@ pub const NAMES: [[u8; 10]; 31] = [
     *b"subcarrier",
     *b"units     ",
     *b"mcs       ",
+    *b"field     ",
     *b"p         ",
     *b"t         ",
     *b"slot      ",
@@ -82,34 +84,36 @@ const UNITS: usize = 18;
 
 const MCS: usize = 19;
 
-pub const P: usize = 20;
+const FIELD: usize = 20;
 
-pub const T: usize = 21;
+pub const P: usize = 21;
 
-pub const SLOT: usize = 22;
+pub const T: usize = 22;
 
-pub const L: usize = 23;
+pub const SLOT: usize = 23;
 
-pub const K: usize = 24;
+pub const L: usize = 24;
 
-pub const I: usize = 25;
+pub const K: usize = 25;
 
-pub const ROOM: usize = 26;
+pub const I: usize = 26;
 
-pub const LEVEL: usize = 27;
+pub const ROOM: usize = 27;
 
-pub const ANCHOR: usize = 28;
+pub const LEVEL: usize = 28;
 
-pub const OTHER: usize = 29;
+pub const ANCHOR: usize = 29;
 
-pub const DATA: usize = 30;
+pub const OTHER: usize = 30;
+
+pub const DATA: usize = 31;
 
 // At a buffer's row stands the count of its bytes.
-pub type Values = [u64; 31];
+pub type Values = [u64; 32];
 
 // All 0, but the room.
 pub fn start() -> Values {
-    let mut v = [0u64; 31];
+    let mut v = [0u64; 32];
     v[ROOM] = 336;
     v
 }
@@ -158,9 +162,19 @@ pub fn uplink_grant(v: &Values) -> UplinkGrant {
     }
 }
 
+pub fn ack_grant(v: &Values) -> AckGrant {
+    AckGrant {
+        n: v[N],
+        spacing: v[SPACING],
+        field: v[FIELD],
+        copies: v[COPIES],
+    }
+}
+
 fn grant_of(k: Kind, v: &Values) -> Grant {
     match k {
         Kind::Up => Grant::Up(uplink_grant(v)),
+        Kind::Ack => Grant::Ack(ack_grant(v)),
         Kind::Down => Grant::Down(downlink_grant(v)),
         Kind::Control => Grant::Control(control_grant(v)),
     }

@@ -27,12 +27,16 @@ use Rattle.uplink.specs.Refusals as upRefusals
 use Rattle.uplink.specs.Shaping as upShaping
 use Rattle.uplink.specs.Questions as up
 use Rattle.uplink.proofs.Acceptance as upAcceptance
+use Rattle.acknowledgement.specs.Refusals as ackRefusals
+use Rattle.acknowledgement.specs.Shaping as ackShaping
+use Rattle.acknowledgement.specs.Questions as ack
+use Rattle.acknowledgement.proofs.Accepting as ackAccepting
 use Rattle.downlink.specs.Questions as down
 use Rattle.downlink.proofs.Accepting as downAccepting
 use Rattle.control.specs.Questions as control
 use Rattle.control.proofs.Accepting as controlAccepting
 use Rattle.walk.specs.declared.Grant.{Grant}
-use Rattle.walk.specs.declared.Grant.the-variants.{Up, Down, Control}
+use Rattle.walk.specs.declared.Grant.the-variants.{Up, Ack, Down, Control}
 use Rattle.walk.specs.Step.{fromUplink, fromDownlink, refusedStep, Asked, asked}
 
 pub record Agrees (q : Asked) : Type 0 where
@@ -108,8 +112,9 @@ both-accepted c anchor other grant e = by (ℕ-discrete (judgeOf c anchor other)
 -- ---- any grant
 
 pub agrees : (c : Cell) (anchor other : List ℕ) (g : Grant) → Agrees (asked c anchor other g)
-unfolding asked up.planOf up.forwardOf down.planOf down.forwardOf control.planOf control.forwardOf
+unfolding asked up.planOf up.forwardOf ack.planOf ack.forwardOf down.planOf down.forwardOf control.planOf control.forwardOf
 agrees c anchor other (Up g) = shape-agrees (upRefusals.refusal g) (upShaping.shapeOf g) (upAcceptance.fits g)
+agrees c anchor other (Ack g) = shape-agrees (ackRefusals.refusal g) (ackShaping.shapeOf g) (ackAccepting.fits g)
 agrees c anchor other (Down g) =
     burst-agrees _ _ _ (down.burstOf c g)
     (λ e. let a = both-accepted c anchor other _ e in downAccepting.burst-fits c g (accepted-cell c anchor other (a .0)) (a .1))

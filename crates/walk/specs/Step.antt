@@ -7,10 +7,11 @@ use Rattle.cell.specs.declared.Cell.{Cell}
 use Rattle.slots.specs.declared.UplinkPlace.{UplinkPlace}
 use Rattle.subframes.specs.declared.DownlinkPlace.{DownlinkPlace}
 use Rattle.uplink.specs.Questions as up
+use Rattle.acknowledgement.specs.Questions as ack
 use Rattle.downlink.specs.Questions as down
 use Rattle.control.specs.Questions as control
 use Rattle.walk.specs.declared.Grant.{Grant}
-use Rattle.walk.specs.declared.Grant.the-variants.{Up, Down, Control}
+use Rattle.walk.specs.declared.Grant.the-variants.{Up, Ack, Down, Control}
 use Rattle.walk.specs.declared.Walk.{Walk}
 use Rattle.walk.specs.declared.WalkPlace.{WalkPlace}
 use Rattle.walk.specs.declared.Moved.{Moved}
@@ -45,6 +46,11 @@ asked c anchor other (Up g) = record {
   no = up.planOf g .no;
   places = up.planOf g .places;
   at = λ p. fromUplink (up.forwardOf g p);
+}
+asked c anchor other (Ack g) = record {
+  no = ack.planOf g .no;
+  places = ack.planOf g .places;
+  at = λ p. fromUplink (ack.forwardOf g p);
 }
 asked c anchor other (Down g) = record {
   no = down.planOf c anchor other g .no;

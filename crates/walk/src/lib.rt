@@ -5,6 +5,7 @@ ghost use lib.Dec.{eqb};
 ghost use Prim.Native.Nat.{_^_, _<_};
 ghost use Rattle.walk.specs.Step.{fromUplink, fromDownlink, refusedStep, finishedStep, askedOf, isEnd, onward, unmoved, movedOf, steppedOf};
 ghost use Rattle.walk.specs.Quick.{stoppedAt};
+use acknowledgement::AckGrant;
 use cell::Cell;
 use control::ControlGrant;
 use downlink::DownlinkGrant;
@@ -14,6 +15,7 @@ use uplink::UplinkGrant;
 
 pub enum Grant {
     Up(UplinkGrant),
+    Ack(AckGrant),
     Down(DownlinkGrant),
     Control(ControlGrant),
 }
@@ -128,6 +130,7 @@ fn forward(w: Walk, anchor: &[u8], other: &[u8]) -> WalkPlace
     let grant = w.grant;
     match grant {
         Grant::Up(g) => from_uplink(uplink::forward(g, p)),
+        Grant::Ack(g) => from_uplink(acknowledgement::forward(g, p)),
         Grant::Down(g) => from_downlink(downlink::forward(c, anchor, other, g, p)),
         Grant::Control(g) => from_downlink(control::forward(c, anchor, other, g, p)),
     }
@@ -160,6 +163,10 @@ fn at_end(w: Walk, anchor: &[u8], other: &[u8]) -> bool
     match grant {
         Grant::Up(g) => {
             let plan = uplink::plan(g);
+            is_end(plan.no, plan.places, p)
+        }
+        Grant::Ack(g) => {
+            let plan = acknowledgement::plan(g);
             is_end(plan.no, plan.places, p)
         }
         Grant::Down(g) => {

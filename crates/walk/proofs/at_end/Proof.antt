@@ -15,8 +15,12 @@ returns-3 : tie.Need-returns-3
 unfolding asked
 returns-3 c = simp (c .is-end3 .ensures, c .before .plan3 .ensures, c .before .before .before .grant3 .given .1)
 
+returns-4 : tie.Need-returns-4
+unfolding asked
+returns-4 c = simp (c .is-end4 .ensures, c .before .plan4 .ensures, c .before .before .before .grant4 .given .1)
+
 pub at-end-spec : {M : Type 1} → statement M
 at-end-spec =
     tie.close
     (tie.spec (λ c. search needs) (λ c κs. tt) (λ c κs. tt) (λ c. search needs) (λ c κs. tt) (λ c κs. tt) (λ c. search needs)
-    (λ c κs. tt) (λ c κs. tt) returns returns-2 returns-3)
+    (λ c κs. tt) (λ c κs. tt) (λ c. search needs) (λ c κs. tt) (λ c κs. tt) returns returns-2 returns-3 returns-4)

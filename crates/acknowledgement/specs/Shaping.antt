@@ -1,0 +1,42 @@
+-- The shape of an acknowledgement on NPUSCH format 2: 02 L1.
+use Prim.Native.Nat.{ℕ, _+_, _-_}
+use Rattle.grid.specs.Grid.{uplinkSubcarriers}
+use Rattle.grid.specs.Tables.{entry, uplinkCopies}
+use Rattle.slots.specs.declared.Shape.{Shape}
+use Rattle.slots.specs.Numerology.{bySpacing, slotsIn, firstAfter, groupOf}
+use Rattle.acknowledgement.specs.declared.AckGrant.{AckGrant}
+use Rattle.acknowledgement.specs.Fields.{toneOf, delayOf}
+
+-- the first slot that begins after the end of subframe n + delay - 1 (TS 36.213 clause 16.4.2)
+abbrev pub startOf : AckGrant → ℕ
+startOf g = firstAfter (g .spacing) (g .n + delayOf (g .spacing) (g .field) - 1)
+
+-- one resource unit, of one tone and 4 slots (TS 36.211 table 10.1.2.3-1)
+abbrev pub unitSlots : ℕ
+unitSlots = 4
+
+-- the first of the three reference symbols of a slot (TS 36.211 table 10.1.4.2-1)
+abbrev pub referenceOf : ℕ → ℕ
+referenceOf spacing = bySpacing spacing 0 2
+
+abbrev pub references : ℕ
+references = 3
+
+-- one tone's slots go out once in a row (TS 36.211 clause 10.1.3.6); one bit, by BPSK (TS 36.211 table 10.1.3.2-1)
+unfoldable pub shapeOf : AckGrant → Shape
+shapeOf g = record {
+  first = startOf g;
+  subcarriers = uplinkSubcarriers (g .spacing);
+  block = slotsIn (g .spacing) 256;
+  gap = slotsIn (g .spacing) 40;
+  tone = toneOf (g .spacing) (g .field);
+  tones = 1;
+  codeword = unitSlots;
+  copies = entry uplinkCopies (g .copies);
+  row = 1;
+  group = groupOf (g .spacing);
+  reference = referenceOf (g .spacing);
+  references = references;
+  size = 1;
+  order = 1;
+}

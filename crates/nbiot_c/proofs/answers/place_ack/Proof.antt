@@ -1,0 +1,29 @@
+use mathlib.Core.Path.{ap, _∙_}
+use borrow.Author.Needs.{needs}
+use Rattle.acknowledgement.specs.declared.AckGrant.{AckGrant}
+use Rattle.slots.specs.declared.UplinkPlace.{UplinkPlace}
+use Rattle.acknowledgement.specs.Questions as ack
+use Rattle.nbiot_c.specs.Buffers.{ackGrantOf, upPlaceNumbers}
+use Rattle.nbiot_c.proofs.Replies.{put-is}
+use Rattle.nbiot_c.proofs.answers.place_ack.Statement.{statement}
+use Rattle.nbiot_c.proofs.answers.place_ack.Tie as tie
+
+returns : tie.Need-returns
+returns c =
+    let put = c .before .before in
+    let asked = put .before .before in
+    let grant = asked .before in
+    let x = grant .before .before .before .args in
+    put-is (λ (a : UplinkPlace). a .no) upPlaceNumbers (ack.forwardOf (ackGrantOf (x .grant .now)) (x .p)) (x .answer .now)
+    (asked .forward-ack .ensures ∙ ap (λ (g : AckGrant). ack.forwardOf g (x .p)) (grant .ack-grant-of .ensures))
+    (put .put5 .ensures .0) (put .put5 .ensures .1)
+
+pub place-ack-spec : {M : Type 1} → statement M
+place-ack-spec =
+    tie.close
+    (tie.spec
+    (λ c κs. c .before .before .pre .0)
+    (λ c κs. tt)
+    (λ c κs. c .before .before .before .before .before .pre .1)
+    (λ c. search needs)
+    returns)
