@@ -7,7 +7,8 @@
  * Buffers. Each goes with the number of its elements. A pointer points to that many; where there are none it may be any, NULL too.
  * Buffers that are written overlap no other buffer of the call.
  *
- * Every function returns a refusal number, 0 if there is none. Of those that apply the smallest is returned:
+ * Every function returns a refusal number, 0 if there is none. Of those that apply the first in this list is returned; the order is
+ * the list's, not the number's:
  *
  *     1  mode above 3 or carrier above 1
  *     2  identity above 503
@@ -16,7 +17,8 @@
  *     5  control region not 1 to 3 in-band, or not 0 in the other modes
  *     6  SIB1 schedule above 11
  *     7  bitmap length not 0, 10 or 40, its buffer too short, or spare bits set
- *     8  no usable subframe among the 2,560
+ *     8  the bitmap alone allows no subframe among the 2,560
+ *    18  it allows some, and the anchor takes them all
  *     9  n above 2^30 - 1, of an acknowledgement above 2^31 - 1
  *    10  a field above its largest number, or NCCE 1 with format 1
  *    11  subcarrier field 48 to 63 at 3.75 kHz, 19 to 63 at 15 kHz
@@ -120,6 +122,28 @@ uint64_t nbiot_bitmap(const uint64_t *cell, size_t cell_len,
                       const uint8_t *other, size_t other_len,
                       uint64_t *answer, size_t answer_len);
 
+/* Why a subframe is not usable: the first of these that applies. */
+enum {
+    NBIOT_CAUSE_NONE = 0,   /* usable; or nothing is said, as of a refused cell */
+    NBIOT_CAUSE_NPBCH = 1,
+    NBIOT_CAUSE_NPSS = 2,
+    NBIOT_CAUSE_NSSS = 3,
+    NBIOT_CAUSE_SIB1 = 4,
+    NBIOT_CAUSE_BITMAP = 6  /* withheld by the bitmap; 5 is kept for system information messages */
+};
+
+/* The cause of subframe t, any t. */
+enum {
+    NBIOT_SUBFRAME_NO,
+    NBIOT_SUBFRAME_CAUSE,
+    NBIOT_SUBFRAME_NUMBERS
+};
+
+uint64_t nbiot_cause(const uint64_t *cell, size_t cell_len,
+                     const uint8_t *anchor, size_t anchor_len,
+                     const uint8_t *other, size_t other_len, uint64_t t,
+                     uint64_t *answer, size_t answer_len);
+
 /* Plan a grant. An uplink plan counts slots, a downlink plan subframes and has no size and order. */
 enum {
     NBIOT_PLAN_NO,
@@ -189,13 +213,18 @@ uint64_t nbiot_forward_control(const uint64_t *cell, size_t cell_len,
                                const uint64_t *grant, size_t grant_len, uint64_t p,
                                uint64_t *answer, size_t answer_len);
 
-/* Backward: what stands at symbol l and subcarrier k of a slot, in the downlink of a slot of subframe t. */
+/*
+ * Backward: what stands at symbol l and subcarrier k of a slot, in the downlink of a slot of subframe t. In the downlink the last
+ * number is the cause that makes a subframe between the first and the last one sent unusable; elsewhere there is none.
+ */
 enum {
     NBIOT_BACK_NO,
     NBIOT_BACK_OURS,     /* 1: one of the grant's places, with its symbol and position; 0: not */
     NBIOT_BACK_SYMBOL,
     NBIOT_BACK_POSITION,
     NBIOT_BACK_KIND,     /* not ours: 0 plain, 1 narrowband or uplink reference, 2 cell reference, 3 both */
+    NBIOT_BACK_UP_NUMBERS,
+    NBIOT_BACK_CAUSE = NBIOT_BACK_UP_NUMBERS,
     NBIOT_BACK_NUMBERS
 };
 

@@ -8,7 +8,7 @@ const SCENES: usize = 256;
 
 /// Nanoseconds a call of plan, forward and backward.
 fn times(scenes: &mut [Scene]) -> [f64; 3] {
-    let (mut plan, mut place, mut back) = ([0; 5], [0; 6], [0; 5]);
+    let (mut plan, mut place, mut back) = ([0; 5], [0; 6], [0; 6]);
     let (planned, _) = versus(scenes, |s| ours::plan_down(&s.cell, &s.anchor, &s.other, &s.down, &mut plan), |_| 0);
     let (forward, _) = versus(scenes, |s| ours::forward_down(&s.cell, &s.anchor, &s.other, &s.down, s.p[1], &mut place), |_| 0);
     let (backward, _) = versus(

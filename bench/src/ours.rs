@@ -4,6 +4,10 @@ use crate::fast::{AckGrant, AckWalk, Cell, ControlGrant, ControlWalk, DownGrant,
 
 extern "C" {
     fn nbiot_judge(cell: *const u64, cells: usize, anchor: *const u8, anchors: usize, other: *const u8, others: usize) -> u64;
+    fn nbiot_cause(
+        cell: *const u64, cells: usize, anchor: *const u8, anchors: usize, other: *const u8, others: usize, t: u64,
+        answer: *mut u64, answers: usize,
+    ) -> u64;
     fn nbiot_plan_up(grant: *const u64, grants: usize, answer: *mut u64, answers: usize) -> u64;
     fn nbiot_forward_up(grant: *const u64, grants: usize, p: u64, answer: *mut u64, answers: usize) -> u64;
     fn nbiot_backward_up(grant: *const u64, grants: usize, slot: u64, l: u64, k: u64, answer: *mut u64, answers: usize) -> u64;
@@ -55,14 +59,24 @@ downlink! {
     plan_control nbiot_plan_control () ControlGrant, 5;
     forward_down nbiot_forward_down (p) DownGrant, 6;
     forward_control nbiot_forward_control (p) ControlGrant, 6;
-    backward_down nbiot_backward_down (t, slot, l, k) DownGrant, 5;
-    backward_control nbiot_backward_control (t, slot, l, k) ControlGrant, 5;
+    backward_down nbiot_backward_down (t, slot, l, k) DownGrant, 6;
+    backward_control nbiot_backward_control (t, slot, l, k) ControlGrant, 6;
 }
 
 #[inline(always)]
 pub fn judge(cell: &Cell, anchor: &[u8], other: &[u8]) -> u64 {
     // SAFETY: the pointers and lengths are those of slices, and nothing is written.
     unsafe { nbiot_judge(cell.as_ptr(), cell.len(), anchor.as_ptr(), anchor.len(), other.as_ptr(), other.len()) }
+}
+
+#[inline(always)]
+pub fn cause(cell: &Cell, anchor: &[u8], other: &[u8], t: u64, answer: &mut [u64; 2]) -> u64 {
+    // SAFETY: as above; only `answer` is written.
+    unsafe {
+        nbiot_cause(
+            cell.as_ptr(), cell.len(), anchor.as_ptr(), anchor.len(), other.as_ptr(), other.len(), t, answer.as_mut_ptr(), answer.len(),
+        )
+    }
 }
 
 #[inline(always)]

@@ -37,6 +37,7 @@ fn report(name: &str, ours: f64, fast: f64, agreed: usize, compared: usize) {
 pub fn table(timed: &mut [Scene], ported: &mut [Scene], compared: &mut [Scene]) {
     println!("| question | ours, ns | fast, ns | ours / fast | answers agree |\n|---|---|---|---|---|");
     judge(timed, compared);
+    cause(timed, compared);
     plans(timed, compared);
     forwards(timed, compared);
     backwards(timed, compared);
@@ -53,6 +54,14 @@ fn judge(timed: &mut [Scene], compared: &[Scene]) {
     );
     let same = |s: &&Scene| ours::judge(&s.cell, &s.anchor, &s.other) == fast::judge(&s.cell, &s.anchor, &s.other);
     report("judge", ns, fs, compared.iter().filter(same).count(), compared.len());
+}
+
+fn cause(timed: &mut [Scene], compared: &mut [Scene]) {
+    line!(
+        "cause", timed, compared, 2,
+        |s, a| ours::cause(&s.cell, &s.anchor, &s.other, s.at_down[0], a),
+        fast::cause(&s.cell, &s.anchor, &s.other, s.at_down[0])
+    );
 }
 
 fn plans(timed: &mut [Scene], compared: &mut [Scene]) {
@@ -105,7 +114,7 @@ fn backwards(timed: &mut [Scene], compared: &mut [Scene]) {
         fast::backward_ack(&s.ack, s.at_ack)
     );
     line!(
-        "backward down", timed, compared, 5,
+        "backward down", timed, compared, 6,
         |s, a| {
             let [t, slot, l, k] = s.at_down;
             ours::backward_down(&s.cell, &s.anchor, &s.other, &s.down, t, slot, l, k, a)
@@ -113,7 +122,7 @@ fn backwards(timed: &mut [Scene], compared: &mut [Scene]) {
         fast::backward_down(&s.cell, &s.anchor, &s.other, &s.down, s.at_down)
     );
     line!(
-        "backward control", timed, compared, 5,
+        "backward control", timed, compared, 6,
         |s, a| {
             let [t, slot, l, k] = s.at_control;
             ours::backward_control(&s.cell, &s.anchor, &s.other, &s.control, t, slot, l, k, a)

@@ -1,4 +1,4 @@
-/* Plans an NPDSCH grant, walks it to its end, fills its first subframe, and plans its acknowledgement. */
+/* Plans an NPDSCH grant, says why subframes are skipped, walks it to its end, fills its first subframe, and plans its acknowledgement. */
 #include "nbiot.h"
 
 #include <inttypes.h>
@@ -19,7 +19,7 @@ static int refused(const char *what, uint64_t no)
     return no != 0;
 }
 
-static int plan(uint64_t *last, uint64_t *places)
+static int plan(uint64_t *first, uint64_t *last, uint64_t *places)
 {
     uint64_t a[NBIOT_PLAN_DOWN_NUMBERS];
     uint64_t no = nbiot_plan_down(cell, LEN(cell), NULL, 0, NULL, 0, grant, LEN(grant), a, LEN(a));
@@ -28,8 +28,30 @@ static int plan(uint64_t *last, uint64_t *places)
     }
     printf("plan: subframes %" PRIu64 " to %" PRIu64 ", copies %" PRIu64 ", places %" PRIu64 "\n",
            a[NBIOT_PLAN_FIRST], a[NBIOT_PLAN_LAST], a[NBIOT_PLAN_COPIES], a[NBIOT_PLAN_PLACES]);
+    *first = a[NBIOT_PLAN_FIRST];
     *last = a[NBIOT_PLAN_LAST];
     *places = a[NBIOT_PLAN_PLACES];
+    return 0;
+}
+
+/* Each subframe between the first and the last that is not sent: backward hands on the cell's cause. */
+static int skipped(uint64_t first, uint64_t last)
+{
+    uint64_t a[NBIOT_SUBFRAME_NUMBERS];
+    uint64_t b[NBIOT_BACK_NUMBERS];
+    for (uint64_t t = first; t <= last; t++) {
+        uint64_t no = nbiot_cause(cell, LEN(cell), NULL, 0, NULL, 0, t, a, LEN(a));
+        if (refused("cause", no)) {
+            return 1;
+        }
+        no = nbiot_backward_down(cell, LEN(cell), NULL, 0, NULL, 0, grant, LEN(grant), t, 0, 0, 0, b, LEN(b));
+        if (refused("backward", no) || a[NBIOT_SUBFRAME_CAUSE] != b[NBIOT_BACK_CAUSE]) {
+            return 1;
+        }
+        if (a[NBIOT_SUBFRAME_CAUSE] != NBIOT_CAUSE_NONE) {
+            printf("skipped: subframe %" PRIu64 ", cause %" PRIu64 "\n", t, a[NBIOT_SUBFRAME_CAUSE]);
+        }
+    }
     return 0;
 }
 
@@ -111,6 +133,6 @@ static int acknowledge(uint64_t n)
 
 int main(void)
 {
-    uint64_t last, places;
-    return plan(&last, &places) || walk(places) || fill() || acknowledge(last);
+    uint64_t first, last, places;
+    return plan(&first, &last, &places) || skipped(first, last) || walk(places) || fill() || acknowledge(last);
 }

@@ -1,6 +1,7 @@
 //! Where a generated question aims: positions, transmitted subframes or
 //! slots, places that the grant has and places that it just misses.
 
+use crate::cell::Cause;
 use crate::elements::{self, Element, SLOTS, SYMBOLS};
 use crate::random::Random;
 use crate::scene::{Scene, Word};
@@ -47,6 +48,24 @@ pub fn draw_position(random: &mut Random, scene: &Scene, question: Question) -> 
     }
 }
 
+/// A subframe to be asked for its cause: sent, skipped, at the places that
+/// the anchor takes, any up to 2^64 - 1.
+pub fn draw_subframe(random: &mut Random, scene: &Scene) -> u64 {
+    let unit = scene.listing.sent[draw_sent(random, scene) as usize];
+    let any = random.draw() >> random.below(64);
+    let early = random.below(2 * 10240);
+    let taken = random.pick(&[0, 4, 4, 4, 5, 9, 9]);
+    match random.below(8) {
+        0 => unit,
+        1 => skipped_within(random, scene).unwrap_or(unit + 1),
+        2 => unit_far(random, unit),
+        3 => early,
+        4 | 5 => early - early % 10 + taken,
+        6 => (any - any % 10).saturating_add(taken),
+        _ => any,
+    }
+}
+
 pub fn place_words(random: &mut Random, scene: &Scene) -> Vec<Word> {
     let (unit, e) = draw_place(random, scene);
     let (l, k) = (e.l.to_string(), e.k.to_string());
@@ -67,7 +86,11 @@ fn draw_place(random: &mut Random, scene: &Scene) -> (u64, Element) {
     let unit = listing.sent[draw_sent(random, scene) as usize];
     let e = random.pick(&listing.elements);
     match random.below(100) {
-        0..=42 => (unit, e),
+        0..=34 => (unit, e),
+        35..=42 => {
+            let between = skipped_within(random, scene).unwrap_or(unit);
+            (between, any_element(random, scene))
+        }
         43..=52 => (unit, beside(random, scene, e)),
         53..=59 => (unit_beside(random, scene, unit), e),
         60..=64 => (unit_far(random, unit), e),
@@ -134,6 +157,19 @@ fn unsent_within(random: &mut Random, scene: &Scene) -> Option<u64> {
     };
     let (before, after) = holes(&sent[from..]).or_else(|| holes(sent))?;
     Some(random.between(before + 1, after - 1))
+}
+
+/// As above; of a downlink grant often one that SIB1 takes, which are few.
+fn skipped_within(random: &mut Random, scene: &Scene) -> Option<u64> {
+    if !scene.kind.is_uplink() && random.chance(40) {
+        for _ in 0..8 {
+            let t = unsent_within(random, scene)?;
+            if scene.cell.cause(t) == Some(Cause::Sib1) {
+                return Some(t);
+            }
+        }
+    }
+    unsent_within(random, scene)
 }
 
 /// Far away: cut to 32 bits, or by a whole period, some look like the grant's own.

@@ -1,6 +1,6 @@
 //! Answers: each question asked of the values in force, and its text.
 
-use crate::cell::Cell;
+use crate::cell::{Cause, Cell};
 use crate::elements::{self, Element, SLOTS, SUBCARRIERS, SYMBOLS};
 use crate::fill::{self, Lent, Shown};
 use crate::grant::{self, Found, Grant, Plan, Step};
@@ -19,6 +19,8 @@ pub enum Answer {
     Fault(Fault),
     Cell(Result<(), Refusal>),
     Bitmap(Result<Vec<u8>, Refusal>),
+    /// None for a usable subframe.
+    Cause(Result<Option<Cause>, Refusal>),
     Plan(Kind, Result<Plan, Refusal>),
     Forward(Kind, Result<Place, Refusal>),
     Backward(Kind, Result<Found, Refusal>),
@@ -27,7 +29,16 @@ pub enum Answer {
     /// With the lent output as it stands afterwards.
     Fill(Result<(), Refusal>, Vec<f32>),
     Element(Result<Shown, Refusal>),
-    Picture(Kind, Result<Vec<String>, Refusal>),
+    Picture(Kind, Result<Picture, Refusal>),
+}
+
+/// One transmitted subframe and what was skipped after it.
+#[derive(Clone, Debug, Default)]
+pub struct Picture {
+    /// k = 11 on top.
+    pub rows: Vec<String>,
+    /// The subframes between this one and the next one sent.
+    pub skipped: Vec<(u64, Cause)>,
 }
 
 /// The listing of the last cell and grant of a kind.
@@ -66,6 +77,7 @@ impl Answerer {
             Question::Set => unreachable!("set asks nothing"),
             Question::Cell => Answer::Cell(self.values.cell.judge()),
             Question::Bitmap => Answer::Bitmap(self.bitmap()),
+            Question::Cause => Answer::Cause(self.cause()),
             Question::Plan(kind) => Answer::Plan(kind, self.plan(kind)),
             Question::Forward(kind) => Answer::Forward(kind, self.forward(kind)),
             Question::Backward(kind) => Answer::Backward(kind, self.backward(kind)),
@@ -101,6 +113,11 @@ impl Answerer {
     fn bitmap(&self) -> Result<Vec<u8>, Refusal> {
         self.values.cell.judge()?;
         Ok(self.values.cell.bitmap_in_force().to_vec())
+    }
+
+    fn cause(&self) -> Result<Option<Cause>, Refusal> {
+        self.values.cell.judge()?;
+        Ok(self.values.cell.cause(self.values.t))
     }
 
     fn plan(&mut self, kind: Kind) -> Result<Plan, Refusal> {
@@ -146,12 +163,24 @@ impl Answerer {
         fill::element(&values.cell, listing, &lent(values), element)
     }
 
-    fn picture(&mut self, kind: Kind) -> Result<Vec<String>, Refusal> {
+    fn picture(&mut self, kind: Kind) -> Result<Picture, Refusal> {
         let (_, values, listing) = self.listing(kind)?;
         refuse(14, values.i >= listing.sent.len() as u64)?;
         let rows = (0..SUBCARRIERS).rev();
-        Ok(rows.map(|k| row(&values.cell, listing, k)).collect())
+        Ok(Picture {
+            rows: rows.map(|k| row(&values.cell, listing, k)).collect(),
+            skipped: skipped_after(&values.cell, listing, values.i as usize),
+        })
     }
+}
+
+/// The subframes between the i-th one sent and the next, with their causes.
+fn skipped_after(cell: &Cell, listing: &Listing, i: usize) -> Vec<(u64, Cause)> {
+    let Some(&next) = listing.sent.get(i + 1) else {
+        return Vec::new();
+    };
+    let between = listing.sent[i] + 1..next;
+    between.filter_map(|t| Some((t, cell.cause(t)?))).collect()
 }
 
 fn lent(values: &Values) -> Lent<'_> {

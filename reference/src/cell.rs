@@ -6,6 +6,36 @@ use crate::{refuse, Refusal};
 /// The subframes after which all usability repeats.
 pub const PERIOD: u64 = 2560;
 
+/// Why a subframe isn't usable; the first that holds is named.
+#[derive(Clone, Copy, Debug, PartialEq, Eq)]
+pub enum Cause {
+    Npbch,
+    Npss,
+    Nsss,
+    Sib1,
+    Bitmap,
+}
+
+impl Cause {
+    pub const ALL: [Cause; 5] = [
+        Cause::Npbch,
+        Cause::Npss,
+        Cause::Nsss,
+        Cause::Sib1,
+        Cause::Bitmap,
+    ];
+
+    pub fn word(self) -> &'static str {
+        match self {
+            Cause::Npbch => "npbch",
+            Cause::Npss => "npss",
+            Cause::Nsss => "nsss",
+            Cause::Sib1 => "sib1",
+            Cause::Bitmap => "bitmap",
+        }
+    }
+}
+
 /// The numbers of a cell and the two lent bitmap buffers.
 #[derive(Clone, Debug, Default, PartialEq, Eq)]
 pub struct Cell {
@@ -22,7 +52,7 @@ pub struct Cell {
 }
 
 impl Cell {
-    /// 01, numbers 1 to 8, the smallest that applies.
+    /// The cell's refusals in the list's order: 18 stands right after 8.
     pub fn judge(&self) -> Result<(), Refusal> {
         refuse(1, self.mode > 3 || self.carrier > 1)?;
         refuse(2, self.identity > 503)?;
@@ -31,7 +61,8 @@ impl Cell {
         refuse(5, !self.control_region_listed())?;
         refuse(6, self.sib1 > 11)?;
         refuse(7, self.bitmap_wrong())?;
-        refuse(8, !(0..PERIOD).any(|t| self.usable(t)))
+        refuse(8, !(0..PERIOD).any(|t| self.allowed(t)))?;
+        refuse(18, !(0..PERIOD).any(|t| self.usable(t)))
     }
 
     /// Modes 0 and 1 lie inside an LTE carrier.
@@ -129,23 +160,28 @@ impl Cell {
         rest % 2 == 0 && rest < 16
     }
 
-    /// Taken by synchronization or broadcast: anything but the bitmap.
-    pub fn taken(&self, t: u64) -> bool {
-        if self.carrier != 0 {
-            return false;
-        }
+    /// Why subframe t isn't usable (02, "L2"; TS 36.213 clause 16.4), none if it is.
+    pub fn cause(&self, t: u64) -> Option<Cause> {
+        let anchor = self.carrier == 0;
         let frame = (t / 10) % 1024;
-        match t % 10 {
-            0 => true,                      // NPBCH
-            5 => true,                      // NPSS
-            9 => frame.is_multiple_of(2),   // NSSS
-            4 => self.sib1_in_frame(frame), // SIB1
-            _ => false,
+        let subframe = t % 10;
+        if anchor && subframe == 0 {
+            Some(Cause::Npbch)
+        } else if anchor && subframe == 5 {
+            Some(Cause::Npss)
+        } else if anchor && subframe == 9 && frame.is_multiple_of(2) {
+            Some(Cause::Nsss)
+        } else if anchor && subframe == 4 && self.sib1_in_frame(frame) {
+            Some(Cause::Sib1)
+        } else if !self.allowed(t) {
+            Some(Cause::Bitmap)
+        } else {
+            None
         }
     }
 
-    /// A usable downlink subframe (TS 36.213 clause 16.4).
+    /// A usable downlink subframe.
     pub fn usable(&self, t: u64) -> bool {
-        !self.taken(t) && self.allowed(t)
+        self.cause(t).is_none()
     }
 }

@@ -33,6 +33,7 @@ const KIND: &[&[u8]] = &[
     b"picture ack",
     b"plan acks",
     b"cell ack",
+    b"cause down",
     b"fill down i=0",
     b"element up",
     b"bitmap control",
@@ -99,6 +100,7 @@ const SIZE: &[&[u8]] = &[
 const BEGINNINGS: &[&[u8]] = &[
     b"set n=4294967296",
     b"cell mode=9",
+    b"cause t=18446744073709551615 carrier=2",
     b"plan down n=4294967296 copies=99",
     b"forward up units=8",
     b"backward ack field=16",

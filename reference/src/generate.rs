@@ -1,6 +1,6 @@
 //! Makes a question file from a seed.
 
-use crate::aim::{draw_position, draw_sent, place_words};
+use crate::aim::{draw_position, draw_sent, draw_subframe, place_words};
 use crate::faults::{bad_line, full_line};
 use crate::random::Random;
 use crate::scene::{cell_words, draw_cell, Scene, Word};
@@ -48,9 +48,9 @@ fn passing_value(name: &str) -> &'static str {
 /// A question of a scene's kind, each with its share of a thousand.
 fn draw_question(random: &mut Random, kind: Kind) -> Question {
     let shares = match kind {
-        Kind::Down => [80, 220, 280, 100, 50, 50, 30, 187, 3],
-        Kind::Control => [100, 300, 380, 150, 33, 34, 0, 0, 3],
-        Kind::Up | Kind::Ack => [120, 300, 400, 180, 0, 0, 0, 0, 0],
+        Kind::Down => [70, 170, 230, 80, 40, 30, 230, 25, 120, 5],
+        Kind::Control => [80, 220, 290, 120, 30, 25, 230, 0, 0, 5],
+        Kind::Up | Kind::Ack => [120, 300, 400, 180, 0, 0, 0, 0, 0, 0],
     };
     let questions = [
         Question::Plan(kind),
@@ -59,6 +59,7 @@ fn draw_question(random: &mut Random, kind: Kind) -> Question {
         Question::Step(kind),
         Question::Cell,
         Question::Bitmap,
+        Question::Cause,
         Question::Fill,
         Question::Element,
         Question::Picture(kind),
@@ -189,6 +190,14 @@ impl<W: Write> Generator<'_, W> {
                 cell_words(random, &cell)
             }
             Question::Cell | Question::Bitmap => Vec::new(),
+            Question::Cause => {
+                let mut words = vec![("t", draw_subframe(random, scene).to_string())];
+                if random.chance(40) {
+                    let cell = draw_cell(random);
+                    words.extend(cell_words(random, &cell));
+                }
+                words
+            }
             Question::Plan(_) if random.chance(50) => scene.other_grant(random).unwrap_or_default(),
             Question::Plan(_) => Vec::new(),
             Question::Forward(_) | Question::Step(_) => {

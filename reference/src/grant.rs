@@ -1,7 +1,7 @@
 //! A grant of any kind and the questions asked of it (01, "Questions").
 
 use crate::ack::Ack;
-use crate::cell::Cell;
+use crate::cell::{Cause, Cell};
 use crate::downlink::{Npdcch, Npdsch};
 use crate::elements::{self, Element, SUBCARRIERS};
 use crate::places::{Listing, Place};
@@ -36,6 +36,8 @@ pub struct Found {
     pub symbol: u64,
     pub p: u64,
     pub kind: u64,
+    /// Of a skipped downlink subframe between first and last.
+    pub cause: Option<Cause>,
 }
 
 /// What a step answers: a place, or the end of the walk.
@@ -106,6 +108,14 @@ impl Grant {
         }
     }
 
+    /// Why a subframe between first and last isn't sent; uplink slots have no cause.
+    fn skipped_for(&self, cell: &Cell, listing: &Listing, unit: u64) -> Option<Cause> {
+        if self.is_uplink() || unit <= listing.first() || unit >= listing.last() {
+            return None;
+        }
+        cell.cause(unit)
+    }
+
     /// Whose is this place? Kinds 1 to 3 only in what the grant sends.
     pub fn backward(
         &self,
@@ -116,7 +126,10 @@ impl Grant {
     ) -> Result<Found, Refusal> {
         refuse(14, !self.in_grid(e))?;
         let Some(i) = listing.sent_number(unit) else {
-            return Ok(Found::default());
+            return Ok(Found {
+                cause: self.skipped_for(cell, listing, unit),
+                ..Found::default()
+            });
         };
         let Some(number) = listing.element_number(e) else {
             let kind = self.reference_kind(cell, e);
@@ -129,7 +142,7 @@ impl Grant {
             ours: true,
             symbol: listing.carries[i as usize] * listing.width() + number,
             p: i * listing.width() + number,
-            kind: 0,
+            ..Found::default()
         })
     }
 }

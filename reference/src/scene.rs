@@ -51,16 +51,17 @@ pub fn bitmap_of(bits: u64, ones: &[u64]) -> Vec<u8> {
     bytes
 }
 
-/// Dense, random, sparse or borderline bitmaps.
+/// Dense, random, sparse, borderline or empty bitmaps.
 fn draw_bitmap(random: &mut Random, bits: u64) -> Vec<u8> {
-    let style = random.below(6);
+    let style = random.below(13);
     let mut ones = Vec::new();
     let few = random.between(1, 3);
     match style {
-        0 => ones.extend(0..bits),
-        1 => ones.extend((0..bits).filter(|_| random.chance(90))),
-        2 | 3 => ones.extend((0..bits).filter(|_| random.chance(50))),
-        4 => ones.extend((0..few).map(|_| random.below(bits))),
+        0 => {}
+        1 | 2 => ones.extend(0..bits),
+        3 | 4 => ones.extend((0..bits).filter(|_| random.chance(90))),
+        5..=8 => ones.extend((0..bits).filter(|_| random.chance(50))),
+        9 | 10 => ones.extend((0..few).map(|_| random.below(bits))),
         _ => ones.extend((0..few).map(|_| random.pick(&BORDER_BITS))),
     }
     bitmap_of(bits, &ones)

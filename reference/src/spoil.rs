@@ -7,15 +7,16 @@ use crate::random::Random;
 use crate::scene::{bitmap_of, buffer, data_word, Scene, Word};
 use crate::text::{Kind, Question};
 
-const CELL: &[u64] = &[1, 2, 3, 4, 5, 6, 7, 8];
-const PLAN: &[u64] = &[1, 2, 3, 4, 5, 6, 7, 8, 9, 10, 12];
+const CELL: &[u64] = &[1, 2, 3, 4, 5, 6, 7, 8, 8, 18, 18];
+const PLAN: &[u64] = &[1, 2, 3, 4, 5, 6, 7, 8, 18, 9, 10, 12];
 const PLAN_UP: &[u64] = &[9, 10, 11, 13];
 const PLAN_ACK: &[u64] = &[9, 10];
-const PLACE: &[u64] = &[1, 2, 3, 4, 5, 6, 7, 8, 9, 10, 12, 14];
+const PLACE: &[u64] = &[1, 2, 3, 4, 5, 6, 7, 8, 18, 9, 10, 12, 14];
 const PLACE_UP: &[u64] = &[9, 10, 11, 13, 14];
 const PLACE_ACK: &[u64] = &[9, 10, 14];
 const FILL: &[u64] = &[
-    1, 2, 3, 4, 5, 6, 7, 8, 9, 10, 12, 14, 15, 15, 15, 16, 16, 16, 17,
+    1, 2, 3, 4, 5, 6, 7, 8, 18, 9, 10, 12, 14, 15, 15, 15, 15, 15, 15, 16, 16, 16, 16, 16, 16, 16,
+    16, 16, 17,
 ];
 
 /// Bits of forty that synchronization takes on an anchor.
@@ -50,7 +51,7 @@ const BAD_LEVELS: [u32; 20] = [
 pub fn numbers_of(question: Question) -> &'static [u64] {
     match question {
         Question::Set => &[],
-        Question::Cell | Question::Bitmap => CELL,
+        Question::Cell | Question::Bitmap | Question::Cause => CELL,
         Question::Plan(Kind::Up) => PLAN_UP,
         Question::Plan(Kind::Ack) => PLAN_ACK,
         Question::Plan(_) => PLAN,
@@ -106,7 +107,8 @@ pub fn spoil(random: &mut Random, scene: &Scene, question: Question, no: u64) ->
         5 => unlisted(random, "control", &[1, 2, 3], 0),
         6 => one_above(random, "sib1", 11),
         7 => bad_bitmap(random, scene),
-        8 => nothing_usable(random, scene),
+        8 => nothing_allowed(random, scene),
+        18 => all_taken(random, scene),
         9 if scene.kind == Kind::Ack => one_above(random, "n", ack::LARGEST_N),
         9 => one_above(random, "n", downlink::LARGEST_N),
         10 => bad_field(random, scene),
@@ -149,29 +151,52 @@ fn bad_bitmap(random: &mut Random, scene: &Scene) -> Vec<Word> {
     }
 }
 
-/// Number 8: a bitmap that allows only what the anchor takes, or nothing.
-fn nothing_usable(random: &mut Random, scene: &Scene) -> Vec<Word> {
+/// Number 8: a bitmap that allows nothing.
+fn nothing_allowed(random: &mut Random, scene: &Scene) -> Vec<Word> {
     let (own, other) = scene.buffer_names();
     let bits = random.pick(&[10, 40]);
+    let bytes = bitmap_of(bits, &[]);
+    vec![
+        ("bits", bits.to_string()),
+        (own, with_more(random, bytes)),
+        (other, "ffffffffff".to_string()),
+    ]
+}
+
+/// Number 18: a bitmap that allows only what the anchor takes.
+fn all_taken(random: &mut Random, scene: &Scene) -> Vec<Word> {
+    let bits = random.pick(&[10, 40]);
     let mut ones = Vec::new();
-    if scene.cell.carrier == 0 && bits == 10 {
+    let mut words = Vec::new();
+    if bits == 10 {
         ones.extend([0, 5].iter().filter(|_| random.chance(60)));
-    } else if scene.cell.carrier == 0 {
+    } else {
         ones.extend(SYNC_BITS.iter().filter(|_| random.chance(40)));
-        if scene.cell.sib1 % 3 == 2 {
+        if scene.cell.sib1 % 3 == 2 || random.chance(40) {
+            words.push(("sib1", random.pick(&[2, 5, 8, 11]).to_string()));
             let frame = 10 * (scene.cell.identity % 2);
             ones.extend([4 + frame, 24 + frame].iter().filter(|_| random.chance(70)));
         }
     }
-    let mut bytes = bitmap_of(bits, &ones);
+    if ones.is_empty() {
+        ones.push(5);
+    }
+    let bytes = bitmap_of(bits, &ones);
+    words.extend([
+        ("carrier", "0".to_string()),
+        ("bits", bits.to_string()),
+        ("anchor", with_more(random, bytes)),
+        ("other", "ffffffffff".to_string()),
+    ]);
+    words
+}
+
+/// A buffer's text, now and then with a byte more than is read.
+fn with_more(random: &mut Random, mut bytes: Vec<u8>) -> String {
     if random.chance(40) {
         bytes.push(255);
     }
-    vec![
-        ("bits", bits.to_string()),
-        (own, buffer(random, &bytes)),
-        (other, "ffffffffff".to_string()),
-    ]
+    buffer(random, &bytes)
 }
 
 /// Number 10: a field above its largest number, or NCCE 1 with format 1.

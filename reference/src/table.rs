@@ -1,6 +1,7 @@
 //! The table of what a question file asks.
 
 use crate::answer::{Answer, Answerer};
+use crate::cell::Cause;
 use crate::fill::Shown;
 use crate::grant::Step;
 use crate::lines::next_line;
@@ -16,8 +17,10 @@ pub struct Row {
     /// Not ours, by kind 0 to 3.
     pub not_ours: [u64; 4],
     pub finished: u64,
+    /// Causes named, in their order.
+    pub causes: [u64; 5],
     /// By number; place 0 isn't used.
-    pub refused: [u64; 18],
+    pub refused: [u64; 19],
 }
 
 /// The whole table: a row for each question and kind.
@@ -34,6 +37,14 @@ impl Row {
             Some(0) => self.accepted += 1,
             Some(no) => self.refused[no as usize] += 1,
             None => {}
+        }
+        let cause = match answer {
+            Answer::Cause(Ok(cause)) => *cause,
+            Answer::Backward(_, Ok(found)) => found.cause,
+            _ => None,
+        };
+        if let Some(cause) = cause {
+            self.causes[cause as usize] += 1;
         }
         match answer {
             Answer::Backward(_, Ok(found)) if found.ours => self.ours += 1,
@@ -54,6 +65,9 @@ impl Row {
         for (sum, x) in self.not_ours.iter_mut().zip(other.not_ours) {
             *sum += x;
         }
+        for (sum, x) in self.causes.iter_mut().zip(other.causes) {
+            *sum += x;
+        }
         for (sum, x) in self.refused.iter_mut().zip(other.refused) {
             *sum += x;
         }
@@ -66,6 +80,9 @@ impl Row {
             write!(out, " {x:>6}")?;
         }
         write!(out, " {:>7}", self.finished)?;
+        for x in self.causes {
+            write!(out, " {x:>6}")?;
+        }
         for x in &self.refused[1..] {
             write!(out, " {x:>6}")?;
         }
@@ -117,7 +134,10 @@ impl Table {
             write!(out, " {:>6}", format!("not{kind}"))?;
         }
         write!(out, " {:>7}", "finish")?;
-        for no in 1..18 {
+        for cause in Cause::ALL {
+            write!(out, " {:>6}", cause.word())?;
+        }
+        for no in 1..19 {
             write!(out, " {:>6}", format!("no{no}"))?;
         }
         writeln!(out)?;

@@ -42,6 +42,7 @@ pub enum Question {
     Set,
     Cell,
     Bitmap,
+    Cause,
     Plan(Kind),
     Forward(Kind),
     Backward(Kind),
@@ -54,7 +55,7 @@ pub enum Question {
 impl Question {
     /// Every question but `set`.
     pub fn all() -> Vec<Question> {
-        let mut list = vec![Question::Cell, Question::Bitmap];
+        let mut list = vec![Question::Cell, Question::Bitmap, Question::Cause];
         for make in [
             Question::Plan,
             Question::Forward,
@@ -86,6 +87,7 @@ impl Question {
             Question::Set => "set",
             Question::Cell => "cell",
             Question::Bitmap => "bitmap",
+            Question::Cause => "cause",
             Question::Plan(_) => "plan",
             Question::Forward(_) => "forward",
             Question::Backward(_) => "backward",
@@ -400,6 +402,7 @@ fn without_kind(word: &[u8]) -> Option<Question> {
         b"set" => Some(Question::Set),
         b"cell" => Some(Question::Cell),
         b"bitmap" => Some(Question::Bitmap),
+        b"cause" => Some(Question::Cause),
         b"fill" => Some(Question::Fill),
         b"element" => Some(Question::Element),
         _ => None,

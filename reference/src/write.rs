@@ -1,6 +1,7 @@
 //! The text of the answers, one line each (a picture has several).
 
-use crate::answer::Answer;
+use crate::answer::{Answer, Picture};
+use crate::cell::Cause;
 use crate::elements::Element;
 use crate::fill::Shown;
 use crate::grant::{Found, Plan, Step};
@@ -32,6 +33,7 @@ impl Answer {
             Answer::Fault(_) => return None,
             Answer::Cell(_) => Question::Cell,
             Answer::Bitmap(_) => Question::Bitmap,
+            Answer::Cause(_) => Question::Cause,
             Answer::Plan(kind, _) => Question::Plan(*kind),
             Answer::Forward(kind, _) => Question::Forward(*kind),
             Answer::Backward(kind, _) => Question::Backward(*kind),
@@ -48,6 +50,7 @@ impl Answer {
             Answer::Fault(_) => None,
             Answer::Cell(a) => Some(split(a).0),
             Answer::Bitmap(a) => Some(split(a).0),
+            Answer::Cause(a) => Some(split(a).0),
             Answer::Plan(_, a) => Some(split(a).0),
             Answer::Forward(_, a) => Some(split(a).0),
             Answer::Backward(_, a) => Some(split(a).0),
@@ -65,13 +68,14 @@ impl Answer {
             Answer::Fault(fault) => writeln!(out, "error={}", fault.word()),
             Answer::Cell(_) => writeln!(out, "no={no}"),
             Answer::Bitmap(a) => writeln!(out, "no={no} part={}", hex_text(&split(a).1)),
+            Answer::Cause(a) => writeln!(out, "no={no} cause={}", cause_word(split(a).1)),
             Answer::Plan(kind, a) => write_plan(out, *kind, no, split(a).1),
             Answer::Forward(kind, a) => {
                 write!(out, "no={no}")?;
                 write_place(out, *kind, split(a).1)?;
                 writeln!(out)
             }
-            Answer::Backward(_, a) => write_found(out, no, split(a).1),
+            Answer::Backward(kind, a) => write_found(out, *kind, no, split(a).1),
             Answer::Step(kind, a, p) => write_step(out, *kind, no, a, *p),
             Answer::Fill(_, numbers) => write_fill(out, no, numbers),
             Answer::Element(a) => write_element(out, no, a),
@@ -99,10 +103,18 @@ fn write_place(out: &mut impl Write, kind: Kind, place: Place) -> io::Result<()>
     write!(out, " l={l} k={k} symbol={}", place.symbol)
 }
 
-fn write_found(out: &mut impl Write, no: u64, found: Found) -> io::Result<()> {
+fn cause_word(cause: Option<Cause>) -> &'static str {
+    cause.map_or("none", Cause::word)
+}
+
+fn write_found(out: &mut impl Write, kind: Kind, no: u64, found: Found) -> io::Result<()> {
     let ours = u64::from(found.ours);
     write!(out, "no={no} ours={ours} symbol={}", found.symbol)?;
-    writeln!(out, " p={} kind={}", found.p, found.kind)
+    write!(out, " p={} kind={}", found.p, found.kind)?;
+    if !kind.is_uplink() {
+        write!(out, " cause={}", cause_word(found.cause))?;
+    }
+    writeln!(out)
 }
 
 fn write_step(
@@ -148,17 +160,30 @@ fn write_element(out: &mut impl Write, no: u64, shown: &Result<Shown, Refusal>) 
 fn write_picture(
     out: &mut impl Write,
     no: u64,
-    rows: &Result<Vec<String>, Refusal>,
+    picture: &Result<Picture, Refusal>,
 ) -> io::Result<()> {
     writeln!(out, "no={no}")?;
-    if let Ok(rows) = rows {
+    if let Ok(picture) = picture {
         writeln!(
             out,
             "o ours, N narrowband reference, C cell reference, # control region, . anything else"
         )?;
-        for row in rows {
+        for row in &picture.rows {
             writeln!(out, "{row}")?;
         }
+        writeln!(out, "skipped: {}", skipped_text(&picture.skipped))?;
     }
     Ok(())
+}
+
+/// `24 sib1, 25 npss`, or `none`. A sent subframe is followed by at most 199
+/// skipped ones, so the line stays under 4,096 bytes.
+fn skipped_text(skipped: &[(u64, Cause)]) -> String {
+    if skipped.is_empty() {
+        return "none".to_string();
+    }
+    let each = skipped
+        .iter()
+        .map(|(t, cause)| format!("{t} {}", cause.word()));
+    each.collect::<Vec<String>>().join(", ")
 }

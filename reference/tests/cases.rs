@@ -1,4 +1,4 @@
-//! The cases P1 to P11 of 01, each from its printed fields.
+//! The cases P1 to P11 of 01, each from its printed fields; P10 and P11 with L2's number 18.
 
 mod common;
 use common::{ask, value};
@@ -126,7 +126,7 @@ cell carrier=0
 bitmap carrier=0
 cell carrier=1
 bitmap carrier=1");
-    assert_eq!(answers, ["no=8", "no=8 part=-", "no=0", "no=0 part=8400"]);
+    assert_eq!(answers, ["no=18", "no=18 part=-", "no=0", "no=0 part=8400"]);
 }
 
 #[test]
@@ -136,5 +136,5 @@ fn p11_bitmap_against_sib1() {
 cell sib1=2
 cell sib1=1",
     );
-    assert_eq!(answers, ["no=8", "no=0"]);
+    assert_eq!(answers, ["no=18", "no=0"]);
 }

@@ -180,6 +180,10 @@ fn backward_undoes_forward() {
                 assert_eq!(found.ours, place.is_some());
                 assert_eq!((found.symbol, found.p), place.unwrap_or((0, 0)));
                 assert!(found.kind == 0 || (sent && !found.ours));
+                let between = listing.first() < unit && unit < listing.last();
+                let skipped = between && !sent && !grant.is_uplink();
+                assert_eq!(found.cause, cell.cause(unit).filter(|_| skipped));
+                assert_eq!(found.cause.is_some(), skipped);
             }
         }
     }

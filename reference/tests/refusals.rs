@@ -1,7 +1,8 @@
-//! Every number 1 to 17, the bounds of the fields, and the generator's shares.
+//! Every number 1 to 18, the bounds of the fields, and the generator's shares.
 
 mod common;
 use common::{ask, value};
+use reference::cell::Cause;
 use reference::generate::generate;
 use reference::table::table_of;
 use reference::text::{Kind, Question};
@@ -35,6 +36,7 @@ fn cell_numbers() {
     assert_eq!(no("cell bits=10 anchor=ffc0ff"), 0);
     assert_eq!(no("cell bits=40 anchor=ffffffff"), 7);
     assert_eq!(no("cell bits=40 anchor=0000000000ff"), 8);
+    assert_eq!(no("cell bits=40 anchor=8000000000"), 18);
 }
 
 #[test]
@@ -105,7 +107,7 @@ fn generated_questions_have_their_shares() {
     let faults: u64 = table.faults.iter().sum();
     assert_eq!(all.asked + faults, 20_000);
     assert!(all.accepted >= 10_000);
-    for no in 1..18 {
+    for no in 1..19 {
         assert!(all.refused[no] >= 20, "number {no}");
     }
     assert!(table.rows.iter().all(|(_, row)| row.asked > 0));
@@ -124,6 +126,23 @@ fn generated_acknowledgements() {
     for no in [9, 10, 14] {
         let refused: u64 = rows.iter().map(|(_, row)| row.refused[no]).sum();
         assert!(refused >= 20, "number {no}");
+    }
+}
+
+#[test]
+fn generated_causes() {
+    let mut file = Vec::new();
+    generate(9, 20_000, None, &mut file).expect("memory takes all");
+    let table = table_of(&mut &file[..]).expect("memory gives all");
+    let row = table.row(Question::Cause);
+    assert!(row.asked >= 2000, "at least 10 of a hundred");
+    for (cause, count) in Cause::ALL.iter().zip(row.causes) {
+        assert!(count >= 50, "{}", cause.word());
+    }
+    assert!(row.refused[8] >= 50 && row.refused[18] >= 50);
+    for kind in [Kind::Down, Kind::Control] {
+        let row = table.row(Question::Backward(kind));
+        assert!(row.causes.iter().all(|&count| count > 0));
     }
 }
 

@@ -1,4 +1,5 @@
 //! Sixty answers that a reader of document 01 wrote down before any program was asked: twenty for each kind of grant.
+//! Since 02's L2 the backward answers of a subframe end with the cause, and 28 is refused with 18.
 
 mod common;
 use common::ask;

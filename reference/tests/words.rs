@@ -15,7 +15,7 @@ backward down t=21 slot=0 l=5 k=1
         [
             "no=0 first=21 last=32 copies=1 places=1280",
             "no=0 t=21 slot=0 l=5 k=1 symbol=60",
-            "no=0 ours=1 symbol=60 p=60 kind=0",
+            "no=0 ours=1 symbol=60 p=60 kind=0 cause=none",
         ]
     );
 }
@@ -73,6 +73,7 @@ fn error_kind() {
         "fill down",
         "element up",
         "cell ack",
+        "cause control",
         "plan down\r",
     ] {
         fault(line.as_bytes(), "kind");
@@ -186,8 +187,10 @@ picture down i=0",
     assert_eq!(answers[2], "##oooooooooooo", "k = 11 has no reference");
     assert_eq!(answers[3], "CCooCNNCCooCNN", "k = 10: v + 3 = 4");
     assert_eq!(answers[13], "##............", "k = 0, the other NCCE");
-    assert_eq!(answers[14], "no=14");
-    assert_eq!(answers[15], "no=0");
-    assert_eq!(answers[28], "##oooooooooooo");
-    assert_eq!(answers.len(), 29);
+    assert_eq!(answers[14], "skipped: none", "the last one sent");
+    assert_eq!(answers[15], "no=14");
+    assert_eq!(answers[16], "no=0");
+    assert_eq!(answers[29], "##oooooooooooo");
+    assert_eq!(answers[30], "skipped: none");
+    assert_eq!(answers.len(), 31);
 }

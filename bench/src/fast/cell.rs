@@ -1,4 +1,4 @@
-//! A cell: its refusals, and its usable subframes as spans of forty.
+//! A cell: its refusals, its usable subframes as spans of forty, and why another is not usable.
 
 use super::Cell;
 
@@ -83,6 +83,9 @@ fn masks(cell: &Cell, anchor: &[u8], others: &[u8]) -> Result<Pattern, u64> {
     let &[_, carrier, identity, _, _, _, schedule, bits] = cell;
     let own = if carrier == 0 { anchor } else { others };
     let m = bitmap(bits, own).ok_or(7u64)?;
+    if m == 0 {
+        return Err(8);
+    }
     let mut p = Pattern { shift: 2, first: 0, plain: m, sib1: m, in_plain: 0, in_sib1: 0 };
     if carrier == 0 {
         let identity = identity as u32;
@@ -96,7 +99,7 @@ fn masks(cell: &Cell, anchor: &[u8], others: &[u8]) -> Result<Pattern, u64> {
         }
     }
     if p.sib1 == 0 && (p.shift == 2 || p.plain == 0) {
-        return Err(8);
+        return Err(18);
     }
     Ok(p)
 }
@@ -106,6 +109,40 @@ pub fn judge(cell: &Cell, anchor: &[u8], others: &[u8]) -> u64 {
     match masks(cell, anchor, others) {
         Ok(_) => 0,
         Err(no) => no,
+    }
+}
+
+/// The number of the cause of a subframe that is not usable.
+#[inline(always)]
+pub fn why_not(cell: &Cell, t: u64) -> u64 {
+    let &[_, carrier, identity, _, _, _, schedule, _] = cell;
+    if carrier != 0 {
+        return 6;
+    }
+    let frame = t / 10;
+    match t % 10 {
+        0 => 1,
+        5 => 2,
+        9 if frame % 2 == 0 => 3,
+        4 => {
+            let (first, frames) = match schedule as u32 % 3 {
+                0 => (16 * (identity & 3), 64),
+                1 => (16 * (identity & 1), 32),
+                _ => (identity & 1, 16),
+            };
+            let x = (frame + 64 - first) & (frames - 1);
+            if x & 1 == 0 && x < 16 { 4 } else { 6 }
+        }
+        _ => 6,
+    }
+}
+
+#[inline(never)]
+pub fn cause(cell: &Cell, anchor: &[u8], others: &[u8], t: u64) -> [u64; 2] {
+    match masks(cell, anchor, others) {
+        Ok(p) if p.allows(t) => [0, 0],
+        Ok(_) => [0, why_not(cell, t)],
+        Err(no) => [no, 0],
     }
 }
 
@@ -211,12 +248,14 @@ impl Pattern {
         self.at(self.rank(from) + j)
     }
 
-    /// Which usable subframe from a given one on t is; none where it is not usable or lies before.
+    #[inline(always)]
+    pub fn allows(&self, t: u64) -> bool {
+        self.mask(t / 40) >> (t % 40) & 1 == 1
+    }
+
+    /// How many usable subframes lie between a given one and t, t aside; none where t lies before.
     #[inline(always)]
     pub fn index(&self, from: u64, t: u64) -> Option<u64> {
-        if t < from || self.mask(t / 40) >> (t % 40) & 1 == 0 {
-            return None;
-        }
-        Some(self.rank(t) - self.rank(from))
+        (t >= from).then(|| self.rank(t) - self.rank(from))
     }
 }

@@ -1,6 +1,6 @@
 //! NPDSCH and NPDCCH.
 
-use super::cell::{judged, Pattern};
+use super::cell::{judged, why_not, Pattern};
 use super::elements::Layout;
 use super::{other, ours, refused, stepped, Cell, ControlGrant, ControlWalk, DownGrant, DownWalk, LAST_SUBFRAME, LENGTHS};
 
@@ -99,24 +99,33 @@ impl Burst {
     }
 
     #[inline(always)]
-    fn backward(&self, t: u64, slot: u64, l: u64, k: u64) -> [u64; 5] {
+    fn backward(&self, cell: &Cell, t: u64, slot: u64, l: u64, k: u64) -> [u64; 6] {
         if slot > 1 || l > 6 || k > 11 {
             return refused(14);
         }
         let Some(i) = self.pattern.index(self.from, t) else {
-            return other(0);
+            return beside(other(0), 0);
         };
         let i = i.wrapping_sub(self.skip);
         if i >= self.sent() {
-            return other(0);
+            return beside(other(0), 0);
+        }
+        if !self.pattern.allows(t) {
+            return beside(other(0), if i == 0 { 0 } else { why_not(cell, t) });
         }
         if !self.layout.is_used(slot, l, k) {
-            return other(self.layout.kind(l, k));
+            return beside(other(self.layout.kind(l, k)), 0);
         }
         let w = self.layout.count();
         let e = self.layout.number(slot, l, k);
-        ours(self.carried(i) * w + e, i * w + e)
+        beside(ours(self.carried(i) * w + e, i * w + e), 0)
     }
+}
+
+/// Backward's answer with a cause.
+#[inline(always)]
+fn beside([no, ours, symbol, position, kind]: [u64; 5], cause: u64) -> [u64; 6] {
+    [no, ours, symbol, position, kind, cause]
 }
 
 #[inline(never)]
@@ -130,9 +139,9 @@ pub fn forward_down(cell: &Cell, anchor: &[u8], others: &[u8], grant: &DownGrant
 }
 
 #[inline(never)]
-pub fn backward_down(cell: &Cell, anchor: &[u8], others: &[u8], grant: &DownGrant, at: [u64; 4]) -> [u64; 5] {
+pub fn backward_down(cell: &Cell, anchor: &[u8], others: &[u8], grant: &DownGrant, at: [u64; 4]) -> [u64; 6] {
     let [t, slot, l, k] = at;
-    down(cell, anchor, others, grant).map_or_else(refused, |b| b.backward(t, slot, l, k))
+    down(cell, anchor, others, grant).map_or_else(refused, |b| b.backward(cell, t, slot, l, k))
 }
 
 #[inline(never)]
@@ -146,9 +155,9 @@ pub fn forward_control(cell: &Cell, anchor: &[u8], others: &[u8], grant: &Contro
 }
 
 #[inline(never)]
-pub fn backward_control(cell: &Cell, anchor: &[u8], others: &[u8], grant: &ControlGrant, at: [u64; 4]) -> [u64; 5] {
+pub fn backward_control(cell: &Cell, anchor: &[u8], others: &[u8], grant: &ControlGrant, at: [u64; 4]) -> [u64; 6] {
     let [t, slot, l, k] = at;
-    control(cell, anchor, others, grant).map_or_else(refused, |b| b.backward(t, slot, l, k))
+    control(cell, anchor, others, grant).map_or_else(refused, |b| b.backward(cell, t, slot, l, k))
 }
 
 #[inline(never)]

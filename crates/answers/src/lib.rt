@@ -1,10 +1,13 @@
-// The answers' lines, put into a page of output. Each has at most 320 bytes, but a fill's.
+// The answers' lines, put into a page of output. Each has at most 320 bytes, but a fill's and a picture's.
 ghost use Prim.Native.Nat.{_+_, _≤_};
 ghost use lib.ListN.{length};
+use cell::Cause;
+use cell::CauseAnswer;
 use questions::Fault;
 use sending::Back;
 use slots::UplinkPlace;
 use slots::UplinkPlan;
+use subframes::DownlinkBack;
 use subframes::DownlinkPlace;
 use subframes::DownlinkPlan;
 use symbol::ElementNumbers;
@@ -115,16 +118,89 @@ pub fn put_uplink_place(x: UplinkPlace, out: &mut Page, at: usize) -> usize
     put(out, c, b"\n")
 }
 
-pub fn put_back(x: Back, out: &mut Page, at: usize) -> usize
+// A cause's word.
+fn put_word_of(cause: Cause, out: &mut Page, at: usize) -> usize
+    requires { ⌜ at + 6 ≤ 65536 ⌝ }
+    ensures { λ r. ⌜ r ≤ at + 6 ⌝ }
+{
+    match cause {
+        Cause::None => put(out, at, b"none"),
+        Cause::Npbch => put(out, at, b"npbch"),
+        Cause::Npss => put(out, at, b"npss"),
+        Cause::Nsss => put(out, at, b"nsss"),
+        Cause::Sib1 => put(out, at, b"sib1"),
+        Cause::Bitmap => put(out, at, b"bitmap"),
+    }
+}
+
+// The last value of a line, and the line's end.
+fn put_last(cause: Cause, out: &mut Page, at: usize) -> usize
+    requires { ⌜ at + 14 ≤ 65536 ⌝ }
+    ensures { λ r. ⌜ r ≤ at + 14 ⌝ }
+{
+    let a = put(out, at, b" cause=");
+    let b = put_word_of(cause, out, a);
+    put(out, b, b"\n")
+}
+
+pub fn put_cause(x: CauseAnswer, out: &mut Page, at: usize) -> usize
     requires { ⌜ at + 320 ≤ 65536 ⌝ }
     ensures { λ r. ⌜ r ≤ at + 320 ⌝ }
+{
+    let cause = x.cause;
+    let a = put_value(out, at, b"no=", x.no);
+    put_last(cause, out, a)
+}
+
+fn put_back_values(x: Back, out: &mut Page, at: usize) -> usize
+    requires { ⌜ at + 160 ≤ 65536 ⌝ }
+    ensures { λ r. ⌜ r ≤ at + 160 ⌝ }
 {
     let a = put_value(out, at, b"no=", x.no);
     let b = put_value(out, a, b" ours=", x.ours);
     let c = put_value(out, b, b" symbol=", x.symbol);
     let d = put_value(out, c, b" p=", x.position);
-    let e = put_value(out, d, b" kind=", x.kind);
-    put(out, e, b"\n")
+    put_value(out, d, b" kind=", x.kind)
+}
+
+pub fn put_back(x: Back, out: &mut Page, at: usize) -> usize
+    requires { ⌜ at + 320 ≤ 65536 ⌝ }
+    ensures { λ r. ⌜ r ≤ at + 320 ⌝ }
+{
+    let a = put_back_values(x, out, at);
+    put(out, a, b"\n")
+}
+
+pub fn put_downlink_back(x: DownlinkBack, out: &mut Page, at: usize) -> usize
+    requires { ⌜ at + 320 ≤ 65536 ⌝ }
+    ensures { λ r. ⌜ r ≤ at + 320 ⌝ }
+{
+    let cause = x.cause;
+    let a = put_back_values(x.back, out, at);
+    put_last(cause, out, a)
+}
+
+// A comma after what stands before.
+fn put_comma(is_first: bool, out: &mut Page, at: usize) -> usize
+    requires { ⌜ at + 1 ≤ 65536 ⌝ }
+    ensures { λ r. ⌜ r ≤ at + 1 ⌝ }
+{
+    if is_first {
+        return at;
+    }
+    put(out, at, b",")
+}
+
+// A skipped subframe of a picture's last line, and why.
+pub fn put_skipped(is_first: bool, t: u64, cause: Cause, out: &mut Page, at: usize) -> usize
+    requires { ⌜ at + 32 ≤ 65536 ⌝ }
+    ensures { λ r. ⌜ r ≤ at + 32 ⌝ }
+{
+    let a = put_comma(is_first, out, at);
+    let b = put(out, a, b" ");
+    let c = put_decimal(out, b, t);
+    let d = put(out, c, b" ");
+    put_word_of(cause, out, d)
 }
 
 pub fn put_uplink_step(x: WalkPlace, p: u64, out: &mut Page, at: usize) -> usize

@@ -11,7 +11,7 @@ use borrow.Author.Tests.{ltb-false, eqb-true, leb-true, not-false, eq-eqb, ne-eq
 use Rattle.counting.proofs.Facts.{passed, chained, both-parts, either-parts, either-case}
 use Rattle.cell.specs.declared.Cell.{Cell}
 use Rattle.cell.specs.Bitmap.{ownBuffer, bytesOf, listedLength, spareSet, bitmapIn, badBitmap}
-use Rattle.cell.specs.Judge.{inBand, cellPortsListed, controlListed, numbersRefusal, formRefusal, noneUsable, cellRefusal, judgeOf, inForceOf}
+use Rattle.cell.specs.Judge.{inBand, cellPortsListed, controlListed, numbersRefusal, formRefusal, noneAllowed, noneUsable, useRefusal, cellRefusal, judgeOf, inForceOf}
 use Rattle.cell.specs.Quick.{BitmapFits}
 
 pub record WellFormed (c : Cell) : Type 0 where
@@ -75,7 +75,15 @@ module _ (c : Cell) (own : List ℕ) where
   -- an accepted cell is well-formed
   pub accepted-form : cellRefusal c own ≡ 0 → formRefusal c own ≡ 0
   unfolding cellRefusal
-  accepted-form e = chained (formRefusal c own) (cond (noneUsable c own) 8 0) e .0
+  accepted-form e = chained (formRefusal c own) (useRefusal c own) e .0
+
+  -- and has a usable subframe
+  pub accepted-some : cellRefusal c own ≡ 0 → noneUsable c own ≡ false
+  unfolding cellRefusal useRefusal
+  accepted-some e =
+      let a = chained (formRefusal c own) (cond (noneAllowed c own) 8 (cond (noneUsable c own) 18 0)) e in
+      let b = passed (noneAllowed c own) 8 (cond (noneUsable c own) 18 0) (omega arith) (a .1) in
+      passed (noneUsable c own) 18 0 (omega arith) (b .1) .0
 
 -- ---- the bitmap in force
 

@@ -1,7 +1,7 @@
 -- The verdict on a cell, by the branch that gave it.
 use mathlib.Core.Bool.{Bool, true, false, cond}
 use mathlib.Core.List.{List}
-use mathlib.Core.Path.{_≡_, refl, sym, ap, _∙_}
+use mathlib.Core.Path.{_≡_, refl, sym, ap, ap₂, _∙_}
 use Prim.Native.Nat.{ℕ, zero, suc, _≤_, _<_}
 use native.Mathlib.Omega.{arith}
 use lib.Dec.{eqb}
@@ -10,12 +10,16 @@ use Rattle.counting.specs.Counting.{rank}
 use Rattle.spans.specs.declared.Pattern.{Pattern}
 use Rattle.spans.specs.Pattern.{allows, periodOf}
 use Rattle.cell.specs.declared.Cell.{Cell}
+use Rattle.cell.specs.declared.Cause.{Cause}
+use Rattle.cell.specs.declared.Cause.the-variants.{None}
+use Rattle.cell.specs.declared.CauseAnswer.{CauseAnswer}
 use Rattle.cell.specs.declared.Verdict.{Verdict}
-use Rattle.cell.specs.Bitmap.{bitmapIn}
+use Rattle.cell.specs.Bitmap.{ownBuffer, allowed, bitmapIn}
 use Rattle.cell.specs.Usable.{period, usable}
-use Rattle.cell.specs.Judge.{formRefusal, noneUsable, cellRefusal}
-use Rattle.cell.specs.Quick.{Shows, VerdictOn}
-use Rattle.cell.proofs.Showing.{some-usable, none-usable}
+use Rattle.cell.specs.Judge.{formRefusal, noneAllowed, noneUsable, useRefusal, cellRefusal, judgeOf, causeOf}
+use Rattle.cell.specs.Quick.{Loaded, Shows, Leaves, VerdictOn, seen}
+use Rattle.cell.proofs.Accepted.{form-bitmap}
+use Rattle.cell.proofs.Showing.{none-allowed, some-allowed, seen-is, some-usable, none-usable}
 
 pub positive : (n : ℕ) → (n ≡ 0 → ⊥) → 0 < n
 positive zero h = absurd (h refl)
@@ -25,32 +29,64 @@ module _ (c : Cell) (own : List ℕ) where
   pub refused-form : (r : Verdict) → r .no ≡ formRefusal c own → (r .no ≡ 0 → ⊥) → VerdictOn c own r
   unfolding cellRefusal
   refused-form r e n = record {
-    number = e ∙ sym (ap (λ (b : Bool). cond b (cond (noneUsable c own) 8 0) (formRefusal c own)) (ne-eqb (formRefusal c own) 0 (λ z. n (e ∙ z))));
+    number = e ∙ sym (ap (λ (b : Bool). cond b (useRefusal c own) (formRefusal c own)) (ne-eqb (formRefusal c own) 0 (λ z. n (e ∙ z))));
     shows = λ z. absurd (n z);
     some = λ z. absurd (n z);
   }
 
-  well : (x : ℕ) → formRefusal c own ≡ 0 → cond (noneUsable c own) 8 0 ≡ x → cellRefusal c own ≡ x
+  well : (x : ℕ) → formRefusal c own ≡ 0 → useRefusal c own ≡ x → cellRefusal c own ≡ x
   unfolding cellRefusal
-  well x f e = ap (λ (b : Bool). cond b (cond (noneUsable c own) 8 0) (formRefusal c own)) (eq-eqb (formRefusal c own) 0 f) ∙ e
+  well x f e = ap (λ (b : Bool). cond b (useRefusal c own) (formRefusal c own)) (eq-eqb (formRefusal c own) 0 f) ∙ e
 
-  pub refused-eight : (p : Pattern) (r : Verdict) → formRefusal c own ≡ 0 → Shows c (bitmapIn c own) p → rank (allows p) (periodOf p) ≡ 0 → r .no ≡ 8
-      → VerdictOn c own r
-  refused-eight p r f s e h =
-      let n : r .no ≡ 0 → ⊥ = λ z. omega arith in
-      record {
-        number = h ∙ sym (well 8 f (ap (λ (b : Bool). cond b 8 0) (eq-eqb (rank (usable c (bitmapIn c own)) period) 0 (none-usable c (bitmapIn c own) p s e))));
-        shows = λ z. absurd (n z);
-        some = λ z. absurd (n z);
-      }
+  -- the two tests, as they came out
+  by-use : (x y : Bool) → noneAllowed c own ≡ x → noneUsable c own ≡ y → useRefusal c own ≡ cond x 8 (cond y 18 0)
+  unfolding useRefusal
+  by-use x y e d = ap₂ (λ (x y : Bool). cond x 8 (cond y 18 0)) e d
 
-  pub accepted : (p : Pattern) → formRefusal c own ≡ 0 → Shows c (bitmapIn c own) p → (rank (allows p) (periodOf p) ≡ 0 → ⊥)
-      → VerdictOn c own (record { no = 0; pattern = p })
-  accepted p f s n =
-      let h : 0 < rank (allows p) (periodOf p) = positive (rank (allows p) (periodOf p)) n in
-      record {
-        number = sym (well 0 f (ap (λ (b : Bool). cond b 8 0)
-            (ne-eqb (rank (usable c (bitmapIn c own)) period) 0 (λ z. omega (arith, some-usable c (bitmapIn c own) p s h)))));
-        shows = λ z. s;
-        some = λ z. h;
-      }
+  refused-use : (x : ℕ) (r : Verdict) → formRefusal c own ≡ 0 → useRefusal c own ≡ x → (x ≡ 0 → ⊥) → r .no ≡ x → VerdictOn c own r
+  refused-use x r f e n h = record {
+    number = h ∙ sym (well x f e);
+    shows = λ z. absurd (n (sym h ∙ z));
+    some = λ z. absurd (n (sym h ∙ z));
+  }
+
+  module _ (m : ℕ) (f : formRefusal c own ≡ 0) (l : Loaded own (c .bits) m) where
+    pub refused-eight : (r : Verdict) → m ≡ 0 → r .no ≡ 8 → VerdictOn c own r
+    refused-eight r e h =
+        refused-use 8 r f
+        (by-use true (noneUsable c own) (eq-eqb (rank (allowed (bitmapIn c own) (c .bits)) period) 0 (none-allowed c own m (form-bitmap c own f) l e)) refl)
+        (λ z. omega arith) h
+
+    module _ (some : m ≡ 0 → ⊥) (p : Pattern) (a : Leaves c m p) where
+      shown : Shows c (bitmapIn c own) p
+      shown = a .shows own (form-bitmap c own f) l
+
+      allows-some : noneAllowed c own ≡ false
+      allows-some = ne-eqb (rank (allowed (bitmapIn c own) (c .bits)) period) 0 (some-allowed c own m (form-bitmap c own f) l some)
+
+      pub refused-eighteen : (r : Verdict) → rank (allows p) (periodOf p) ≡ 0 → r .no ≡ 18 → VerdictOn c own r
+      refused-eighteen r e h =
+          refused-use 18 r f
+          (by-use false true allows-some (eq-eqb (rank (usable c (bitmapIn c own)) period) 0 (none-usable c (bitmapIn c own) p shown e)))
+          (λ z. omega arith) h
+
+      pub accepted : (rank (allows p) (periodOf p) ≡ 0 → ⊥) → VerdictOn c own (record { no = 0; pattern = p })
+      accepted n =
+          let h : 0 < rank (allows p) (periodOf p) = positive (rank (allows p) (periodOf p)) n in
+          record {
+            number = sym (well 0 f (by-use false false allows-some
+                (ne-eqb (rank (usable c (bitmapIn c own)) period) 0 (λ z. omega (arith, some-usable c (bitmapIn c own) p shown h)))));
+            shows = λ z. shown;
+            some = λ z. h;
+          }
+
+-- ---- the question of the cause
+
+module _ (c : Cell) (anchor other : List ℕ) (v : Verdict) (h : VerdictOn c (ownBuffer c anchor other) v) (t : ℕ) where
+  pub cause-refused : (v .no ≡ 0 → ⊥) → record { no = v .no; cause = None } ≡ causeOf c anchor other t
+  unfolding judgeOf causeOf
+  cause-refused n = simp (← h .number, ne-eqb (v .no) 0 n)
+
+  pub cause-told : (x : Cause) → v .no ≡ 0 → x ≡ seen c (v .pattern) t → record { no = 0; cause = x } ≡ causeOf c anchor other t
+  unfolding judgeOf causeOf
+  cause-told x e d = simp (← h .number, e, d, seen-is c (bitmapIn c (ownBuffer c anchor other)) (v .pattern) (h .shows e) t)

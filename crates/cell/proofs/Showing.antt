@@ -1,29 +1,33 @@
--- The pattern of a well-formed cell allows exactly its usable subframes, and what is said of the one holds of the other.
+-- The masks of a well-formed cell say of each subframe whether a cause stands against it, and what is said of the pattern holds of the cell.
 use mathlib.Core.Bool.{Bool, true, false, cond, not, _&&_}
 use mathlib.Core.List.{List}
 use mathlib.Core.Path.{_≡_, refl, sym, ap, ap₂, _∙_, subst, fun-ext}
 use mathlib.Core.Logic.{_⊎_, inl, inr, ⊎-elim}
 use Prim.Native.Nat.{ℕ, zero, suc, _+_, _-_, _*_, _/_, _%_, _^_, _≤_, _<_}
-use native.Mathlib.Nat.{mul-pos, zero-mul, mul-zero}
+use native.Mathlib.Nat.{mul-pos, zero-add, zero-mul, mul-zero}
 use native.Mathlib.Omega.{arith}
 use lib.Bits.{bitAnd, and-le-l}
+use lib.Count.{ones}
 use lib.Dec.{eqb}
 use lib.ListN.{take}
 use borrow.Author.Tests.{eq-eqb, ne-eqb}
-use Rattle.counting.specs.Counting.{rank, count, select}
+use Rattle.counting.specs.Counting.{rank, select}
 use Rattle.counting.proofs.Facts.{order}
-use Rattle.counting.proofs.Ones.{and-bits}
+use Rattle.counting.proofs.Rank.{rank-zero}
+use Rattle.counting.proofs.Ones.{and-bits, span-all}
 use Rattle.counting.proofs.Period.{rank-whole, repeats-times, select-same}
 use Rattle.spans.specs.declared.Pattern.{Pattern}
 use Rattle.spans.specs.Pattern.{span, maskBit, withSib1, maskAt, allows, periodOf, Regular}
-use Rattle.spans.proofs.Laws.{repeats}
+use Rattle.spans.proofs.Laws.{ones-none, ones-some, mask-bits, repeats}
 use Rattle.cell.specs.declared.Cell.{Cell}
+use Rattle.cell.specs.declared.Cause.{Cause}
+use Rattle.cell.specs.declared.Cause.the-variants.{None}
 use Rattle.cell.specs.Bitmap.{bytesOf, listedLength, allowed, bitmapIn}
-use Rattle.cell.specs.Usable.{period, isAnchor, usable}
+use Rattle.cell.specs.Usable.{period, isAnchor, why, none, usable}
 use Rattle.cell.specs.Judge.{formRefusal, cellRefusal}
-use Rattle.cell.specs.Quick.{Loaded, BitmapFits, anchorPattern, Shows}
+use Rattle.cell.specs.Quick.{Loaded, BitmapFits, anchorPattern, Shows, whyNot, seen}
 use Rattle.cell.proofs.Forty.{allowed-forty, allowed-front}
-use Rattle.cell.proofs.Taken.{taken, usable-is, anchor-regular, anchorTurns, anchor-whole, anchor-allows}
+use Rattle.cell.proofs.Taken.{taken, usable-is, why-by, anchor-regular, anchorTurns, anchor-whole, anchor-allows}
 
 and-true : (b : Bool) → (b && true) ≡ b
 and-true true = refl
@@ -34,6 +38,36 @@ module _ (c : Cell) (own : List ℕ) (m : ℕ) (fits : BitmapFits (c .bits) own)
   digit-allows : (t : ℕ) → maskBit m (t % span) ≡ allowed (bitmapIn c own) (c .bits) t
   digit-allows t =
       l .digits (t % span) (omega arith) ∙ allowed-forty own (c .bits) t (fits .listed) ∙ sym (allowed-front own (c .bits) t (fits .listed))
+
+  -- ---- refusal 8: the bitmap's ones
+
+  allowed-again : (t : ℕ) → allowed (bitmapIn c own) (c .bits) (t + span) ≡ allowed (bitmapIn c own) (c .bits) t
+  allowed-again t =
+      let e : (t + span) % 40 ≡ t % 40 = omega arith in
+      sym (allowed-forty (bitmapIn c own) (c .bits) (t + span) (fits .listed)) ∙ ap (allowed (bitmapIn c own) (c .bits)) e
+      ∙ allowed-forty (bitmapIn c own) (c .bits) t (fits .listed)
+
+  digit-of-span : (i : ℕ) → i < span → maskBit m i ≡ allowed (bitmapIn c own) (c .bits) (0 + i)
+  digit-of-span i h = l .digits i h ∙ sym (allowed-front own (c .bits) i (fits .listed)) ∙ ap (allowed (bitmapIn c own) (c .bits)) (sym (zero-add i))
+
+  allowed-rank : rank (allowed (bitmapIn c own) (c .bits)) period ≡ 64 * ones m
+  allowed-rank =
+      let u : ℕ → Bool = allowed (bitmapIn c own) (c .bits) in
+      let e : rank u span ≡ ones m = omega (arith, span-all u m 0 span (l .small) digit-of-span, rank-zero u, ap (rank u) (zero-add span)) in
+      rank-whole u span allowed-again 64 ∙ ap (λ (x : ℕ). 64 * x) e
+
+  pub none-allowed : m ≡ 0 → rank (allowed (bitmapIn c own) (c .bits)) period ≡ 0
+  none-allowed e = omega (arith, allowed-rank, ap ones e, ones-none)
+
+  pub some-allowed : (m ≡ 0 → ⊥) → rank (allowed (bitmapIn c own) (c .bits)) period ≡ 0 → ⊥
+  some-allowed n z = ⊎-elim (λ h. omega (arith, allowed-rank, ones-some 40 m (l .small) h)) (λ h. n (omega arith)) (order 0 m)
+
+  -- ---- refusal 18 and the pattern
+
+  -- from each subframe to the bits of the masks
+  bits-of : (p : Pattern) → ((t : ℕ) → allows p t ≡ usable c (bitmapIn c own) t) → (s i : ℕ) → i < span
+      → maskBit (maskAt p s) i ≡ none (why c (bitmapIn c own) (span * s + i))
+  bits-of p same s i h = mask-bits p s i h ∙ same (span * s + i)
 
   usable-by : (t : ℕ) (b : Bool) → isAnchor c ≡ b → usable c (bitmapIn c own) t ≡ (allowed (bitmapIn c own) (c .bits) t && not (b && taken (c .identity) (c .sib1) t))
   usable-by t b e = usable-is c (bitmapIn c own) t ∙ ap (λ (x : Bool). allowed (bitmapIn c own) (c .bits) t && not (x && taken (c .identity) (c .sib1) t)) e
@@ -71,7 +105,7 @@ module _ (c : Cell) (own : List ℕ) (m : ℕ) (fits : BitmapFits (c .bits) own)
         };
         turns = anchorTurns (c .sib1);
         whole = anchor-whole (c .identity) (c .sib1);
-        same = λ t.
+        bits = bits-of left λ t.
             left-allows t ∙ ap₂ (λ (x y : Bool). x && y) (digit-allows t) (anchor-allows (c .identity) (c .sib1) t) ∙ sym (usable-by t true e);
       }
 
@@ -93,14 +127,25 @@ module _ (c : Cell) (own : List ℕ) (m : ℕ) (fits : BitmapFits (c .bits) own)
     regular = record { fits = omega arith; few = omega arith; plain-small = l .small; sib1-small = l .small };
     turns = 16;
     whole = refl;
-    same = λ t. alone-allows t ∙ digit-allows t ∙ sym (and-true (allowed (bitmapIn c own) (c .bits) t)) ∙ sym (usable-by t false e);
+    bits = bits-of alone λ t. alone-allows t ∙ digit-allows t ∙ sym (and-true (allowed (bitmapIn c own) (c .bits) t)) ∙ sym (usable-by t false e);
   }
 
 -- ---- from the pattern to the usable subframes
 
 module _ (c : Cell) (b : List ℕ) (p : Pattern) (s : Shows c b p) where
+  pub same : (t : ℕ) → allows p t ≡ usable c b t
+  unfolding allows
+  same t =
+      let e : span * (t / span) + t % span ≡ t = omega arith in
+      s .bits (t / span) (t % span) (omega arith) ∙ ap (usable c b) e
+
   pub same-test : allows p ≡ usable c b
-  same-test = fun-ext (s .same)
+  same-test = fun-ext same
+
+  -- the cause by the pattern is the cause
+  pub seen-is : (t : ℕ) → seen c p t ≡ why c b t
+  unfolding seen
+  seen-is t = ap (λ (u : Bool). cond u None (whyNot c t)) (same t) ∙ why-by c b t
 
   period-rank : rank (usable c b) period ≡ s .turns * rank (allows p) (periodOf p)
   period-rank =
@@ -115,7 +160,7 @@ module _ (c : Cell) (b : List ℕ) (p : Pattern) (s : Shows c b p) where
           let z : s .turns ≡ 0 = omega arith in
           omega (arith, sym (s .whole) ∙ ap (λ (x : ℕ). x * periodOf p) z ∙ zero-mul (periodOf p))
 
-  -- refusal 8, either way
+  -- refusal 18, either way
   pub some-usable : 0 < rank (allows p) (periodOf p) → 0 < rank (usable c b) period
   some-usable h = omega (arith, period-rank, mul-pos some-turns h)
 
@@ -124,13 +169,13 @@ module _ (c : Cell) (b : List ℕ) (p : Pattern) (s : Shows c b p) where
 
   pub usable-repeats : (t : ℕ) → usable c b (t + period) ≡ usable c b t
   usable-repeats t =
-      sym (s .same (t + period)) ∙ ap (λ (x : ℕ). allows p (t + x)) (sym (s .whole))
-      ∙ repeats-times (allows p) (periodOf p) (repeats p (s .regular)) (s .turns) t ∙ s .same t
+      sym (same (t + period)) ∙ ap (λ (x : ℕ). allows p (t + x)) (sym (s .whole))
+      ∙ repeats-times (allows p) (periodOf p) (repeats p (s .regular)) (s .turns) t ∙ same t
 
   pub select-usable : 0 < rank (allows p) (periodOf p) → (f j : ℕ) → select (allows p) (periodOf p) f j ≡ select (usable c b) period f j
   select-usable some f j =
       let again : (t : ℕ) → allows p (t + period) ≡ allows p t =
-      λ t. s .same (t + period) ∙ usable-repeats t ∙ sym (s .same t) in
+      λ t. same (t + period) ∙ usable-repeats t ∙ sym (same t) in
       let positive : 0 < rank (allows p) period = subst (λ (u : ℕ → Bool). 0 < rank u period) (sym same-test) (some-usable some) in
       select-same (allows p) (periodOf p) period (repeats p (s .regular)) again some positive f j
       ∙ ap (λ (u : ℕ → Bool). select u period f j) same-test

@@ -17,7 +17,7 @@ use Rattle.cell.specs.declared.Cause.{Cause}
 use Rattle.cell.specs.declared.Cause.the-variants.{None, Npbch, Npss, Nsss, Sib1, Bitmap}
 use Rattle.cell.specs.Bitmap.{allowed}
 use Rattle.cell.specs.Usable.{period, frame, subframe, even, npbch, npss, nsss, bySchedule, sib1Copies, sib1First, sib1Place, sib1, isAnchor, why, none, usable}
-use Rattle.cell.specs.Quick.{anchorPattern}
+use Rattle.cell.specs.Quick.{anchorPattern, whyNot}
 
 abbrev pub taken : ℕ → ℕ → ℕ → Bool
 taken identity schedule t = npbch t || (npss t || (nsss t || sib1 identity schedule t))
@@ -42,6 +42,25 @@ none-is true false false false false false = refl
 pub usable-is : (c : Cell) (b : List ℕ) (t : ℕ) → usable c b t ≡ (allowed b (c .bits) t && not (isAnchor c && taken (c .identity) (c .sib1) t))
 unfolding why
 usable-is c b t = none-is (isAnchor c) (npbch t) (npss t) (nsss t) (sib1 (c .identity) (c .sib1) t) (allowed b (c .bits) t)
+
+-- ---- the cause, once it is known whether a subframe is usable
+
+seen-by : (a n p s i l : Bool)
+    → cond (none (cond (a && n) Npbch (cond (a && p) Npss (cond (a && s) Nsss (cond (a && i) Sib1 (cond l None Bitmap)))))) None
+    (cond (a && n) Npbch (cond (a && p) Npss (cond (a && s) Nsss (cond (a && i) Sib1 Bitmap))))
+    ≡ cond (a && n) Npbch (cond (a && p) Npss (cond (a && s) Nsss (cond (a && i) Sib1 (cond l None Bitmap))))
+seen-by false n p s i true = refl
+seen-by false n p s i false = refl
+seen-by true true p s i l = refl
+seen-by true false true s i l = refl
+seen-by true false false true i l = refl
+seen-by true false false false true l = refl
+seen-by true false false false false true = refl
+seen-by true false false false false false = refl
+
+pub why-by : (c : Cell) (b : List ℕ) (t : ℕ) → cond (usable c b t) None (whyNot c t) ≡ why c b t
+unfolding why whyNot
+why-by c b t = seen-by (isAnchor c) (npbch t) (npss t) (nsss t) (sib1 (c .identity) (c .sib1) t) (allowed b (c .bits) t)
 
 -- ---- what is taken repeats with 640 subframes, and depends on identity mod 4 and schedule mod 3
 

@@ -1,12 +1,15 @@
--- The cell's refusals, in the order of 01's table, the number beside its test: 01 "The cell" and "Numbers a caller may get back".
+-- The cell's refusals, the number beside its test: 01 "The cell" and "Numbers a caller may get back", 02 L2. They are tested in the order of
+-- the list, which is not that of the numbers: 1 to 8, 18. And why a subframe is not usable, asked with the cell's refusals: 02 L2.
 use mathlib.Core.Bool.{Bool, cond, not, _&&_, _||_}
 use mathlib.Core.List.{List, []}
 use Prim.Native.Nat.{ℕ}
 use lib.Dec.{eqb, ltb, leb}
 use Rattle.counting.specs.Counting.{rank}
 use Rattle.cell.specs.declared.Cell.{Cell}
-use Rattle.cell.specs.Bitmap.{ownBuffer, bitmapIn, badBitmap}
-use Rattle.cell.specs.Usable.{period, usable}
+use Rattle.cell.specs.declared.Cause.the-variants.{None}
+use Rattle.cell.specs.declared.CauseAnswer.{CauseAnswer}
+use Rattle.cell.specs.Bitmap.{ownBuffer, bitmapIn, badBitmap, allowed}
+use Rattle.cell.specs.Usable.{period, why, usable}
 
 -- modes 0 and 1
 abbrev pub inBand : Cell → Bool
@@ -35,12 +38,20 @@ numbersRefusal c =
 unfoldable pub formRefusal : Cell → List ℕ → ℕ
 formRefusal c own = cond (eqb (numbersRefusal c) 0) (cond (badBitmap (c .bits) own) 7 0) (numbersRefusal c)
 
--- no usable subframe in a period
+-- the bitmap alone allows no subframe of a period
+abbrev pub noneAllowed : Cell → List ℕ → Bool
+noneAllowed c own = eqb (rank (allowed (bitmapIn c own) (c .bits)) period) 0
+
+-- no subframe of a period is usable; where the bitmap allows some, the anchor takes them all
 abbrev pub noneUsable : Cell → List ℕ → Bool
 noneUsable c own = eqb (rank (usable c (bitmapIn c own)) period) 0
 
+-- 8, then 18
+unfoldable pub useRefusal : Cell → List ℕ → ℕ
+useRefusal c own = cond (noneAllowed c own) 8 (cond (noneUsable c own) 18 0)
+
 unfoldable pub cellRefusal : Cell → List ℕ → ℕ
-cellRefusal c own = cond (eqb (formRefusal c own) 0) (cond (noneUsable c own) 8 0) (formRefusal c own)
+cellRefusal c own = cond (eqb (formRefusal c own) 0) (useRefusal c own) (formRefusal c own)
 
 unfoldable pub judgeOf : Cell → List ℕ → List ℕ → ℕ
 judgeOf c anchor other = cellRefusal c (ownBuffer c anchor other)
@@ -48,3 +59,9 @@ judgeOf c anchor other = cellRefusal c (ownBuffer c anchor other)
 -- the bitmap in force; a refused cell has an empty one
 unfoldable pub inForceOf : Cell → List ℕ → List ℕ → List ℕ
 inForceOf c anchor other = cond (eqb (judgeOf c anchor other) 0) (bitmapIn c (ownBuffer c anchor other)) []
+
+-- why subframe t is not usable, for any t; a refused cell has its number and no cause
+unfoldable pub causeOf : Cell → List ℕ → List ℕ → ℕ → CauseAnswer
+causeOf c anchor other t =
+    cond (eqb (judgeOf c anchor other) 0) (record { no = 0; cause = why c (bitmapIn c (ownBuffer c anchor other)) t })
+    (record { no = judgeOf c anchor other; cause = None })

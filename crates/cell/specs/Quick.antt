@@ -1,4 +1,4 @@
--- What the quick code chooses: the bitmap as a number, and the anchor's masks. No definition of 01 cites this file.
+-- What the quick code chooses: the bitmap as a number, the anchor's masks, and the cause read off a mask. No definition of 01 cites this file.
 use mathlib.Core.Bool.{Bool, true, false, cond, _&&_}
 use mathlib.Core.List.{List, [], _∷_}
 use mathlib.Core.Path.{_≡_}
@@ -7,11 +7,13 @@ use lib.Dec.{eqb}
 use lib.ListN.{length, getD}
 use Rattle.counting.specs.Counting.{rank}
 use Rattle.spans.specs.declared.Pattern.{Pattern}
-use Rattle.spans.specs.Pattern.{maskBit, allows, periodOf, Regular}
+use Rattle.spans.specs.Pattern.{span, maskBit, maskAt, allows, periodOf, Regular}
 use Rattle.cell.specs.declared.Cell.{Cell}
+use Rattle.cell.specs.declared.Cause.{Cause}
+use Rattle.cell.specs.declared.Cause.the-variants.{None, Npbch, Npss, Nsss, Sib1, Bitmap}
 use Rattle.cell.specs.declared.Verdict.{Verdict}
 use Rattle.cell.specs.Bitmap.{bytesOf, listedLength, allowed, bitmapIn}
-use Rattle.cell.specs.Usable.{period, bySchedule, usable}
+use Rattle.cell.specs.Usable.{period, npbch, npss, nsss, bySchedule, sib1, isAnchor, why, none}
 use Rattle.cell.specs.Judge.{cellRefusal}
 
 -- bits and bytes that fit each other
@@ -33,12 +35,28 @@ anchorPattern identity schedule = record {
   sib1 = cond (eqb (schedule % 3) 2 && eqb (identity % 2) 1) 0x7b_9cf7_b9cf 0x73_9ef7_39ef;
 }
 
--- the pattern allows exactly the usable subframes, and a period has it a whole number of times
+-- bit i of a span's mask says that no cause stands against subframe i of the span; and a period has the pattern a whole number of times
 pub record Shows (c : Cell) (b : List ℕ) (p : Pattern) : Type 0 where
   pub regular : Regular p
   pub turns : ℕ
   pub whole : turns * periodOf p ≡ period
-  pub same : (t : ℕ) → allows p t ≡ usable c b t
+  pub bits : (s i : ℕ) → i < span → maskBit (maskAt p s) i ≡ none (why c b (span * s + i))
+
+-- p shows the cell with whichever bitmap m was loaded from
+pub record Leaves (c : Cell) (m : ℕ) (p : Pattern) : Type 0 where
+  pub shows : (own : List ℕ) → BitmapFits (c .bits) own → Loaded own (c .bits) m → Shows c (bitmapIn c own) p
+
+-- the cause of a subframe that is not usable: what the anchor takes it for, else the bitmap
+unfoldable pub whyNot : Cell → ℕ → Cause
+whyNot c t =
+    cond (isAnchor c && npbch t) Npbch
+    (cond (isAnchor c && npss t) Npss
+    (cond (isAnchor c && nsss t) Nsss
+    (cond (isAnchor c && sib1 (c .identity) (c .sib1) t) Sib1 Bitmap)))
+
+-- the cause, by a pattern of the usable subframes
+unfoldable pub seen : Cell → Pattern → ℕ → Cause
+seen c p t = cond (allows p t) None (whyNot c t)
 
 -- a cell judged by its own buffer: the number, and for an accepted cell its pattern
 pub record VerdictOn (c : Cell) (own : List ℕ) (r : Verdict) : Type 0 where

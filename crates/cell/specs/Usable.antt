@@ -74,5 +74,14 @@ none Nsss = false
 none Sib1 = false
 none Bitmap = false
 
+-- a cause's number; 5 is kept for a system information message
+abbrev pub numberOf : Cause → ℕ
+numberOf None = 0
+numberOf Npbch = 1
+numberOf Npss = 2
+numberOf Nsss = 3
+numberOf Sib1 = 4
+numberOf Bitmap = 6
+
 abbrev pub usable : Cell → List ℕ → ℕ → Bool
 usable c b t = none (why c b t)

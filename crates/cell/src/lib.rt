@@ -1,11 +1,13 @@
-// A cell: its refusals, its bitmap in force, and its usable subframes as a pattern of spans.
+// A cell: its refusals, its bitmap in force, its usable subframes as a pattern of spans, and why another is not usable.
 ghost use mathlib.Core.Path.{_≡_};
 ghost use mathlib.Core.Bool.{cond, _&&_, _||_};
 ghost use lib.Bits.{bitAnd};
 ghost use lib.Dec.{eqb, leb};
-ghost use Rattle.cell.specs.Bitmap.{ownBuffer, bitmapIn};
-ghost use Rattle.cell.specs.Judge.{numbersRefusal, formRefusal, judgeOf, inForceOf};
-ghost use Rattle.cell.specs.Quick.{Shows, VerdictOn};
+ghost use Rattle.spans.specs.Pattern.{Regular};
+ghost use Rattle.cell.specs.Bitmap.{ownBuffer};
+ghost use Rattle.cell.specs.Judge.{numbersRefusal, formRefusal, judgeOf, inForceOf, causeOf};
+ghost use Rattle.cell.specs.Quick.{whyNot, seen, Leaves, VerdictOn};
+ghost use Rattle.cell.specs.Usable.{numberOf};
 use spans::Pattern;
 
 mod anchor;
@@ -30,6 +32,12 @@ pub enum Cause {
     Nsss,
     Sib1,
     Bitmap,
+}
+
+// The answer on one subframe: the refusal number, and why the subframe is not usable.
+pub struct CauseAnswer {
+    pub no: u64,
+    pub cause: Cause,
 }
 
 // The refusal number, and for an accepted cell the pattern of its usable subframes.
@@ -110,12 +118,10 @@ fn withheld(p: Pattern, m: u64) -> Pattern
     }
 }
 
-// The usable subframes of a well-formed cell.
-fn pattern(c: Cell, own: &[u8]) -> Pattern
-    requires { ⌜ formRefusal c (now own) ≡ 0 ⌝ }
-    ensures { λ r. ⌜ Shows c (bitmapIn c (now (own .entry))) r ⌝ }
+// The usable subframes of a well-formed cell, m its bitmap as a number.
+fn pattern(c: Cell, m: u64) -> Pattern
+    ensures { λ r. ⌜ Leaves c m r ⌝ }
 {
-    let m = bitmap::load(c.bits, own);
     if c.carrier == 0 {
         return withheld(anchor::pattern(c.identity, c.sib1), m);
     }
@@ -148,9 +154,13 @@ fn judged_own(c: Cell, own: &[u8]) -> Verdict
     if no != 0 {
         return refused(no);
     }
-    let p = pattern(c, own);
-    if spans::is_empty(p) {
+    let m = bitmap::load(c.bits, own);
+    if m == 0 {
         return refused(8);
+    }
+    let p = pattern(c, m);
+    if spans::is_empty(p) {
+        return refused(18);
     }
     Verdict { no: 0, pattern: p }
 }
@@ -182,4 +192,68 @@ pub fn in_force<'a>(c: Cell, anchor: &'a [u8], other: &'a [u8]) -> &'a [u8]
         return &own[0..n];
     }
     &own[0..0]
+}
+
+// Why subframe t, which is not usable, is not: the first of NPBCH, NPSS, NSSS and SIB1 that takes it, else the bitmap.
+pub fn why_not(c: Cell, t: u64) -> Cause
+    ensures { λ r. ⌜ r ≡ whyNot c t ⌝ }
+{
+    if c.carrier != 0 {
+        return Cause::Bitmap;
+    }
+    if anchor::is_npbch(t) {
+        return Cause::Npbch;
+    }
+    if anchor::is_npss(t) {
+        return Cause::Npss;
+    }
+    if anchor::is_nsss(t) {
+        return Cause::Nsss;
+    }
+    if anchor::is_sib1(c.identity, c.sib1, t) {
+        return Cause::Sib1;
+    }
+    Cause::Bitmap
+}
+
+// Why subframe t is not usable, p the pattern of the usable ones.
+pub fn why(c: Cell, p: Pattern, t: u64) -> Cause
+    requires { ⌜ Regular p ⌝ }
+    ensures { λ r. ⌜ r ≡ seen c p t ⌝ }
+{
+    if spans::is_allowed(p, t) {
+        return Cause::None;
+    }
+    why_not(c, t)
+}
+
+// Why subframe t is not usable: the first cause, or none.
+pub fn cause_at(c: Cell, anchor: &[u8], other: &[u8], t: u64) -> CauseAnswer
+    ensures { λ r. ⌜ r ≡ causeOf c (now (anchor .entry)) (now (other .entry)) t ⌝ }
+{
+    let v = judged(c, anchor, other);
+    if v.no != 0 {
+        return CauseAnswer {
+            no: v.no,
+            cause: Cause::None,
+        };
+    }
+    CauseAnswer {
+        no: 0,
+        cause: why(c, v.pattern, t),
+    }
+}
+
+// The number of a cause.
+pub fn number(cause: Cause) -> u64
+    ensures { λ r. ⌜ r ≡ numberOf cause ⌝ }
+{
+    match cause {
+        Cause::None => 0,
+        Cause::Npbch => 1,
+        Cause::Npss => 2,
+        Cause::Nsss => 3,
+        Cause::Sib1 => 4,
+        Cause::Bitmap => 6,
+    }
 }

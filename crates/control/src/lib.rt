@@ -4,8 +4,8 @@ ghost use Rattle.subframes.specs.Quick.{Judged};
 ghost use Rattle.control.specs.Refusals.{aboveLargest, grantRefusal};
 ghost use Rattle.control.specs.Questions.{burstOf, planOf, forwardOf, backwardOf};
 use cell::Cell;
-use sending::Back;
 use subframes::Burst;
+use subframes::DownlinkBack;
 use subframes::DownlinkPlace;
 use subframes::DownlinkPlan;
 use subframes::Ready;
@@ -78,7 +78,7 @@ pub fn forward(c: Cell, anchor: &[u8], other: &[u8], g: ControlGrant, p: u64) ->
     subframes::forward(ready(v.no, c, g), v.pattern, p)
 }
 
-// What stands at symbol l and subcarrier k of a slot of subframe t.
+// What stands at symbol l and subcarrier k of a slot of subframe t, and why the subframe was skipped.
 pub fn backward(
     c: Cell,
     anchor: &[u8],
@@ -88,9 +88,9 @@ pub fn backward(
     slot: u64,
     l: u64,
     k: u64,
-) -> Back
+) -> DownlinkBack
     ensures { λ r. ⌜ r ≡ backwardOf c (now (anchor .entry)) (now (other .entry)) g t slot l k ⌝ }
 {
     let v = cell::judged(c, anchor, other);
-    subframes::backward(ready(v.no, c, g), v.pattern, t, slot, l, k)
+    subframes::backward(ready(v.no, c, g), c, v.pattern, t, slot, l, k)
 }

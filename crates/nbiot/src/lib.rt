@@ -1,17 +1,19 @@
 // The public questions. Each may be asked with any numbers and any lent buffers; refused input gets document 01's number and zeros.
 ghost use mathlib.Core.Path.{_≡_};
-ghost use Rattle.cell.specs.Judge.{judgeOf, inForceOf};
+ghost use Rattle.cell.specs.Judge.{judgeOf, inForceOf, causeOf};
 ghost use Rattle.uplink.specs.Questions as up;
 ghost use Rattle.acknowledgement.specs.Questions as ack;
 ghost use Rattle.downlink.specs.Questions as down;
 ghost use Rattle.control.specs.Questions as control;
 use acknowledgement::AckGrant;
+use cell::CauseAnswer;
 use cell::Cell;
 use control::ControlGrant;
 use downlink::DownlinkGrant;
 use sending::Back;
 use slots::UplinkPlace;
 use slots::UplinkPlan;
+use subframes::DownlinkBack;
 use subframes::DownlinkPlace;
 use subframes::DownlinkPlan;
 use uplink::UplinkGrant;
@@ -28,6 +30,13 @@ pub fn bitmap<'a>(c: Cell, anchor: &'a [u8], other: &'a [u8]) -> &'a [u8]
     ensures { λ r. ⌜ now r ≡ inForceOf c (now (anchor .entry)) (now (other .entry)) ⌝ }
 {
     cell::in_force(c, anchor, other)
+}
+
+// Why subframe t is not usable: the first cause, or none. Any t may be asked.
+pub fn cause(c: Cell, anchor: &[u8], other: &[u8], t: u64) -> CauseAnswer
+    ensures { λ r. ⌜ r ≡ causeOf c (now (anchor .entry)) (now (other .entry)) t ⌝ }
+{
+    cell::cause_at(c, anchor, other, t)
 }
 
 pub fn plan_up(g: UplinkGrant) -> UplinkPlan
@@ -105,7 +114,7 @@ pub fn backward_down(
     slot: u64,
     l: u64,
     k: u64,
-) -> Back
+) -> DownlinkBack
     ensures { λ r. ⌜ r ≡ down.backwardOf c (now (anchor .entry)) (now (other .entry)) g t slot l k ⌝ }
 {
     downlink::backward(c, anchor, other, g, t, slot, l, k)
@@ -120,7 +129,7 @@ pub fn backward_control(
     slot: u64,
     l: u64,
     k: u64,
-) -> Back
+) -> DownlinkBack
     ensures { λ r. ⌜ r ≡ control.backwardOf c (now (anchor .entry)) (now (other .entry)) g t slot l k ⌝ }
 {
     control::backward(c, anchor, other, g, t, slot, l, k)

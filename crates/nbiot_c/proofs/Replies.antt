@@ -7,9 +7,12 @@ use native.Mathlib.Omega.{arith}
 use lib.Ieee.{Float}
 use lib.ListN.{length, getD, take, drop, length-drop}
 use lib.Seq.{sets, sets-eq, take-all}
+use Rattle.cell.specs.declared.CauseAnswer.{CauseAnswer}
+use Rattle.cell.specs.Usable.{numberOf}
+use Rattle.subframes.specs.declared.DownlinkBack.{DownlinkBack}
 use Rattle.walk.specs.declared.Stepped.{Stepped}
 use Rattle.symbol.specs.declared.ElementNumbers.{ElementNumbers}
-use Rattle.nbiot_c.specs.Buffers.{laid, replyOf, stepNumbers, stepReplyOf, fillReplyOf, elementColumns, elementAmplitudes, elementReplyOf}
+use Rattle.nbiot_c.specs.Buffers.{downBackNumbers, causeNumbers, laid, replyOf, stepNumbers, stepReplyOf, fillReplyOf, elementColumns, elementAmplitudes, elementReplyOf}
 
 -- stores from the front on
 pub stored : {A : Type 0} (vs s : List A) → length vs ≤ length s → sets s 0 vs ≡ laid vs s
@@ -35,6 +38,15 @@ pub replied : {said short : Bool} {numbers given after : List ℕ} {r : ℕ} (s 
 unfolding replyOf
 replied s says h e number left =
     rw (sym says ∙ h) (number ∙ ap (λ (l : List ℕ). getD l 0 0) e, left ∙ ap (λ (l : List ℕ). laid l s) e)
+
+-- an answer that ends with a cause's number
+pub back-with : {given asked : DownlinkBack} (n : ℕ) → n ≡ numberOf (given .cause) → given ≡ asked
+    → (given .back .no ∷ given .back .ours ∷ given .back .symbol ∷ given .back .position ∷ given .back .kind ∷ n ∷ []) ≡ downBackNumbers asked
+back-with {given} n e d =
+    ap (λ (x : ℕ). given .back .no ∷ given .back .ours ∷ given .back .symbol ∷ given .back .position ∷ given .back .kind ∷ x ∷ []) e ∙ ap downBackNumbers d
+
+pub cause-with : {given asked : CauseAnswer} (n : ℕ) → n ≡ numberOf (given .cause) → given ≡ asked → (given .no ∷ n ∷ []) ≡ causeNumbers asked
+cause-with {given} n e d = ap (λ (x : ℕ). given .no ∷ x ∷ []) e ∙ ap causeNumbers d
 
 -- what a part from n on holds
 pub part-from : (n : ℕ) (s : List ℕ) → take (length s - n) (drop n s) ≡ drop n s

@@ -7,6 +7,8 @@ use lib.Dec.{ltb}
 use lib.Ieee.{Float}
 use lib.ListN.{length, getD, drop}
 use Rattle.cell.specs.declared.Cell.{Cell}
+use Rattle.cell.specs.declared.CauseAnswer.{CauseAnswer}
+use Rattle.cell.specs.Usable.{numberOf}
 use Rattle.uplink.specs.declared.UplinkGrant.{UplinkGrant}
 use Rattle.acknowledgement.specs.declared.AckGrant.{AckGrant}
 use Rattle.downlink.specs.declared.DownlinkGrant.{DownlinkGrant}
@@ -22,6 +24,7 @@ use Rattle.walk.specs.declared.Stepped.{Stepped}
 use Rattle.symbol.specs.declared.ElementNumbers.{ElementNumbers}
 use Rattle.subframes.specs.declared.DownlinkPlan.{DownlinkPlan}
 use Rattle.subframes.specs.declared.DownlinkPlace.{DownlinkPlace}
+use Rattle.subframes.specs.declared.DownlinkBack.{DownlinkBack}
 
 -- ---- what is asked
 
@@ -95,6 +98,14 @@ downPlaceNumbers a = a .no ∷ a .t ∷ a .slot ∷ a .l ∷ a .k ∷ a .symbol 
 
 abbrev pub backNumbers : Back → List ℕ
 backNumbers a = a .no ∷ a .ours ∷ a .symbol ∷ a .position ∷ a .kind ∷ []
+
+-- the cause is its number
+abbrev pub downBackNumbers : DownlinkBack → List ℕ
+downBackNumbers a =
+    a .back .no ∷ a .back .ours ∷ a .back .symbol ∷ a .back .position ∷ a .back .kind ∷ numberOf (a .cause) ∷ []
+
+abbrev pub causeNumbers : CauseAnswer → List ℕ
+causeNumbers a = a .no ∷ numberOf (a .cause) ∷ []
 
 abbrev pub stepNumbers : WalkPlace → List ℕ
 stepNumbers a = a .no ∷ a .finished ∷ a .t ∷ a .slot ∷ a .l ∷ a .k ∷ a .symbol ∷ []

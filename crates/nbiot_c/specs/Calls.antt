@@ -6,7 +6,7 @@ use lib.Dec.{eqb}
 use lib.Ieee.{Float}
 use lib.ListN.{length, take, getD}
 use Rattle.cell.specs.declared.Cell.{Cell}
-use Rattle.cell.specs.Judge.{judgeOf, inForceOf}
+use Rattle.cell.specs.Judge.{judgeOf, inForceOf, causeOf}
 use Rattle.uplink.specs.Questions as up
 use Rattle.acknowledgement.specs.Questions as ack
 use Rattle.downlink.specs.Questions as down
@@ -16,7 +16,7 @@ use Rattle.symbol.specs.Outgoing.{numbersOf}
 use Rattle.fill.specs.Refusals.{fillRefusal}
 use Rattle.fill.specs.Fill.{outputOf}
 use Rattle.fill.specs.Element.{elementAnswer}
-use Rattle.nbiot_c.specs.Buffers.{cellOf, upGrantOf, ackGrantOf, downGrantOf, controlGrantOf, upPlanNumbers, downPlanNumbers, upPlaceNumbers, downPlaceNumbers, backNumbers, upWalkOf, ackWalkOf, downWalkOf, controlWalkOf, lacks, tooShort, Reply, replyOf, StepReply, stepReplyOf, FillReply, fillReplyOf, ElementReply, elementReplyOf}
+use Rattle.nbiot_c.specs.Buffers.{cellOf, upGrantOf, ackGrantOf, downGrantOf, controlGrantOf, upPlanNumbers, downPlanNumbers, upPlaceNumbers, downPlaceNumbers, backNumbers, downBackNumbers, causeNumbers, upWalkOf, ackWalkOf, downWalkOf, controlWalkOf, lacks, tooShort, Reply, replyOf, StepReply, stepReplyOf, FillReply, fillReplyOf, ElementReply, elementReplyOf}
 
 unfoldable pub judge : List ℕ → List ℕ → List ℕ → ℕ
 judge cell anchor other = cond (lacks 8 cell) tooShort (judgeOf (cellOf cell) anchor other)
@@ -33,6 +33,9 @@ partNamed numbers anchor other = take (getD numbers 2 0) (cond (eqb (getD number
 unfoldable pub bitmap : List ℕ → List ℕ → List ℕ → List ℕ → Reply
 bitmap cell anchor other answer =
     replyOf (lacks 8 cell || lacks 3 answer) (bitmapNumbers (cellOf cell) anchor other) answer
+
+unfoldable pub cause : List ℕ → List ℕ → List ℕ → ℕ → List ℕ → Reply
+cause cell anchor other t answer = replyOf (lacks 8 cell || lacks 2 answer) (causeNumbers (causeOf (cellOf cell) anchor other t)) answer
 
 -- ---- plan
 
@@ -86,14 +89,14 @@ backwardAck grant slot l k answer =
 
 unfoldable pub backwardDown : List ℕ → List ℕ → List ℕ → List ℕ → ℕ → ℕ → ℕ → ℕ → List ℕ → Reply
 backwardDown cell anchor other grant t slot l k answer =
-    replyOf (lacks 8 cell || (lacks 5 grant || lacks 5 answer))
-    (backNumbers (down.backwardOf (cellOf cell) anchor other (downGrantOf grant) t slot l k))
+    replyOf (lacks 8 cell || (lacks 5 grant || lacks 6 answer))
+    (downBackNumbers (down.backwardOf (cellOf cell) anchor other (downGrantOf grant) t slot l k))
     answer
 
 unfoldable pub backwardControl : List ℕ → List ℕ → List ℕ → List ℕ → ℕ → ℕ → ℕ → ℕ → List ℕ → Reply
 backwardControl cell anchor other grant t slot l k answer =
-    replyOf (lacks 8 cell || (lacks 4 grant || lacks 5 answer))
-    (backNumbers (control.backwardOf (cellOf cell) anchor other (controlGrantOf grant) t slot l k))
+    replyOf (lacks 8 cell || (lacks 4 grant || lacks 6 answer))
+    (downBackNumbers (control.backwardOf (cellOf cell) anchor other (controlGrantOf grant) t slot l k))
     answer
 
 -- ---- step

@@ -41,6 +41,26 @@ pub extern "C" fn nbiot_bitmap<'a>(
     buffers::put3(answer, 0, c.carrier, part.len() as u64)
 }
 
+// Why subframe t is not usable.
+#[no_mangle]
+pub extern "C" fn nbiot_cause(
+    cell: &[u64],
+    anchor: &[u8],
+    other: &[u8],
+    t: u64,
+    answer: &mut [u64],
+) -> u64
+    ensures { λ r. ⌜ (r ≡ calls.cause (now (cell .entry)) (now (anchor .entry)) (now (other .entry)) t (now (answer .entry)) .number) × (now (answer .exit) ≡ calls.cause (now (cell .entry)) (now (anchor .entry)) (now (other .entry)) t (now (answer .entry)) .answer) ⌝ }
+{
+    if buffers::short2(8, 2, cell.len(), answer.len()) {
+        return TOO_SHORT;
+    }
+    let a = nbiot::cause(buffers::cell_of(cell), anchor, other, t);
+    let cause = a.cause;
+    let number = cell::number(cause);
+    buffers::put2(answer, a.no, number)
+}
+
 // First and last slot, copies, places, size and order.
 #[no_mangle]
 pub extern "C" fn nbiot_plan_up(grant: &[u64], answer: &mut [u64]) -> u64
@@ -191,7 +211,7 @@ pub extern "C" fn nbiot_backward_ack(
     buffers::put5(answer, a.no, a.ours, a.symbol, a.position, a.kind)
 }
 
-// What stands at symbol l and subcarrier k of a slot of subframe t.
+// What stands at symbol l and subcarrier k of a slot of subframe t, and why the subframe was skipped.
 #[no_mangle]
 pub extern "C" fn nbiot_backward_down(
     cell: &[u64],
@@ -206,7 +226,7 @@ pub extern "C" fn nbiot_backward_down(
 ) -> u64
     ensures { λ r. ⌜ (r ≡ calls.backwardDown (now (cell .entry)) (now (anchor .entry)) (now (other .entry)) (now (grant .entry)) t slot l k (now (answer .entry)) .number) × (now (answer .exit) ≡ calls.backwardDown (now (cell .entry)) (now (anchor .entry)) (now (other .entry)) (now (grant .entry)) t slot l k (now (answer .entry)) .answer) ⌝ }
 {
-    if buffers::short3(8, 5, 5, cell.len(), grant.len(), answer.len()) {
+    if buffers::short3(8, 5, 6, cell.len(), grant.len(), answer.len()) {
         return TOO_SHORT;
     }
     let a = nbiot::backward_down(
@@ -219,10 +239,20 @@ pub extern "C" fn nbiot_backward_down(
         l,
         k,
     );
-    buffers::put5(answer, a.no, a.ours, a.symbol, a.position, a.kind)
+    let cause = a.cause;
+    let number = cell::number(cause);
+    buffers::put6(
+        answer,
+        a.back.no,
+        a.back.ours,
+        a.back.symbol,
+        a.back.position,
+        a.back.kind,
+        number,
+    )
 }
 
-// What stands at symbol l and subcarrier k of a slot of subframe t.
+// What stands at symbol l and subcarrier k of a slot of subframe t, and why the subframe was skipped.
 #[no_mangle]
 pub extern "C" fn nbiot_backward_control(
     cell: &[u64],
@@ -237,7 +267,7 @@ pub extern "C" fn nbiot_backward_control(
 ) -> u64
     ensures { λ r. ⌜ (r ≡ calls.backwardControl (now (cell .entry)) (now (anchor .entry)) (now (other .entry)) (now (grant .entry)) t slot l k (now (answer .entry)) .number) × (now (answer .exit) ≡ calls.backwardControl (now (cell .entry)) (now (anchor .entry)) (now (other .entry)) (now (grant .entry)) t slot l k (now (answer .entry)) .answer) ⌝ }
 {
-    if buffers::short3(8, 4, 5, cell.len(), grant.len(), answer.len()) {
+    if buffers::short3(8, 4, 6, cell.len(), grant.len(), answer.len()) {
         return TOO_SHORT;
     }
     let a = nbiot::backward_control(
@@ -250,7 +280,17 @@ pub extern "C" fn nbiot_backward_control(
         l,
         k,
     );
-    buffers::put5(answer, a.no, a.ours, a.symbol, a.position, a.kind)
+    let cause = a.cause;
+    let number = cell::number(cause);
+    buffers::put6(
+        answer,
+        a.back.no,
+        a.back.ours,
+        a.back.symbol,
+        a.back.position,
+        a.back.kind,
+        number,
+    )
 }
 
 // One step of a walk: the answer at its position, which moves on.

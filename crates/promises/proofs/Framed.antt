@@ -26,11 +26,11 @@ use Rattle.subframes.specs.declared.Burst.{Burst}
 use Rattle.subframes.specs.Fits.{Fits}
 use Rattle.subframes.specs.Cells.{layoutOf, questionRefusal}
 use Rattle.subframes.specs.Mapping.{firstOf, sendingOf, places}
-use Rattle.subframes.specs.Answers.{burstPlan, burstForward, burstBackward, planAnswer, forwardAnswer, backwardAnswer}
+use Rattle.subframes.specs.Answers.{burstPlan, burstForward, burstBackward, planAnswer, forwardAnswer, backwardAnswer, backAnswer}
 use Rattle.subframes.proofs.Lawfulness.{burst-sound}
 use Rattle.subframes.proofs.Judging.{accepted-cell}
 use Rattle.promises.specs.Demand.{firstBy, Forward, Answers, Granted, Demand}
-use Rattle.promises.specs.Grids.{SubframePlace, downlinkGrid, downlinkAnswers}
+use Rattle.promises.specs.Grids.{SubframePlace, downlinkGrid, downlinkColumns, downlinkAnswers}
 use Rattle.promises.specs.Promises.{takes, withholds, Clear, DownlinkDemand, bitmapOf}
 use Rattle.promises.proofs.Bridge.{Numbered, Read, demand}
 use Rattle.promises.proofs.Repeating.{usable-again, usable-some}
@@ -65,7 +65,11 @@ downlink-numbered = record {
 
 module _ (u : ℕ → Bool) (P : ℕ) (b : Burst) where
   abbrev burstAnswers : Answers SubframePlace
-  burstAnswers = downlinkAnswers (burstPlan u P b) (burstForward u P b) (burstBackward u P b)
+  burstAnswers = record {
+    places = burstPlan u P b .places;
+    forward = λ p. downlinkColumns (burstForward u P b p);
+    backward = λ x. burstBackward u P b (x .t) (x .slot) (x .l) (x .k);
+  }
 
   module _ (f : Fits b) where
     some-used : 0 < countOf (b .layout) (b .low) (b .width)
@@ -93,9 +97,10 @@ module _ (u : ℕ → Bool) (P : ℕ) (b : Burst) where
         by (yes z) = z
         by (no n) = rw (ne-eqb refusal 0 n) at e
 
-    answers-are : refusal ≡ 0 → burstAnswers ≡ downlinkAnswers (planAnswer refusal u P b) (forwardAnswer refusal u P b) (backwardAnswer refusal u P b)
-    unfolding planAnswer forwardAnswer backwardAnswer
-    answers-are e = rw (eq-eqb refusal 0 e) refl
+    answers-are : (why : ℕ → Cause) → refusal ≡ 0
+        → burstAnswers ≡ downlinkAnswers (planAnswer refusal u P b) (forwardAnswer refusal u P b) (backAnswer refusal u P b why)
+    unfolding planAnswer forwardAnswer backwardAnswer backAnswer
+    answers-are why e = rw (eq-eqb refusal 0 e) refl
 
 -- ---- a burst of a cell
 
@@ -155,7 +160,7 @@ module _ (c : Cell) (anchor other : List ℕ) (grant : ℕ) (b : Burst) (fit : W
 
     pub question-demand : planAnswer refusal u period b .no ≡ 0
         → DownlinkDemand c (bitmapOf c anchor other) granted
-        (downlinkAnswers (planAnswer refusal u period b) (forwardAnswer refusal u period b) (backwardAnswer refusal u period b))
+        (downlinkAnswers (planAnswer refusal u period b) (forwardAnswer refusal u period b) (backAnswer refusal u period b (why c (bitmapOf c anchor other))))
     question-demand h =
         let e : refusal ≡ 0 = accepted u period b refusal h in
-        subst (DownlinkDemand c (bitmapOf c anchor other) granted) (answers-are u period b refusal e) (burst-demand e)
+        subst (DownlinkDemand c (bitmapOf c anchor other) granted) (answers-are u period b refusal (why c (bitmapOf c anchor other)) e) (burst-demand e)

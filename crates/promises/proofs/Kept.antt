@@ -1,4 +1,4 @@
--- DEMAND 3 IS KEPT: for every kind of grant.
+-- DEMAND 3 IS KEPT: for every kind of grant. And backward hands on the cause.
 use mathlib.Core.Bool.{and-true}
 use mathlib.Core.Path.{_≡_, refl, sym, ap}
 use Prim.Native.Nat.{ℕ, _*_}
@@ -21,6 +21,7 @@ use Rattle.control.proofs.Accepting as npdcch-accepting
 use Rattle.promises.specs.Promises.{eligibleCount, Promises}
 use Rattle.promises.proofs.Slotted.{uplink-demand, ack-demand}
 use Rattle.promises.proofs.Framed.{question-demand}
+use Rattle.promises.proofs.Handed.{hands-on}
 
 -- on all subcarriers each eligible element is used
 all-used : (g : Layout) → rank (eligible g) elements ≡ countOf g 0 subcarriers
@@ -40,4 +41,6 @@ kept = record {
       (ap (λ (n : ℕ). entry lengths (g .subframes) * n) (all-used (layoutOf c))) h;
   control = λ c anchor other g h.
       question-demand c anchor other (npdcch-refusals.grantRefusal g) (npdcch.burstOf c g) (npdcch-accepting.burst-fits c g) refl (g .r) _ refl (sym (one-mul _)) h;
+  downlinkCause = λ c anchor other g. hands-on c anchor other (npdsch-refusals.grantRefusal g) (npdsch.burstOf c g);
+  controlCause = λ c anchor other g. hands-on c anchor other (npdcch-refusals.grantRefusal g) (npdcch.burstOf c g);
 }

@@ -11,7 +11,7 @@ use Rattle.grid.specs.Grid.{subcarriers}
 use Rattle.grid.specs.Tables.{downlinkDelay, isRepetition}
 use Rattle.cell.specs.Bitmap.{bytesOf, listedLength, badBitmap, allowed}
 use Rattle.cell.specs.Usable.{period, why, usable}
-use Rattle.cell.specs.Judge.{numbersRefusal, formRefusal, cellRefusal, judgeOf}
+use Rattle.cell.specs.Judge.{numbersRefusal, formRefusal, useRefusal, cellRefusal, judgeOf}
 use Rattle.cell.proofs.Cases as cell
 use Rattle.elements.specs.Elements.{nrs, crs, eligible, used, countOf}
 use Rattle.subframes.specs.declared.Burst.{Burst}
@@ -83,20 +83,20 @@ abbrev at : ℕ → DownlinkPlace
 at p = forwardAnswer (questionRefusal (standalone 0 1) [] [] 0) (usable (standalone 0 1) []) period (eight 0) p
 
 subframes-sent : map (λ i. at (i * elementsOf (standalone 0 1)) .t) (0 ∷ 1 ∷ 2 ∷ 3 ∷ 4 ∷ 5 ∷ 6 ∷ 7 ∷ []) ≡ 21 ∷ 22 ∷ 23 ∷ 26 ∷ 27 ∷ 28 ∷ 31 ∷ 32 ∷ []
-unfolding rank count next select amongFirst nrs crs eligible used allowed why bytesOf listedLength badBitmap numbersRefusal formRefusal cellRefusal judgeOf questionRefusal burstForward forwardAnswer
+unfolding rank count next select amongFirst nrs crs eligible used allowed why bytesOf listedLength badBitmap numbersRefusal formRefusal useRefusal cellRefusal judgeOf questionRefusal burstForward forwardAnswer
 subframes-sent = refl
 
 places : (at 60 ≡ record { no = 0; t = 21; slot = 0; l = 5; k = 1; symbol = 60 }) × (at 73 ≡ record { no = 0; t = 21; slot = 0; l = 6; k = 4; symbol = 73 })
-unfolding rank count next select amongFirst nrs crs eligible used allowed why bytesOf listedLength badBitmap numbersRefusal formRefusal cellRefusal judgeOf questionRefusal burstForward forwardAnswer
+unfolding rank count next select amongFirst nrs crs eligible used allowed why bytesOf listedLength badBitmap numbersRefusal formRefusal useRefusal cellRefusal judgeOf questionRefusal burstForward forwardAnswer
 places = (refl, refl)
 
 planned : planAnswer (questionRefusal (standalone 0 1) [] [] 0) (usable (standalone 0 1) []) period (eight 0)
     ≡ record { no = 0; first = 21; last = 32; copies = 1; places = 1280 }
-unfolding rank count next select nrs crs eligible used allowed why bytesOf listedLength badBitmap numbersRefusal formRefusal cellRefusal judgeOf questionRefusal burstPlan planAnswer
+unfolding rank count next select nrs crs eligible used allowed why bytesOf listedLength badBitmap numbersRefusal formRefusal useRefusal cellRefusal judgeOf questionRefusal burstPlan planAnswer
 planned = refl
 
 delayed : (planOf (standalone 0 1) [] [] (eightSubframes 1 64) .first ≡ 27) × (planOf (standalone 0 1) [] [] (eightSubframes 1 128) .first ≡ 43)
-unfolding rank count next select nrs crs eligible used allowed why bytesOf listedLength badBitmap numbersRefusal formRefusal cellRefusal judgeOf questionRefusal burstPlan planAnswer isRepetition fieldsRefusal grantRefusal downlinkDelay planOf
+unfolding rank count next select nrs crs eligible used allowed why bytesOf listedLength badBitmap numbersRefusal formRefusal useRefusal cellRefusal judgeOf questionRefusal burstPlan planAnswer isRepetition fieldsRefusal grantRefusal downlinkDelay planOf
 delayed = (refl, refl)
 
 pub cases : Cases
@@ -117,5 +117,7 @@ cases = record {
   p10-other = cell.cases .p10-other;
   p11-schedule-2 = cell.cases .p11-sixteen-copies;
   p11-schedule-1 = cell.cases .p11-eight-copies;
+  nothing-anchor = cell.cases .nothing-anchor;
+  nothing-other = cell.cases .nothing-other;
   acknowledgements = ack.ack-cases;
 }

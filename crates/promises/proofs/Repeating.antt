@@ -1,12 +1,11 @@
 -- All that makes a subframe usable repeats every 2,560 subframes, and an accepted cell has a usable one among them.
-use mathlib.Core.Bool.{Bool, true, false, cond, not, _&&_}
+use mathlib.Core.Bool.{Bool, true, false, not, _&&_}
 use mathlib.Core.List.{List}
 use mathlib.Core.Path.{_≡_, refl, sym, ap, ap₂, _∙_}
 use Prim.Native.Nat.{ℕ, _+_, _%_, _<_}
 use native.Mathlib.Omega.{arith}
 use borrow.Author.Tests.{eqb-false}
 use Rattle.counting.specs.Counting.{rank}
-use Rattle.counting.proofs.Facts.{passed, chained}
 use Rattle.counting.proofs.Period.{repeats-times}
 use Rattle.spans.specs.declared.Pattern.{Pattern}
 use Rattle.spans.specs.Pattern.{allows, periodOf}
@@ -14,11 +13,11 @@ use Rattle.spans.proofs.Laws.{repeats}
 use Rattle.cell.specs.declared.Cell.{Cell}
 use Rattle.cell.specs.Bitmap.{ownBuffer, bitmapIn, listedLength, allowed}
 use Rattle.cell.specs.Usable.{period, isAnchor, usable}
-use Rattle.cell.specs.Judge.{formRefusal, noneUsable, cellRefusal, judgeOf}
+use Rattle.cell.specs.Judge.{judgeOf}
 use Rattle.cell.specs.Quick.{anchorPattern}
 use Rattle.cell.proofs.Forty.{allowed-forty}
 use Rattle.cell.proofs.Taken.{taken, usable-is, anchor-regular, anchorTurns, anchor-whole, anchor-allows}
-use Rattle.cell.proofs.Accepted.{accepted-bitmap}
+use Rattle.cell.proofs.Accepted.{accepted-bitmap, accepted-some}
 use Rattle.cell.proofs.Judging.{positive}
 
 allowed-again : (b : List ℕ) (bits t : ℕ) → listedLength bits ≡ true → allowed b bits (t + period) ≡ allowed b bits t
@@ -48,9 +47,7 @@ module _ (c : Cell) (anchor other : List ℕ) (accepted : judgeOf c anchor other
       ∙ sym (usable-is c bitmap t)
 
   pub usable-some : 0 < rank (usable c bitmap) period
-  unfolding judgeOf cellRefusal
+  unfolding judgeOf
   usable-some =
-      let own : List ℕ = ownBuffer c anchor other in
       positive (rank (usable c bitmap) period)
-      (eqb-false (rank (usable c bitmap) period) 0
-      (passed (noneUsable c own) 8 0 (omega arith) (chained (formRefusal c own) (cond (noneUsable c own) 8 0) accepted .1) .0))
+      (eqb-false (rank (usable c bitmap) period) 0 (accepted-some c (ownBuffer c anchor other) accepted))

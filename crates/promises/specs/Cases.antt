@@ -1,4 +1,4 @@
--- The cases P1 to P11 of 01, and those of 02 L1, as one list. Each starts from the fields that 01 prints and speaks of the answers that the contracts cite.
+-- The cases P1 to P11 of 01, P10 and P11 as 02 L2 has them, and those of 02 L1, as one list. Each starts from the fields that 01 prints and speaks of the answers that the contracts cite.
 -- What a case leaves free is any number that is accepted; where it is typed in, a comment says so.
 use mathlib.Core.List.{List, [], _∷_, map}
 use mathlib.Core.Bool.{true}
@@ -74,6 +74,9 @@ zeroAndFive = 0x84 ∷ 0 ∷ []
 abbrev pub onlyFour : List ℕ
 onlyFour = 0x08 ∷ 0 ∷ 0 ∷ 0 ∷ 0 ∷ []
 
+abbrev pub nothing : List ℕ
+nothing = 0 ∷ 0 ∷ []
+
 pub record Cases : Type 0 where
   -- P1, for every identity
   pub p1-one-port : (identity : ℕ) → elementsOf (standalone identity 1) ≡ 160
@@ -97,10 +100,13 @@ pub record Cases : Type 0 where
   pub p9-73 : (rmax : ℕ) → isRepetition rmax ≡ true
       → forwardOf (standalone 0 1) [] [] (eightSubframes 0 rmax) 73 ≡ record { no = 0; t = 21; slot = 0; l = 6; k = 4; symbol = 73 }
   -- P10
-  pub p10-anchor : judgeOf (withBitmap 0 0 10) zeroAndFive [] ≡ 8
+  pub p10-anchor : judgeOf (withBitmap 0 0 10) zeroAndFive [] ≡ 18
   pub p10-other : judgeOf (withBitmap 1 0 10) [] zeroAndFive ≡ 0
   -- P11
-  pub p11-schedule-2 : judgeOf (withBitmap 0 2 40) onlyFour [] ≡ 8
+  pub p11-schedule-2 : judgeOf (withBitmap 0 2 40) onlyFour [] ≡ 18
   pub p11-schedule-1 : judgeOf (withBitmap 0 1 40) onlyFour [] ≡ 0
+  -- L2: 8 stays where the bitmap alone allows nothing
+  pub nothing-anchor : judgeOf (withBitmap 0 0 10) nothing [] ≡ 8
+  pub nothing-other : judgeOf (withBitmap 1 0 10) [] nothing ≡ 8
   -- L1
   pub acknowledgements : AckCases

@@ -1,8 +1,8 @@
--- DEMAND 3 of every accepted grant, on every cell and any buffers.
+-- DEMAND 3 of every accepted grant, on every cell and any buffers; and the cause that backward hands on, 02 L2.
 use mathlib.Core.Bool.{Bool, true, false}
 use mathlib.Core.List.{List}
 use mathlib.Core.Path.{_≡_}
-use Prim.Native.Nat.{ℕ, _*_, _<_}
+use Prim.Native.Nat.{ℕ, _*_, _≤_, _<_}
 use Rattle.counting.specs.Counting.{rank}
 use Rattle.grid.specs.Grid.{elements, uplinkSubcarriers}
 use Rattle.grid.specs.Tables.{entry, lengths, downlinkCopies, uplinkCopies}
@@ -11,8 +11,13 @@ use Rattle.cell.specs.declared.Cause.{Cause}
 use Rattle.cell.specs.declared.Cause.the-variants.{None, Npbch, Npss, Nsss, Sib1, Bitmap}
 use Rattle.cell.specs.Bitmap.{ownBuffer, bitmapIn}
 use Rattle.cell.specs.Usable.{period, why, usable}
+use Rattle.cell.specs.Judge.{causeOf}
 use Rattle.elements.specs.Elements.{reference, controlRegion, eligible, countOf, npdcchFrom, npdcchWidth}
 use Rattle.slots.specs.Mapping as slots
+use Rattle.sending.specs.Sending as sending
+use Rattle.sending.specs.Answer.{backOf}
+use Rattle.subframes.specs.declared.DownlinkPlan.{DownlinkPlan}
+use Rattle.subframes.specs.declared.DownlinkBack.{DownlinkBack}
 use Rattle.subframes.specs.Cells.{layoutOf}
 use Rattle.subframes.specs.Mapping as subframes
 use Rattle.uplink.specs.declared.UplinkGrant.{UplinkGrant}
@@ -61,6 +66,23 @@ pub record DownlinkDemand (c : Cell) (bitmap : List ℕ) (g : Granted) (a : Answ
   pub demand : Demand downlinkGrid g a
   -- 5. Every place is clear of what is not the grant's.
   pub clear : (p : ℕ) → p < a .places → Clear c bitmap (a .forward p .place)
+
+-- ---- the cause that backward hands on, of every question, refused ones too (their plan has first 0 and last 0)
+
+pub record HandsOn (c : Cell) (anchor other : List ℕ) (plan : DownlinkPlan) (backward : SubframePlace → DownlinkBack) : Type 0 where
+  -- Inside the grid and strictly between the first and the last subframe it is what the question of the cause answers.
+  pub between : (x : SubframePlace) → downlinkGrid .Inside x → plan .first < x .t → x .t < plan .last
+      → backward x .cause ≡ causeOf c anchor other (x .t) .cause
+  -- Elsewhere there is none.
+  pub early : (x : SubframePlace) → x .t ≤ plan .first → backward x .cause ≡ None
+  pub late : (x : SubframePlace) → plan .last ≤ x .t → backward x .cause ≡ None
+  pub outside : (x : SubframePlace) → (downlinkGrid .Inside x → ⊥) → backward x .cause ≡ None
+  -- Beside a cause stands: not refused, not ours, kind 0.
+  pub beside : (x : SubframePlace) → (backward x .cause ≡ None → ⊥) → backward x .back ≡ backOf (sending.other 0)
+
+-- backward by a place
+abbrev pub byPlace : (ℕ → ℕ → ℕ → ℕ → DownlinkBack) → SubframePlace → DownlinkBack
+byPlace backward x = backward (x .t) (x .slot) (x .l) (x .k)
 
 -- ---- what is granted: R and the codeword's symbols from fields, tables and the cell, and the sending
 
@@ -130,3 +152,8 @@ pub record Promises : Type 0 where
   pub control : (c : Cell) (anchor other : List ℕ) (g : ControlGrant) → npdcch.planOf c anchor other g .no ≡ 0
       → DownlinkDemand c (bitmapOf c anchor other) (controlGranted c (bitmapOf c anchor other) g)
       (downlinkAnswers (npdcch.planOf c anchor other g) (npdcch.forwardOf c anchor other g) (npdcch.backwardOf c anchor other g))
+  -- the cause, NPDSCH and NPDCCH
+  pub downlinkCause : (c : Cell) (anchor other : List ℕ) (g : DownlinkGrant)
+      → HandsOn c anchor other (npdsch.planOf c anchor other g) (byPlace (npdsch.backwardOf c anchor other g))
+  pub controlCause : (c : Cell) (anchor other : List ℕ) (g : ControlGrant)
+      → HandsOn c anchor other (npdcch.planOf c anchor other g) (byPlace (npdcch.backwardOf c anchor other g))

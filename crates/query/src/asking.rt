@@ -27,6 +27,17 @@ fn bitmap<'a>(v: &Values, anchor: &'a [u8], other: &'a [u8], out: &mut Page, at:
     answers::put_bitmap(no, nbiot::bitmap(c, anchor, other), out, at)
 }
 
+fn cause(v: &Values, anchor: &[u8], other: &[u8], out: &mut Page, at: usize) -> usize
+    requires { ⌜ at + 320 ≤ 65536 ⌝ }
+    ensures { λ r. ⌜ r ≤ at + 320 ⌝ }
+{
+    answers::put_cause(
+        nbiot::cause(questions::cell_of(v), anchor, other, v[T]),
+        out,
+        at,
+    )
+}
+
 fn plan(k: Kind, v: &Values, anchor: &[u8], other: &[u8], out: &mut Page, at: usize) -> usize
     requires { ⌜ at + 320 ≤ 65536 ⌝ }
     ensures { λ r. ⌜ r ≤ at + 320 ⌝ }
@@ -63,12 +74,20 @@ fn backward(k: Kind, v: &Values, anchor: &[u8], other: &[u8], out: &mut Page, at
     let slot = v[SLOT];
     let l = v[L];
     let s = v[K];
-    let x = match k {
-        Kind::Up => nbiot::backward_up(questions::uplink_grant(v), slot, l, s),
-        Kind::Ack => nbiot::backward_ack(questions::ack_grant(v), slot, l, s),
-        _ => either::backward(k, v, anchor, other, v[T], slot, l, s),
-    };
-    answers::put_back(x, out, at)
+    match k {
+        Kind::Up => {
+            let x = nbiot::backward_up(questions::uplink_grant(v), slot, l, s);
+            answers::put_back(x, out, at)
+        }
+        Kind::Ack => {
+            let x = nbiot::backward_ack(questions::ack_grant(v), slot, l, s);
+            answers::put_back(x, out, at)
+        }
+        _ => {
+            let x = either::backward(k, v, anchor, other, v[T], slot, l, s);
+            answers::put_downlink_back(x, out, at)
+        }
+    }
 }
 
 // The position after the step is kept.
@@ -159,6 +178,7 @@ pub fn ask<'a>(
         Question::Set => at,
         Question::Cell => answers::put_cell(nbiot::judge(questions::cell_of(v), a, b), out, at),
         Question::Bitmap => bitmap(v, a, b, out, at),
+        Question::Cause => cause(v, a, b, out, at),
         Question::Fill => fill(v, a, b, d, out, at),
         Question::Element => element(v, a, b, d, out, at),
         Question::Plan(k) => plan(k, v, a, b, out, at),

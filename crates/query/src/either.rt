@@ -1,7 +1,7 @@
 // The questions of a downlink grant of either kind. A kind of the uplink is taken as down.
 use questions::Kind;
 use questions::Values;
-use sending::Back;
+use subframes::DownlinkBack;
 use subframes::DownlinkPlace;
 use subframes::DownlinkPlan;
 
@@ -30,7 +30,7 @@ pub fn backward(
     slot: u64,
     l: u64,
     s: u64,
-) -> Back {
+) -> DownlinkBack {
     let c = questions::cell_of(v);
     match k {
         Kind::Control => nbiot::backward_control(

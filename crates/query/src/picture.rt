@@ -1,4 +1,4 @@
-// A picture of one transmitted subframe, drawn from what backward answers at each place of it.
+// A picture of one transmitted subframe, drawn from what backward answers at each place of it, and the subframes skipped after it.
 use crate::either;
 use questions::I;
 use questions::Kind;
@@ -8,6 +8,9 @@ use text::Page;
 use text::put;
 ghost use mathlib.Core.Path.{_≡_};
 ghost use Prim.Native.Nat.{_+_, _≤_};
+
+// No two usable subframes that follow each other are further apart than this.
+const FURTHEST: u64 = 200;
 
 // How many subframes a codeword has.
 fn codeword(k: Kind, v: &Values) -> u64 {
@@ -71,7 +74,7 @@ fn put_row(
     while i < 14 {
         let x = i as u64;
         let b = either::backward(k, v, anchor, other, t, x / 7, x % 7, subcarrier);
-        row[i] = mark(b, x < control);
+        row[i] = mark(b.back, x < control);
         i += 1;
     }
     put(out, at, &row)
@@ -99,6 +102,93 @@ fn put_rows(
     to
 }
 
+// The last subframe before the next one that is sent after t, number i; t itself where none is.
+fn last_skipped(
+    k: Kind,
+    v: &Values,
+    anchor: &[u8],
+    other: &[u8],
+    places: u64,
+    width: u64,
+    t: u64,
+) -> u64 {
+    let i = v[I];
+    if i >= places {
+        return t;
+    }
+    let p = first_position(places, width, i + 1);
+    let next = either::forward(k, v, anchor, other, p);
+    if next.t <= t {
+        return t;
+    }
+    next.t - 1
+}
+
+// The subframes after t up to the last, each with its cause.
+fn put_skips(
+    v: &Values,
+    anchor: &[u8],
+    other: &[u8],
+    t: u64,
+    last: u64,
+    out: &mut Page,
+    at: usize,
+) -> usize
+    requires { ⌜ at + 6408 ≤ 65536 ⌝ }
+    ensures { λ r. ⌜ r ≤ at + 6408 ⌝ }
+{
+    let c = questions::cell_of(v);
+    let mut to = put(out, at, b"skipped:");
+    let mut now = t;
+    let mut left = FURTHEST;
+    while left > 0 {
+        if now >= last {
+            return to;
+        }
+        now += 1;
+        let x = nbiot::cause(c, anchor, other, now);
+        let cause = x.cause;
+        to = answers::put_skipped(left == FURTHEST, now, cause, out, to);
+        left -= 1;
+    }
+    to
+}
+
+// The end of the line of skipped subframes.
+fn put_end(is_none: bool, out: &mut Page, at: usize) -> usize
+    requires { ⌜ at + 6 ≤ 65536 ⌝ }
+    ensures { λ r. ⌜ r ≤ at + 6 ⌝ }
+{
+    if is_none {
+        return put(out, at, b" none\n");
+    }
+    put(out, at, b"\n")
+}
+
+// The legend, the rows of subframe t, and what is skipped after it.
+fn put_drawn(
+    k: Kind,
+    v: &Values,
+    anchor: &[u8],
+    other: &[u8],
+    t: u64,
+    last: u64,
+    out: &mut Page,
+    at: usize,
+) -> usize
+    requires { ⌜ at + 8192 ≤ 65536 ⌝ }
+    ensures { λ r. ⌜ r ≤ at + 8192 ⌝ }
+{
+    let to = put(
+        out,
+        at,
+        b"o ours, N narrowband reference, C cell reference, # control region, . anything else\n",
+    );
+    let mid = put_rows(k, v, anchor, other, t, out, to);
+    let end = put_skips(v, anchor, other, t, last, out, mid);
+    put_end(t >= last, out, end)
+}
+
 pub fn put_picture(
     k: Kind,
     v: &Values,
@@ -107,8 +197,8 @@ pub fn put_picture(
     out: &mut Page,
     at: usize,
 ) -> usize
-    requires { ⌜ at + 640 ≤ 65536 ⌝ }
-    ensures { λ r. ⌜ r ≤ at + 640 ⌝ }
+    requires { ⌜ at + 16384 ≤ 65536 ⌝ }
+    ensures { λ r. ⌜ r ≤ at + 16384 ⌝ }
 {
     let a = either::plan(k, v, anchor, other);
     let width = quotient(quotient(a.places, a.copies), codeword(k, v));
@@ -117,10 +207,6 @@ pub fn put_picture(
     if place.no != 0 {
         return mid;
     }
-    let to = put(
-        out,
-        mid,
-        b"o ours, N narrowband reference, C cell reference, # control region, . anything else\n",
-    );
-    put_rows(k, v, anchor, other, place.t, out, to)
+    let last = last_skipped(k, v, anchor, other, a.places, width, place.t);
+    put_drawn(k, v, anchor, other, place.t, last, out, mid)
 }

@@ -17,10 +17,11 @@ pub const LONGEST: usize = 4096;
 const LARGEST_ROOM: u64 = 1024;
 
 // The questions that want no kind stand first.
-const QUESTIONS: [[u8; 10]; 10] = [
+const QUESTIONS: [[u8; 10]; 11] = [
     *b"set       ",
     *b"cell      ",
     *b"bitmap    ",
+    *b"cause     ",
     *b"fill      ",
     *b"element   ",
     *b"plan      ",
@@ -30,9 +31,9 @@ const QUESTIONS: [[u8; 10]; 10] = [
     *b"picture   ",
 ];
 
-const WITHOUT_KIND: usize = 5;
+const WITHOUT_KIND: usize = 6;
 
-const PICTURE: usize = 9;
+const PICTURE: usize = 10;
 
 // The kinds of the uplink stand first.
 const ACK: usize = 1;
@@ -57,6 +58,7 @@ pub enum Question {
     Set,
     Cell,
     Bitmap,
+    Cause,
     Fill,
     Element,
     Plan(Kind),
@@ -105,12 +107,13 @@ fn question_of(row: usize, kind: usize) -> Question {
         0 => Question::Set,
         1 => Question::Cell,
         2 => Question::Bitmap,
-        3 => Question::Fill,
-        4 => Question::Element,
-        5 => Question::Plan(kind_of(kind)),
-        6 => Question::Forward(kind_of(kind)),
-        7 => Question::Backward(kind_of(kind)),
-        8 => Question::Step(kind_of(kind)),
+        3 => Question::Cause,
+        4 => Question::Fill,
+        5 => Question::Element,
+        6 => Question::Plan(kind_of(kind)),
+        7 => Question::Forward(kind_of(kind)),
+        8 => Question::Backward(kind_of(kind)),
+        9 => Question::Step(kind_of(kind)),
         _ => Question::Picture(kind_of(kind)),
     }
 }

@@ -1,18 +1,18 @@
 -- A regular pattern: how many subframes it allows before any span, and that it repeats.
-use mathlib.Core.Bool.{Bool, true, false, cond, _&&_, _||_}
+use mathlib.Core.Bool.{Bool, true, false, cond, not, _&&_, _||_}
 use mathlib.Core.Path.{_≡_, refl, sym, ap, ap₂, _∙_, subst}
 use mathlib.Core.Logic.{_⊎_, inl, inr, ⊎-elim}
 use Prim.Native.Nat.{ℕ, zero, suc, _+_, _-_, _*_, _/_, _%_, _^_, _≤_, _<_}
 use native.Mathlib.Nat.{add-mod-right, add-comm, zero-add, mod-eq-of-lt, mod-lt, add-mul, zero-mul, mul-zero, mul-le-mul, pow-succ', div-add-mod', div-lt-iff-lt-mul}
 use native.Mathlib.Omega.{arith}
 use lib.Count.{ones, ones-step}
-use lib.Dec.{leb, eqb}
+use lib.Dec.{leb, ltb, eqb}
 use lib.Pow.{pow-mono}
 use mir.Val.{boolByte}
 use borrow.Author.Tests.{le-leb, lt-leb, lt-ltb, le-ltb, eq-eqb, ne-eqb}
 use Rattle.counting.specs.Counting.{rank, count, select, amongFirst, inRange}
 use Rattle.counting.specs.Bits.{bitAt, NthOne}
-use Rattle.counting.proofs.Facts.{order}
+use Rattle.counting.proofs.Facts.{order, truth}
 use Rattle.counting.proofs.Rank.{rank-zero, rank-suc, rank-le, rank-mono, rank-strict, rank-later, rank-same, count-between}
 use Rattle.counting.proofs.Range.{in-range, below-range, above-range, and-none, rank-before, rank-inside, rank-after}
 use Rattle.counting.proofs.Ones.{span-top, span-all, ones-above, one-below}
@@ -20,16 +20,16 @@ use Rattle.counting.proofs.Select.{nth-of, among-parts}
 use Rattle.counting.proofs.Period.{rank-split, rank-periods, repeats-times, select-is, is-select}
 use Rattle.spans.specs.declared.Pattern.{Pattern}
 use Rattle.spans.specs.declared.Found.{Found}
-use Rattle.spans.specs.declared.Found.the-variants.{At, Nothing}
-use Rattle.spans.specs.Pattern.{span, spansOf, maskBit, withSib1, maskAt, allows, periodOf, Regular, Landed, Picked, foundAt}
+use Rattle.spans.specs.declared.Found.the-variants.{At, Between, Nothing}
+use Rattle.spans.specs.Pattern.{span, spansOf, maskBit, withSib1, maskAt, allows, periodOf, Regular, Landed, Picked, amidst, foundAt}
 
 -- ---- a number has no ones only if it is 0
 
-ones-none : ones 0 ≡ 0
+pub ones-none : ones 0 ≡ 0
 unfolding ones
 ones-none = refl
 
-ones-some : (k m : ℕ) → m < 2 ^ k → 0 < m → 0 < ones m
+pub ones-some : (k m : ℕ) → m < 2 ^ k → 0 < m → 0 < ones m
 ones-some zero m h l = absurd (omega arith)
 ones-some (suc k) m h l =
     ⊎-elim (λ e. omega (arith, ones-step m, ones-some k (m / 2) (omega (arith, pow-succ' 2 k)) e)) (λ e. omega (arith, ones-step m)) (order 0 (m / 2))
@@ -336,64 +336,144 @@ module _ (p : Pattern) (ok : Regular p) where
           let z : eqb (p .sib1) 0 ≡ true = eq-eqb (p .sib1) 0 s in
           is _ (rw z (plain-by n (order 2 (p .log)) (order 0 (p .plain))))
 
-  -- ---- the index of a subframe among those that follow the skip-th from f on
+  -- ---- where a subframe stands to the K that follow the skip-th from f on
 
   module _ (some : 0 < rank (allows p) (periodOf p)) (f skip K t : ℕ) where
     abbrev start : ℕ
     start = select (allows p) (periodOf p) f skip
 
+    -- the first and the last of them
+    abbrev first : ℕ
+    first = select (allows p) (periodOf p) start 0
+
+    abbrev last : ℕ
+    last = select (allows p) (periodOf p) start (K - 1)
+
     start-rank : rank (allows p) start ≡ rank (allows p) f + skip
     start-rank = select-is (allows p) (periodOf p) repeats some f skip .before
 
-    early-is : t < start → foundAt p start K t ≡ Nothing
-    unfolding foundAt amongFirst
-    early-is h = simp (lt-leb start t h)
+    first-is : (start ≤ first) × (allows p first ≡ true) × (rank (allows p) first ≡ rank (allows p) f + skip)
+    first-is =
+        let n = select-is (allows p) (periodOf p) repeats some start 0 in
+        (n .late, n .passes, omega (arith, n .before, start-rank))
+
+    last-is : (allows p last ≡ true) × (rank (allows p) last ≡ rank (allows p) f + skip + (K - 1))
+    last-is =
+        let n = select-is (allows p) (periodOf p) repeats some start (K - 1) in
+        (n .passes, omega (arith, n .before, start-rank))
+
+    -- before the first, or past the last
+    neither : amongFirst (allows p) start K t ≡ false → (amidst p start K t ≡ false) → Nothing ≡ foundAt p start K t
+    unfolding foundAt
+    neither n m = simp (n, m, and-none (not (allows p t)))
+
+    not-early : t ≤ first → amidst p start K t ≡ false
+    not-early h = simp (le-ltb first t h)
+
+    not-late : last ≤ t → amidst p start K t ≡ false
+    not-late h = simp (le-ltb t last h, and-none (ltb first t))
+
+    early-is : t < start → Nothing ≡ foundAt p start K t
+    unfolding amongFirst
+    early-is h = neither (simp (lt-leb start t h)) (not-early (omega (arith, first-is .0)))
 
     pub early : t < f → Nothing ≡ foundAt p start K t
-    early h = sym (early-is (omega (arith, select-is (allows p) (periodOf p) repeats some f skip .late)))
+    early h = early-is (omega (arith, select-is (allows p) (periodOf p) repeats some f skip .late))
 
-    pub unusable : allows p t ≡ false → Nothing ≡ foundAt p start K t
-    unfolding foundAt amongFirst
-    unusable n = simp (n, and-none (leb start t))
-
-    module _ (a b : ℕ) (ha : a ≡ rank (allows p) t) (hb : b ≡ rank (allows p) f) (y : allows p t ≡ true) where
+    module _ (a b : ℕ) (ha : a ≡ rank (allows p) t) (hb : b ≡ rank (allows p) f) where
       pub skipped : a - b < skip → Nothing ≡ foundAt p start K t
-      skipped h = sym (early-is (rank-later (allows p) t start (omega (arith, start-rank))))
+      skipped h = early-is (rank-later (allows p) t start (omega (arith, start-rank)))
 
       module _ (h : f ≤ t) (l : skip ≤ a - b) where
-        reached : start ≤ t
-        reached =
-            ⊎-elim (λ w. absurd (omega (arith, rank-strict (allows p) t start y w, start-rank, rank-mono (allows p) f t h))) (λ w. w) (order t start)
+        after : rank (allows p) f ≤ rank (allows p) t
+        after = rank-mono (allows p) f t h
 
-        index : a - b - skip ≡ count (allows p) start (t - start)
-        index = omega (arith, count-between (allows p) start t reached, start-rank)
+        reached : allows p t ≡ true → start ≤ t
+        reached y = ⊎-elim (λ w. absurd (omega (arith, rank-strict (allows p) t start y w, start-rank, after))) (λ w. w) (order t start)
 
-        pub found : a - b - skip < K → At (a - b - skip) ≡ foundAt p start K t
+        index : allows p t ≡ true → a - b - skip ≡ count (allows p) start (t - start)
+        index y = omega (arith, count-between (allows p) start t (reached y), start-rank)
+
+        pub found : allows p t ≡ true → a - b - skip < K → At (a - b - skip) ≡ foundAt p start K t
         unfolding foundAt amongFirst
-        found w = simp (le-leb start t reached, y, ← index, lt-ltb (a - b - skip) K w)
+        found y w = simp (le-leb start t (reached y), y, ← index y, lt-ltb (a - b - skip) K w)
+
+        absent : allows p t ≡ false → amongFirst (allows p) start K t ≡ false
+        unfolding amongFirst
+        absent n = simp (n, and-none (leb start t))
+
+        beyond : K ≤ a - b - skip → (allows p t ≡ true) ⊎ (allows p t ≡ false) → amongFirst (allows p) start K t ≡ false
+        unfolding amongFirst
+        beyond w (inl y) = simp (le-leb start t (reached y), y, ← index y, le-ltb (a - b - skip) K w)
+        beyond w (inr n) = absent n
 
         pub past : K ≤ a - b - skip → Nothing ≡ foundAt p start K t
-        unfolding foundAt amongFirst
-        past w = simp (le-leb start t reached, y, ← index, le-ltb (a - b - skip) K w)
+        past w = neither (beyond w (truth (allows p t))) (⊎-elim (λ v. not-early (alone v (order 0 K))) not-late (order t last))
+          where
+            -- only a run of none has its last one behind t
+            alone : t < last → (0 < K) ⊎ (K ≤ 0) → t ≤ first
+            alone v (inl k) = absurd (omega (arith, rank-mono (allows p) t last (omega arith), last-is .1, after))
+            alone v (inr k) =
+                let e : K - 1 ≡ 0 = omega arith in
+                omega (arith, ap (select (allows p) (periodOf p) start) e)
 
--- ---- what an index found says, and one not found
+        pub ahead : allows p t ≡ false → a - b - skip ≡ 0 → Nothing ≡ foundAt p start K t
+        ahead n w =
+            neither (absent n)
+            (not-early (⊎-elim (λ v. absurd (omega (arith, rank-strict (allows p) first t (first-is .1) v, first-is .2, after))) (λ v. v) (order first t)))
+
+        pub amid : allows p t ≡ false → a - b - skip < K → (a - b - skip ≡ 0 → ⊥) → Between ≡ foundAt p start K t
+        unfolding foundAt
+        amid n w z = simp (absent n, n, lt-ltb first t (rank-later (allows p) first t (past-first (order 0 (a - b - skip)))), lt-ltb t last (below (order t last)))
+          where
+            past-first : (0 < a - b - skip) ⊎ (a - b - skip ≤ 0) → rank (allows p) first < rank (allows p) t
+            past-first (inl v) = omega (arith, first-is .2)
+            past-first (inr v) = absurd (z (omega arith))
+
+            differ : t ≡ last → ⊥
+            differ e =
+                let o : _≡_ {A = ℕ} 1 0 = ap boolByte (sym (last-is .0) ∙ ap (allows p) (sym e) ∙ n) in
+                omega arith
+
+            below : (t < last) ⊎ (last ≤ t) → t < last
+            below (inl v) = v
+            below (inr v) = absurd (⊎-elim (λ x. omega (arith, rank-strict (allows p) last t (last-is .0) x, last-is .1)) (λ x. differ (omega arith)) (order last t))
+
+-- ---- what the search says
 
 module _ (p : Pattern) (f K t : ℕ) where
-  at-by : (b : Bool) (n i : ℕ) → cond b (At n) Nothing ≡ At i → (b ≡ true) × (n ≡ i)
-  at-by true n i h = (refl, cc)
-  at-by false n i h = let z : _≡_ {A = ℕ} 0 1 = cc in absurd (omega arith)
+  abbrev shown : Bool → Bool → ℕ → Found
+  shown b m n = cond b (At n) (cond m Between Nothing)
 
-  nothing-by : (b : Bool) (n : ℕ) → cond b (At n) Nothing ≡ Nothing → b ≡ false
-  nothing-by true n h = let z : _≡_ {A = ℕ} 0 1 = cc in absurd (omega arith)
-  nothing-by false n h = refl
+  at-by : (b m : Bool) (n i : ℕ) → shown b m n ≡ At i → (b ≡ true) × (n ≡ i)
+  at-by true m n i h = (refl, cc)
+  at-by false true n i h = let z : _≡_ {A = ℕ} 0 1 = cc in absurd (omega arith)
+  at-by false false n i h = let z : _≡_ {A = ℕ} 0 1 = cc in absurd (omega arith)
+
+  between-by : (b m : Bool) (n : ℕ) → shown b m n ≡ Between → (b ≡ false) × (m ≡ true)
+  between-by true m n h = let z : _≡_ {A = ℕ} 0 1 = cc in absurd (omega arith)
+  between-by false true n h = (refl, refl)
+  between-by false false n h = let z : _≡_ {A = ℕ} 0 1 = cc in absurd (omega arith)
+
+  nothing-by : (b m : Bool) (n : ℕ) → shown b m n ≡ Nothing → (b ≡ false) × (m ≡ false)
+  nothing-by true m n h = let z : _≡_ {A = ℕ} 0 1 = cc in absurd (omega arith)
+  nothing-by false true n h = let z : _≡_ {A = ℕ} 0 1 = cc in absurd (omega arith)
+  nothing-by false false n h = (refl, refl)
+
+  abbrev missed : Bool
+  missed = not (allows p t) && amidst p f K t
 
   pub at-index : (i : ℕ) → foundAt p f K t ≡ At i → (amongFirst (allows p) f K t ≡ true) × (count (allows p) f (t - f) ≡ i)
   unfolding foundAt
-  at-index i h = at-by (amongFirst (allows p) f K t) (count (allows p) f (t - f)) i h
+  at-index i h = at-by (amongFirst (allows p) f K t) missed (count (allows p) f (t - f)) i h
 
   pub at-below : (i : ℕ) → foundAt p f K t ≡ At i → i < K
   at-below i h = omega (arith, at-index i h .1, among-parts (allows p) f K t (at-index i h .0) .2)
 
-  pub at-nothing : foundAt p f K t ≡ Nothing → amongFirst (allows p) f K t ≡ false
+  pub at-between : foundAt p f K t ≡ Between → (amongFirst (allows p) f K t ≡ false) × ((not (allows p t) && amidst p f K t) ≡ true)
   unfolding foundAt
-  at-nothing h = nothing-by (amongFirst (allows p) f K t) (count (allows p) f (t - f)) h
+  at-between h = between-by (amongFirst (allows p) f K t) missed (count (allows p) f (t - f)) h
+
+  pub at-nothing : foundAt p f K t ≡ Nothing → (amongFirst (allows p) f K t ≡ false) × ((not (allows p t) && amidst p f K t) ≡ false)
+  unfolding foundAt
+  at-nothing h = nothing-by (amongFirst (allows p) f K t) missed (count (allows p) f (t - f)) h

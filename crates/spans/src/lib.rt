@@ -22,9 +22,10 @@ pub struct Ends {
     pub last: u64,
 }
 
-// The index of a subframe among those that are sent.
+// Where a subframe stands to a run of allowed ones: its index in it, not allowed but between the first and the last, or neither.
 pub enum Found {
     At(u64),
+    Between,
     Nothing,
 }
 
@@ -165,7 +166,7 @@ pub fn first_and_last(p: Pattern, from: u64, j: u64, more: u64) -> Ends
     Ends { first, last }
 }
 
-// The index of subframe t among the first `many` allowed ones that follow the `skip`-th from a given one on.
+// Where subframe t stands to the first `many` allowed ones that follow the `skip`-th from a given one on.
 pub fn locate(p: Pattern, from: u64, skip: u64, many: u64, t: u64) -> Found
     requires { ⌜ Regular p × (0 < rank (allows p) (periodOf p)) ⌝ }
     ensures { λ r. ⌜ r ≡ foundAt p (select (allows p) (periodOf p) from skip) many t ⌝ }
@@ -173,16 +174,21 @@ pub fn locate(p: Pattern, from: u64, skip: u64, many: u64, t: u64) -> Found
     if t < from {
         return Found::Nothing;
     }
-    if is_allowed(p, t) {
-        let a = counting::ones_of(p.sib1);
-        let b = counting::ones_of(p.plain);
-        let i = rank_of(p, a, b, t) - rank_of(p, a, b, from);
-        if skip <= i {
-            let index = i - skip;
-            if index < many {
-                return Found::At(index);
-            }
-        }
+    let a = counting::ones_of(p.sib1);
+    let b = counting::ones_of(p.plain);
+    let i = rank_of(p, a, b, t) - rank_of(p, a, b, from);
+    if i < skip {
+        return Found::Nothing;
     }
-    Found::Nothing
+    let index = i - skip;
+    if index >= many {
+        return Found::Nothing;
+    }
+    if is_allowed(p, t) {
+        return Found::At(index);
+    }
+    if index == 0 {
+        return Found::Nothing;
+    }
+    Found::Between
 }

@@ -1,7 +1,7 @@
 -- What an accepted cell gives to its bursts, and that an answer over the cell's pattern is the answer over its usable subframes.
 use mathlib.Core.Bool.{Bool, true, false, cond}
 use mathlib.Core.List.{List}
-use mathlib.Core.Path.{_≡_, refl, sym, ap, ap₂, _∙_, subst}
+use mathlib.Core.Path.{_≡_, refl, sym, ap, ap₂, _∙_, subst, fun-ext}
 use mathlib.Core.Logic.{_⊎_, inl, inr, ⊎-elim}
 use Prim.Native.Nat.{ℕ, zero, suc, _+_, _%_, _≤_, _<_}
 use native.Mathlib.Omega.{arith}
@@ -10,18 +10,20 @@ use lib.Dec.{eqb}
 use borrow.Author.Tests.{eq-eqb, ne-eqb}
 use Rattle.counting.specs.Counting.{rank, select}
 use Rattle.cell.specs.declared.Cell.{Cell}
-use Rattle.cell.specs.Usable.{period, usable}
-use Rattle.cell.specs.Quick.{Shows}
+use Rattle.cell.specs.declared.Cause.{Cause}
+use Rattle.cell.specs.Usable.{period, why, usable}
+use Rattle.cell.specs.Quick.{Shows, seen}
 use Rattle.cell.proofs.Accepted.{WellFormed}
-use Rattle.cell.proofs.Showing.{same-test, select-usable}
+use Rattle.cell.proofs.Showing.{same-test, seen-is, select-usable}
 use Rattle.elements.specs.Elements.{Valid}
 use Rattle.spans.specs.declared.Pattern.{Pattern}
 use Rattle.spans.specs.Pattern.{allows, periodOf}
 use Rattle.subframes.specs.declared.Burst.{Burst}
 use Rattle.subframes.specs.declared.Ready.{Ready}
-use Rattle.subframes.specs.Answers.{refusedPlan, refusedPlace, burstPlan, burstForward, burstBackward, planAnswer, forwardAnswer, backwardAnswer}
+use Rattle.subframes.specs.Answers.{refusedPlan, refusedPlace, isBetween, burstPlan, burstForward, burstBackward, planAnswer, forwardAnswer, backwardAnswer, causeAnswer, backAnswer}
 use Rattle.subframes.specs.Quick.{ReadyFor}
 use Rattle.subframes.specs.Cells.{layoutOf}
+use Rattle.subframes.proofs.Skipped.{refused-told}
 
 pub layout-valid : (c : Cell) → WellFormed c → Valid (layoutOf c)
 layout-valid c w = record {
@@ -55,14 +57,14 @@ forward-refused : (p n : ℕ) → (n ≡ 0 → ⊥) → (u v : ℕ → Bool) (P 
 unfolding forwardAnswer
 forward-refused p n h u v P Q a d = simp (ne-eqb n 0 h)
 
-backward-free : (t slot l k : ℕ) (b : Burst) (u : ℕ → Bool) (P Q : ℕ) → Same u P Q → backwardAnswer 0 u P b t slot l k ≡ backwardAnswer 0 u Q b t slot l k
-unfolding backwardAnswer burstBackward
-backward-free t slot l k b u P Q e = simp e
+back-free : (w : ℕ → Cause) (t slot l k : ℕ) (b : Burst) (u : ℕ → Bool) (P Q : ℕ) → Same u P Q
+    → backAnswer 0 u P b w t slot l k ≡ backAnswer 0 u Q b w t slot l k
+unfolding backAnswer backwardAnswer burstBackward causeAnswer isBetween
+back-free w t slot l k b u P Q e = simp e
 
-backward-refused : (t slot l k n : ℕ) → (n ≡ 0 → ⊥) → (u v : ℕ → Bool) (P Q : ℕ) (a d : Burst)
-    → backwardAnswer n u P a t slot l k ≡ backwardAnswer n v Q d t slot l k
-unfolding backwardAnswer
-backward-refused t slot l k n h u v P Q a d = simp (ne-eqb n 0 h)
+back-refused : (w z : ℕ → Cause) (t slot l k n : ℕ) → (n ≡ 0 → ⊥) → (u v : ℕ → Bool) (P Q : ℕ) (a d : Burst)
+    → backAnswer n u P a w t slot l k ≡ backAnswer n v Q d z t slot l k
+back-refused w z t slot l k n h u v P Q a d = sym (refused-told u P a w t slot l k n h) ∙ refused-told v Q d z t slot l k n h
 
 module _ (c : Cell) (m : List ℕ) (refusal : ℕ) (b : Burst) (q : Ready) (p : Pattern) (r : ReadyFor c m refusal b q p) where
   -- an answer that reads the test and its select alone: f over a refusal, a test, a period and a burst
@@ -90,7 +92,18 @@ module _ (c : Cell) (m : List ℕ) (refusal : ℕ) (b : Burst) (q : Ready) (p : 
   pub forward-ready : (x : ℕ) → forwardAnswer (q .no) (allows p) (periodOf p) (q .burst) x ≡ forwardAnswer refusal (usable c m) period b x
   forward-ready x = answer-same (λ n u P d. forwardAnswer n u P d x) (forward-free x b) (forward-refused x)
 
-  pub backward-ready : (t slot l k : ℕ) → backwardAnswer (q .no) (allows p) (periodOf p) (q .burst) t slot l k
-      ≡ backwardAnswer refusal (usable c m) period b t slot l k
+  -- the cause by the pattern is the cell's; a refused question reads neither
+  cause-ready : (t slot l k : ℕ) → backAnswer (q .no) (allows p) (periodOf p) (q .burst) (seen c p) t slot l k
+      ≡ backAnswer (q .no) (allows p) (periodOf p) (q .burst) (why c m) t slot l k
+  cause-ready t slot l k = by (ℕ-discrete (q .no) 0)
+    where
+      by : Dec (q .no ≡ 0) → backAnswer (q .no) (allows p) (periodOf p) (q .burst) (seen c p) t slot l k
+          ≡ backAnswer (q .no) (allows p) (periodOf p) (q .burst) (why c m) t slot l k
+      by (yes e) = ap (λ (w : ℕ → Cause). backAnswer (q .no) (allows p) (periodOf p) (q .burst) w t slot l k) (fun-ext (seen-is c m p (r .shows e)))
+      by (no n) = back-refused (seen c p) (why c m) t slot l k (q .no) n (allows p) (allows p) (periodOf p) (periodOf p) (q .burst) (q .burst)
+
+  pub backward-ready : (t slot l k : ℕ) → backAnswer (q .no) (allows p) (periodOf p) (q .burst) (seen c p) t slot l k
+      ≡ backAnswer refusal (usable c m) period b (why c m) t slot l k
   backward-ready t slot l k =
-      answer-same (λ n u P d. backwardAnswer n u P d t slot l k) (backward-free t slot l k b) (backward-refused t slot l k)
+      cause-ready t slot l k
+      ∙ answer-same (λ n u P d. backAnswer n u P d (why c m) t slot l k) (back-free (why c m) t slot l k b) (back-refused (why c m) (why c m) t slot l k)

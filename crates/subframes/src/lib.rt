@@ -3,6 +3,8 @@ ghost use mathlib.Core.Path.{_≡_};
 ghost use Prim.Native.Nat.{_+_, _*_, _^_, _≤_, _<_};
 ghost use Rattle.counting.specs.Counting.{select};
 ghost use Rattle.spans.specs.Pattern.{allows, periodOf};
+ghost use Rattle.cell.specs.declared.Cause.the-variants as cause;
+ghost use Rattle.cell.specs.Quick.{seen};
 ghost use Rattle.elements.specs.Elements.{countOf};
 ghost use Rattle.grid.specs.Grid.{elements, slots, symbols, subcarriers, elementOf};
 ghost use Rattle.sending.specs.CopyOrder.{carried};
@@ -11,7 +13,8 @@ ghost use Rattle.subframes.specs.Fits.{Fits, Going};
 ghost use Rattle.subframes.specs.Quick.{standsIn, Answerable};
 ghost use Rattle.subframes.specs.Cells.{layoutOf, fieldsRefusal};
 ghost use Rattle.subframes.specs.Mapping.{sentSubframes};
-ghost use Rattle.subframes.specs.Answers.{refusedPlan, refusedPlace, placeOf, burstPlan, burstForward, burstBackward, planAnswer, forwardAnswer, backwardAnswer};
+ghost use Rattle.subframes.specs.Answers.{refusedPlan, refusedPlace, placeOf, burstPlan, burstForward, backAnswer, planAnswer, forwardAnswer};
+use cell::Cause;
 use cell::Cell;
 use elements::Layout;
 use elements::Standing;
@@ -56,6 +59,12 @@ pub struct DownlinkPlace {
     pub l: u64,
     pub k: u64,
     pub symbol: u64,
+}
+
+// Backward's answer, and for a subframe skipped between the first and the last one sent the cause.
+pub struct DownlinkBack {
+    pub back: Back,
+    pub cause: Cause,
 }
 
 fn refused_plan(no: u64) -> DownlinkPlan
@@ -191,19 +200,33 @@ fn in_sent(b: Burst, i: u64, slot: u64, l: u64, k: u64) -> Back
     }
 }
 
-// What stands at an element of subframe t.
-fn burst_backward(p: Pattern, b: Burst, t: u64, slot: u64, l: u64, k: u64) -> Back
+// An answer beside which there is no cause.
+fn plain(back: Back) -> DownlinkBack
+    ensures { λ r. ⌜ r ≡ record { back = back; cause = cause.None } ⌝ }
+{
+    DownlinkBack {
+        back,
+        cause: Cause::None,
+    }
+}
+
+// What stands at an element of subframe t; where it was skipped, why.
+fn burst_backward(c: Cell, p: Pattern, b: Burst, t: u64, slot: u64, l: u64, k: u64) -> DownlinkBack
     requires { ⌜ Going p × Fits b ⌝ }
-    ensures { λ r. ⌜ r ≡ burstBackward (allows p) (periodOf p) b t slot l k ⌝ }
+    ensures { λ r. ⌜ r ≡ backAnswer 0 (allows p) (periodOf p) b (seen c p) t slot l k ⌝ }
 {
     let inside = (slot < Grid::SLOTS) & ((l < Grid::SYMBOLS) & (k < Grid::SUBCARRIERS));
     if !inside {
-        return sending::refused(14);
+        return plain(sending::refused(14));
     }
     let found = spans::locate(p, b.from, b.skip, sent_subframes(b), t);
     match found {
-        Found::At(i) => in_sent(b, i, slot, l, k),
-        Found::Nothing => sending::other(0),
+        Found::At(i) => plain(in_sent(b, i, slot, l, k)),
+        Found::Between => DownlinkBack {
+            back: sending::other(0),
+            cause: cell::why_not(c, t),
+        },
+        Found::Nothing => plain(sending::other(0)),
     }
 }
 
@@ -283,13 +306,13 @@ pub fn forward(q: Ready, p: Pattern, position: u64) -> DownlinkPlace
     burst_forward(p, q.burst, position)
 }
 
-// Backward: the refusal, or what stands at an element of subframe t.
-pub fn backward(q: Ready, p: Pattern, t: u64, slot: u64, l: u64, k: u64) -> Back
+// Backward on cell c: the refusal, or what stands at an element of subframe t and why it was skipped.
+pub fn backward(q: Ready, c: Cell, p: Pattern, t: u64, slot: u64, l: u64, k: u64) -> DownlinkBack
     requires { ⌜ Answerable q p ⌝ }
-    ensures { λ r. ⌜ r ≡ backwardAnswer (q .no) (allows p) (periodOf p) (q .burst) t slot l k ⌝ }
+    ensures { λ r. ⌜ r ≡ backAnswer (q .no) (allows p) (periodOf p) (q .burst) (seen c p) t slot l k ⌝ }
 {
     if q.no != 0 {
-        return sending::refused(q.no);
+        return plain(sending::refused(q.no));
     }
-    burst_backward(p, q.burst, t, slot, l, k)
+    burst_backward(c, p, q.burst, t, slot, l, k)
 }

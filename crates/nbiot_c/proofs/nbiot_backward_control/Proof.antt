@@ -1,8 +1,9 @@
-use mathlib.Core.Path.{ap, _∙_}
+use mathlib.Core.Path.{_∙_}
 use borrow.Author.Needs.{needs}
-use Rattle.nbiot_c.specs.Buffers.{backNumbers}
+use Rattle.control.specs.Questions as control
+use Rattle.nbiot_c.specs.Buffers.{cellOf, controlGrantOf}
 use Rattle.nbiot_c.specs.Calls as calls
-use Rattle.nbiot_c.proofs.Replies.{unread, replied}
+use Rattle.nbiot_c.proofs.Replies.{unread, replied, back-with}
 use Rattle.nbiot_c.proofs.nbiot_backward_control.Statement.{statement}
 use Rattle.nbiot_c.proofs.nbiot_backward_control.Tie as tie
 
@@ -16,21 +17,25 @@ cell-fits c κs = c .before .short3 .ensures .first (c .if1 .left)
 grant-fits : tie.Need-control-grant-of-requires
 grant-fits c κs = c .before .before .short3 .ensures .middle (c .before .if1 .left)
 
-answer-fits : tie.Need-put5-requires
+answer-fits : tie.Need-put6-requires
 answer-fits c κs =
-    let e = c .before .before .before .before in
+    let e = c .before .before .before .before .before in
     e .before .short3 .ensures .last (e .if1 .left)
 
 returns-2 : tie.Need-returns-2
 unfolding calls.backwardControl
 returns-2 c =
     let put = c .before .before in
-    let asked = put .before .before in
+    let told = put .before .before in
+    let asked = told .before in
     let e = asked .before .before .before in
+    let a = e .before .before .before .before .before .before .before .args in
     replied _ (e .before .short3 .ensures .says) (e .if1 .left)
-    (ap backNumbers (asked .backward-control .ensures ∙ cc))
-    (put .put5 .ensures .0)
-    (put .put5 .ensures .1)
+    (back-with
+    {asked = control.backwardOf (cellOf (a .cell .now)) (a .anchor .now) (a .other .now) (controlGrantOf (a .grant .now)) (a .t) (a .slot) (a .l) (a .k)}
+    _ (told .number .ensures) (asked .backward-control .ensures ∙ cc))
+    (put .put6 .ensures .0)
+    (put .put6 .ensures .1)
 
 pub nbiot-backward-control-spec : {M : Type 1} → statement M
 nbiot-backward-control-spec =
@@ -41,6 +46,7 @@ nbiot-backward-control-spec =
     cell-fits
     grant-fits
     (λ c κs. search needs)
+    (λ c κs. tt)
     answer-fits
     (λ c. search needs)
     returns-2)

@@ -1,0 +1,13 @@
+use Rattle.cell.specs.Quick.{seen}
+use Rattle.cell.proofs.why.Statement.{statement}
+use Rattle.cell.proofs.why.Tie as tie
+
+pub why-spec : {M : Type 1} → statement M
+unfolding seen
+why-spec =
+    tie.close
+    (tie.spec
+    (λ c κs. c .pre)
+    (λ c. simp (← c .before .is-allowed .ensures, c .if1 .taken))
+    (λ c κs. tt)
+    (λ c. simp (← c .before .before .is-allowed .ensures, c .before .if1 .left, c .why-not .ensures)))
