@@ -21,6 +21,7 @@ static uint8_t bits[320];
 static uint64_t nothing(void) { return 0; }
 static uint64_t judge(void) { return nbiot_judge(CELL); }
 static uint64_t bitmap(void) { return nbiot_bitmap(CELL, ANSWER); }
+static uint64_t count(void) { return nbiot_count(CELL, ANSWER); }
 static uint64_t plan_up(void) { return nbiot_plan_up(up, 7, ANSWER); }
 static uint64_t plan_ack(void) { return nbiot_plan_ack(ack, 4, ANSWER); }
 static uint64_t plan_down(void) { return nbiot_plan_down(CELL, down, 5, ANSWER); }
@@ -87,7 +88,7 @@ static size_t depth(uint64_t (*question)(void), uint64_t *number) {
 
 int main(void) {
     static const struct { const char *name; uint64_t (*question)(void); } questions[] = {
-        {"judge", judge}, {"bitmap", bitmap}, {"plan up", plan_up}, {"plan ack", plan_ack}, {"plan down", plan_down}, {"plan control", plan_control},
+        {"judge", judge}, {"bitmap", bitmap}, {"count", count}, {"plan up", plan_up}, {"plan ack", plan_ack}, {"plan down", plan_down}, {"plan control", plan_control},
         {"forward up", forward_up}, {"forward ack", forward_ack}, {"forward down", forward_down}, {"forward control", forward_control},
         {"backward up", backward_up}, {"backward ack", backward_ack}, {"backward down", backward_down}, {"backward control", backward_control},
         {"step up", step_up}, {"step ack", step_ack}, {"step down", step_down}, {"step control", step_control}, {"fill", fill}, {"element", element},

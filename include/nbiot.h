@@ -132,6 +132,18 @@ enum {
     NBIOT_CAUSE_BITMAP = 6  /* withheld by the bitmap; 5 is kept for system information messages */
 };
 
+/* E: how many elements of a subframe are eligible. */
+enum {
+    NBIOT_COUNT_NO,
+    NBIOT_COUNT_E,
+    NBIOT_COUNT_NUMBERS
+};
+
+uint64_t nbiot_count(const uint64_t *cell, size_t cell_len,
+                     const uint8_t *anchor, size_t anchor_len,
+                     const uint8_t *other, size_t other_len,
+                     uint64_t *answer, size_t answer_len);
+
 /* The cause of subframe t, any t. */
 enum {
     NBIOT_SUBFRAME_NO,

@@ -11,6 +11,7 @@ mod uplink;
 
 pub use acknowledgement::{backward_ack, forward_ack, plan_ack, step_ack};
 pub use cell::{cause, judge};
+pub use elements::count;
 pub use downlink::{backward_control, backward_down, forward_control, forward_down, plan_control, plan_down, step_control, step_down};
 pub use fill::{element, fill};
 pub use uplink::{backward_up, forward_up, plan_up, step_up};

@@ -37,6 +37,7 @@ fn report(name: &str, ours: f64, fast: f64, agreed: usize, compared: usize) {
 pub fn table(timed: &mut [Scene], ported: &mut [Scene], compared: &mut [Scene]) {
     println!("| question | ours, ns | fast, ns | ours / fast | answers agree |\n|---|---|---|---|---|");
     judge(timed, compared);
+    count(timed, compared);
     cause(timed, compared);
     plans(timed, compared);
     forwards(timed, compared);
@@ -54,6 +55,14 @@ fn judge(timed: &mut [Scene], compared: &[Scene]) {
     );
     let same = |s: &&Scene| ours::judge(&s.cell, &s.anchor, &s.other) == fast::judge(&s.cell, &s.anchor, &s.other);
     report("judge", ns, fs, compared.iter().filter(same).count(), compared.len());
+}
+
+fn count(timed: &mut [Scene], compared: &mut [Scene]) {
+    line!(
+        "count", timed, compared, 2,
+        |s, a| ours::count(&s.cell, &s.anchor, &s.other, a),
+        fast::count(&s.cell, &s.anchor, &s.other)
+    );
 }
 
 fn cause(timed: &mut [Scene], compared: &mut [Scene]) {

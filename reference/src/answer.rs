@@ -21,6 +21,8 @@ pub enum Answer {
     Bitmap(Result<Vec<u8>, Refusal>),
     /// None for a usable subframe.
     Cause(Result<Option<Cause>, Refusal>),
+    /// E.
+    Count(Result<u64, Refusal>),
     Plan(Kind, Result<Plan, Refusal>),
     Forward(Kind, Result<Place, Refusal>),
     Backward(Kind, Result<Found, Refusal>),
@@ -78,6 +80,7 @@ impl Answerer {
             Question::Cell => Answer::Cell(self.values.cell.judge()),
             Question::Bitmap => Answer::Bitmap(self.bitmap()),
             Question::Cause => Answer::Cause(self.cause()),
+            Question::Count => Answer::Count(self.count()),
             Question::Plan(kind) => Answer::Plan(kind, self.plan(kind)),
             Question::Forward(kind) => Answer::Forward(kind, self.forward(kind)),
             Question::Backward(kind) => Answer::Backward(kind, self.backward(kind)),
@@ -118,6 +121,11 @@ impl Answerer {
     fn cause(&self) -> Result<Option<Cause>, Refusal> {
         self.values.cell.judge()?;
         Ok(self.values.cell.cause(self.values.t))
+    }
+
+    fn count(&self) -> Result<u64, Refusal> {
+        self.values.cell.judge()?;
+        Ok(elements::count(&self.values.cell))
     }
 
     fn plan(&mut self, kind: Kind) -> Result<Plan, Refusal> {

@@ -83,3 +83,8 @@ pub fn eligible(cell: &Cell) -> Vec<Element> {
     }
     list
 }
+
+/// E: the eligible elements, counted one by one.
+pub fn count(cell: &Cell) -> u64 {
+    eligible(cell).len() as u64
+}

@@ -48,9 +48,9 @@ fn passing_value(name: &str) -> &'static str {
 /// A question of a scene's kind, each with its share of a thousand.
 fn draw_question(random: &mut Random, kind: Kind) -> Question {
     let shares = match kind {
-        Kind::Down => [70, 170, 230, 80, 40, 30, 230, 25, 120, 5],
-        Kind::Control => [80, 220, 290, 120, 30, 25, 230, 0, 0, 5],
-        Kind::Up | Kind::Ack => [120, 300, 400, 180, 0, 0, 0, 0, 0, 0],
+        Kind::Down => [70, 160, 220, 80, 40, 30, 230, 20, 25, 120, 5],
+        Kind::Control => [80, 210, 280, 120, 30, 25, 230, 20, 0, 0, 5],
+        Kind::Up | Kind::Ack => [120, 300, 400, 180, 0, 0, 0, 0, 0, 0, 0],
     };
     let questions = [
         Question::Plan(kind),
@@ -60,6 +60,7 @@ fn draw_question(random: &mut Random, kind: Kind) -> Question {
         Question::Cell,
         Question::Bitmap,
         Question::Cause,
+        Question::Count,
         Question::Fill,
         Question::Element,
         Question::Picture(kind),
@@ -185,11 +186,11 @@ impl<W: Write> Generator<'_, W> {
         let random = &mut self.random;
         match question {
             Question::Set => Vec::new(),
-            Question::Cell | Question::Bitmap if random.chance(60) => {
+            Question::Cell | Question::Bitmap | Question::Count if random.chance(60) => {
                 let cell = draw_cell(random);
                 cell_words(random, &cell)
             }
-            Question::Cell | Question::Bitmap => Vec::new(),
+            Question::Cell | Question::Bitmap | Question::Count => Vec::new(),
             Question::Cause => {
                 let mut words = vec![("t", draw_subframe(random, scene).to_string())];
                 if random.chance(40) {

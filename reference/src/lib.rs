@@ -6,6 +6,7 @@ pub mod ack;
 pub mod aim;
 pub mod answer;
 pub mod cell;
+pub mod counts;
 pub mod downlink;
 pub mod elements;
 pub mod faults;

@@ -1,12 +1,13 @@
-//! `reference answer`, `reference generate SEED COUNT [--only "forward up"]`, `reference table`.
+//! `reference answer`, `reference generate SEED COUNT [--only "forward up"]`, `reference counts`, `reference table`.
 
 use reference::text::{read_line, Question, Values};
-use reference::{answer, generate, table};
+use reference::{answer, counts, generate, table};
 use std::io::{self, BufReader, BufWriter, Write};
 use std::process::ExitCode;
 
 const USAGE: &str = "usage: reference answer < questions
        reference generate SEED COUNT [--only \"QUESTION KIND\"]
+       reference counts
        reference table < questions";
 
 fn main() -> ExitCode {
@@ -32,6 +33,7 @@ fn run(words: &[&str]) -> io::Result<bool> {
     let mut out = BufWriter::with_capacity(1 << 16, io::stdout().lock());
     match words {
         ["answer"] => answer::answer_all(&mut input, &mut out)?,
+        ["counts"] => counts::write_counts(&mut out)?,
         ["table"] => {
             table::table_of(&mut input)?.write(&mut out)?;
             out.flush()?;

@@ -274,7 +274,7 @@ pub fn grant_words(grant: &Grant) -> Vec<Word> {
 
 /// Bits of the right length for a cell's codeword of so many subframes.
 pub fn data_word(random: &mut Random, cell: &Cell, subframes: u64) -> Word {
-    let symbols = subframes * elements::eligible(cell).len() as u64;
+    let symbols = subframes * elements::count(cell);
     let bytes = random.bytes(symbols.div_ceil(4) as usize);
     ("data", buffer(random, &bytes))
 }

@@ -51,7 +51,7 @@ const BAD_LEVELS: [u32; 20] = [
 pub fn numbers_of(question: Question) -> &'static [u64] {
     match question {
         Question::Set => &[],
-        Question::Cell | Question::Bitmap | Question::Cause => CELL,
+        Question::Cell | Question::Bitmap | Question::Cause | Question::Count => CELL,
         Question::Plan(Kind::Up) => PLAN_UP,
         Question::Plan(Kind::Ack) => PLAN_ACK,
         Question::Plan(_) => PLAN,

@@ -43,6 +43,7 @@ pub enum Question {
     Cell,
     Bitmap,
     Cause,
+    Count,
     Plan(Kind),
     Forward(Kind),
     Backward(Kind),
@@ -55,7 +56,12 @@ pub enum Question {
 impl Question {
     /// Every question but `set`.
     pub fn all() -> Vec<Question> {
-        let mut list = vec![Question::Cell, Question::Bitmap, Question::Cause];
+        let mut list = vec![
+            Question::Cell,
+            Question::Bitmap,
+            Question::Cause,
+            Question::Count,
+        ];
         for make in [
             Question::Plan,
             Question::Forward,
@@ -88,6 +94,7 @@ impl Question {
             Question::Cell => "cell",
             Question::Bitmap => "bitmap",
             Question::Cause => "cause",
+            Question::Count => "count",
             Question::Plan(_) => "plan",
             Question::Forward(_) => "forward",
             Question::Backward(_) => "backward",
@@ -403,6 +410,7 @@ fn without_kind(word: &[u8]) -> Option<Question> {
         b"cell" => Some(Question::Cell),
         b"bitmap" => Some(Question::Bitmap),
         b"cause" => Some(Question::Cause),
+        b"count" => Some(Question::Count),
         b"fill" => Some(Question::Fill),
         b"element" => Some(Question::Element),
         _ => None,

@@ -34,6 +34,7 @@ impl Answer {
             Answer::Cell(_) => Question::Cell,
             Answer::Bitmap(_) => Question::Bitmap,
             Answer::Cause(_) => Question::Cause,
+            Answer::Count(_) => Question::Count,
             Answer::Plan(kind, _) => Question::Plan(*kind),
             Answer::Forward(kind, _) => Question::Forward(*kind),
             Answer::Backward(kind, _) => Question::Backward(*kind),
@@ -51,6 +52,7 @@ impl Answer {
             Answer::Cell(a) => Some(split(a).0),
             Answer::Bitmap(a) => Some(split(a).0),
             Answer::Cause(a) => Some(split(a).0),
+            Answer::Count(a) => Some(split(a).0),
             Answer::Plan(_, a) => Some(split(a).0),
             Answer::Forward(_, a) => Some(split(a).0),
             Answer::Backward(_, a) => Some(split(a).0),
@@ -69,6 +71,7 @@ impl Answer {
             Answer::Cell(_) => writeln!(out, "no={no}"),
             Answer::Bitmap(a) => writeln!(out, "no={no} part={}", hex_text(&split(a).1)),
             Answer::Cause(a) => writeln!(out, "no={no} cause={}", cause_word(split(a).1)),
+            Answer::Count(a) => writeln!(out, "no={no} e={}", split(a).1),
             Answer::Plan(kind, a) => write_plan(out, *kind, no, split(a).1),
             Answer::Forward(kind, a) => {
                 write!(out, "no={no}")?;

@@ -74,6 +74,7 @@ fn error_kind() {
         "element up",
         "cell ack",
         "cause control",
+        "count down",
         "plan down\r",
     ] {
         fault(line.as_bytes(), "kind");

@@ -104,12 +104,17 @@ fn masks(cell: &Cell, anchor: &[u8], others: &[u8]) -> Result<Pattern, u64> {
     Ok(p)
 }
 
-#[inline(never)]
-pub fn judge(cell: &Cell, anchor: &[u8], others: &[u8]) -> u64 {
+#[inline(always)]
+pub fn judged_number(cell: &Cell, anchor: &[u8], others: &[u8]) -> u64 {
     match masks(cell, anchor, others) {
         Ok(_) => 0,
         Err(no) => no,
     }
+}
+
+#[inline(never)]
+pub fn judge(cell: &Cell, anchor: &[u8], others: &[u8]) -> u64 {
+    judged_number(cell, anchor, others)
 }
 
 /// The number of the cause of a subframe that is not usable.

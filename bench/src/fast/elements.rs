@@ -150,3 +150,29 @@ impl Layout {
         if l >= 5 { 1 } else { 2 }
     }
 }
+
+/// E by narrowband ports, cell ports and control region.
+const E: [[[u8; 4]; 5]; 2] = {
+    let mut table = [[[0; 4]; 5]; 2];
+    let mut i = 0;
+    while i < 40 {
+        let (n, c, control) = (i / 20, i / 4 % 5, i % 4);
+        let mut l = 0;
+        while l < 7 {
+            let row = (COUNTS[n][c] >> (8 * l) & 0xff) as u8;
+            table[n][c][control] += if l < control { row } else { 2 * row };
+            l += 1;
+        }
+        i += 1;
+    }
+    table
+};
+
+#[inline(never)]
+pub fn count(cell: &Cell, anchor: &[u8], others: &[u8]) -> [u64; 2] {
+    let no = super::cell::judged_number(cell, anchor, others);
+    if no != 0 {
+        return [no, 0];
+    }
+    [0, E[cell[3] as usize - 1][cell[4] as usize][cell[5] as usize] as u64]
+}

@@ -10,6 +10,7 @@ use slots::UplinkPlan;
 use subframes::DownlinkBack;
 use subframes::DownlinkPlace;
 use subframes::DownlinkPlan;
+use subframes::ElementCount;
 use symbol::ElementNumbers;
 use text::Page;
 use text::put;
@@ -150,6 +151,15 @@ pub fn put_cause(x: CauseAnswer, out: &mut Page, at: usize) -> usize
     let cause = x.cause;
     let a = put_value(out, at, b"no=", x.no);
     put_last(cause, out, a)
+}
+
+pub fn put_count(x: ElementCount, out: &mut Page, at: usize) -> usize
+    requires { ⌜ at + 320 ≤ 65536 ⌝ }
+    ensures { λ r. ⌜ r ≤ at + 320 ⌝ }
+{
+    let a = put_value(out, at, b"no=", x.no);
+    let b = put_value(out, a, b" e=", x.e);
+    put(out, b, b"\n")
 }
 
 fn put_back_values(x: Back, out: &mut Page, at: usize) -> usize

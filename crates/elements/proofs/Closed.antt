@@ -16,7 +16,7 @@ use Rattle.grid.specs.Grid.{subcarriers, symbols, slots, elementOf}
 use Rattle.elements.specs.declared.Layout.{Layout}
 use Rattle.elements.specs.declared.Spot.{Spot}
 use Rattle.elements.specs.Elements.{controlRegion, used, numberOf, ncceWidth, Valid, Part}
-use Rattle.elements.specs.Quick.{rows, sumsOf, byteOf, sixBefore, freeOf, sixInRows, SpotOf}
+use Rattle.elements.specs.Quick.{closedCount, rows, sumsOf, byteOf, sixBefore, freeOf, sixInRows, SpotOf}
 use Rattle.elements.proofs.Marked.{listed, listed-at, free-some, row-all}
 use Rattle.elements.proofs.Rows.{shut-whole, open-part}
 
@@ -35,6 +35,14 @@ starts a b l = eqb (sixBefore a b 0) 0
 starts-table : T (listed 1 starts)
 unfolding sixBefore sumsOf
 starts-table = tt
+
+-- E by two slots and the control region, and in closed form
+abbrev closes : ℕ → ℕ → ℕ → Bool
+closes a b l = eqb (2 * sixBefore a b symbols - sixBefore a b l) (closedCount a b l)
+
+closes-table : T (listed 4 closes)
+unfolding sixBefore sumsOf
+closes-table = tt
 
 pub six-at : (a b s l : ℕ) → s ≡ sumsOf a b → byteOf s l ≡ sixBefore a b l
 unfolding sixBefore
@@ -55,6 +63,9 @@ module _ (g : Layout) (v : Valid g) where
 
   pub six-none : six 0 ≡ 0
   six-none = eqb→eq (six 0) 0 (listed-at 1 starts starts-table g v 0 (omega arith))
+
+  pub closed : 2 * six symbols - six (g .control) ≡ closedCount (g .nports) (g .cports) (g .control)
+  closed = eqb→eq _ _ (listed-at 4 closes closes-table g v (g .control) (omega (arith, v .region)))
 
   pub six-mono : (l m : ℕ) → l ≤ m → m ≤ symbols → six l ≤ six m
   six-mono l zero h k = let e : l ≡ 0 = omega arith in omega (arith, ap six e)

@@ -1,13 +1,14 @@
 -- What callers know of the used elements.
-use mathlib.Core.Bool.{Bool, true, false, not, cond, _&&_, _||_}
-use mathlib.Core.Path.{_≡_, refl, ap, _∙_}
+use mathlib.Core.Bool.{Bool, true, false, not, cond, _&&_, _||_, and-true}
+use mathlib.Core.Path.{_≡_, refl, sym, ap, _∙_}
 use Prim.Native.Nat.{ℕ, _+_, _*_, _≤_, _<_}
 use native.Mathlib.Omega.{arith}
 use lib.Dec.{eqb, ltb, leb}
 use borrow.Author.Tests.{ltb-true, leb-true, le-leb, lt-ltb}
-use Rattle.counting.specs.Counting.{Lists, inRange}
+use Rattle.counting.specs.Counting.{rank, Lists, inRange}
 use Rattle.counting.proofs.Facts.{both-parts, either-parts, not-true-is}
-use Rattle.counting.proofs.Rank.{rank-le, rank-strict}
+use Rattle.counting.proofs.Range.{in-range}
+use Rattle.counting.proofs.Rank.{rank-le, rank-same, rank-strict}
 use Rattle.counting.proofs.Select.{lists-below}
 use Rattle.grid.specs.Grid.{subcarriers, elements, elementOf, slotOf, symbolOf, subcarrierOf}
 use Rattle.elements.specs.declared.Layout.{Layout}
@@ -113,3 +114,10 @@ npdcch-part format ncce h = by (eqb format 0)
     by : (b : Bool) → Part (cond b (ncceWidth * ncce) 0) (cond b ncceWidth subcarriers)
     by true = record { starts = omega arith; whole = refl; some = omega arith; inside = omega arith }
     by false = whole-part
+
+-- on all subcarriers each eligible element is used
+pub all-used : (g : Layout) → rank (eligible g) elements ≡ countOf g 0 subcarriers
+unfolding used
+all-used g =
+    rank-same (eligible g) (used g 0 subcarriers) elements
+    (λ x h. rw (in-range 0 subcarriers (subcarrierOf x) (omega arith) (omega arith)) (sym (and-true (eligible g x))))

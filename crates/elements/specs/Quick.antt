@@ -24,6 +24,13 @@ takenAt0 cports = cond (ltb cports 2) cports 2
 abbrev pub takenAt1 : ℕ → ℕ
 takenAt1 cports = cond (ltb cports 4) 0 2
 
+-- E of one NCCE, from ports and control region: six subcarriers of fourteen symbols, without the control region, the narrowband
+-- references of two symbols in each slot, and the cell references of symbols 0, 4 and 1 in each slot that lie outside the control region
+abbrev pub closedCount : ℕ → ℕ → ℕ → ℕ
+closedCount nports cports control =
+    84 - 6 * control
+    - (4 * nports + (4 - boolByte (leb 1 control)) * takenAt0 cports + (2 - boolByte (leb 2 control)) * takenAt1 cports)
+
 -- by bytes, for l = 0 to 7: how many of six subcarriers carry no reference, in all symbols of a slot before l
 unfoldable pub sumsOf : ℕ → ℕ → ℕ
 sumsOf nports cports =

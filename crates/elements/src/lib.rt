@@ -6,7 +6,7 @@ ghost use mir.Val.{boolByte};
 ghost use Rattle.grid.specs.Grid.{subcarriers, symbols, slots, elements, elementOf};
 ghost use Rattle.counting.specs.Counting.{inRange};
 ghost use Rattle.elements.specs.Elements.{controlRegion, countOf, elementAt, numberOf, standingOf, ncceWidth, npdcchFrom, npdcchWidth, Valid, Part};
-ghost use Rattle.elements.specs.Quick.{rows, takenAt0, takenAt1, sumsOf, byteOf, sixBefore, freeOf, sixInRows, marksOf, nthFree, nthIn, placeIn, referenceKind, SpotOf, RowOf, hasIn};
+ghost use Rattle.elements.specs.Quick.{rows, takenAt0, takenAt1, closedCount, sumsOf, byteOf, sixBefore, freeOf, sixInRows, marksOf, nthFree, nthIn, placeIn, referenceKind, SpotOf, RowOf, hasIn};
 use grid::Grid;
 
 // The layout of a subframe, apart from the cell: identity mod 6, narrowband and cell reference ports, control region.
@@ -140,14 +140,23 @@ fn over_ncces(from: u64, width: u64, e: u64) -> u64
     e / 2
 }
 
+// E of one NCCE: of fourteen symbols those outside the control region, less their references. Cell references lie on symbols 0 and 4,
+// and for four ports on symbol 1; of the first slot's, those on symbols 0 and 1 as far as the control region leaves them.
+fn closed_count(nports: u64, cports: u64, control: u64) -> u64
+    requires { ⌜ (nports ≤ 2) × (control ≤ 3) ⌝ }
+    ensures { λ r. ⌜ r ≡ closedCount nports cports control ⌝ }
+{
+    let at_0 = (4 - one(1 <= control)) * taken_at_0(cports);
+    let at_1 = (2 - one(2 <= control)) * taken_at_1(cports);
+    84 - 6 * control - (4 * nports + at_0 + at_1)
+}
+
 // E: how many elements are used.
 pub fn count(g: Layout, from: u64, width: u64) -> u64
     requires { ⌜ Valid g × Part from width ⌝ }
     ensures { λ r. ⌜ r ≡ countOf g from width ⌝ }
 {
-    let s = sums(g);
-    let six = 2 * byte(s, Grid::SYMBOLS) - byte(s, g.control);
-    ncces(from, width) * six
+    ncces(from, width) * closed_count(g.nports, g.cports, g.control)
 }
 
 // The references of symbol l, so many of six: first the near ones, at v, but on symbols 4 and 6 the far ones.

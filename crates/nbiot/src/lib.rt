@@ -1,6 +1,7 @@
 // The public questions. Each may be asked with any numbers and any lent buffers; refused input gets document 01's number and zeros.
 ghost use mathlib.Core.Path.{_≡_};
 ghost use Rattle.cell.specs.Judge.{judgeOf, inForceOf, causeOf};
+ghost use Rattle.subframes.specs.Cells.{elementCountOf};
 ghost use Rattle.uplink.specs.Questions as up;
 ghost use Rattle.acknowledgement.specs.Questions as ack;
 ghost use Rattle.downlink.specs.Questions as down;
@@ -16,6 +17,7 @@ use slots::UplinkPlan;
 use subframes::DownlinkBack;
 use subframes::DownlinkPlace;
 use subframes::DownlinkPlan;
+use subframes::ElementCount;
 use uplink::UplinkGrant;
 
 // Judge a cell: the refusal number, or 0.
@@ -37,6 +39,13 @@ pub fn cause(c: Cell, anchor: &[u8], other: &[u8], t: u64) -> CauseAnswer
     ensures { λ r. ⌜ r ≡ causeOf c (now (anchor .entry)) (now (other .entry)) t ⌝ }
 {
     cell::cause_at(c, anchor, other, t)
+}
+
+// E: how many elements of a subframe are eligible.
+pub fn count(c: Cell, anchor: &[u8], other: &[u8]) -> ElementCount
+    ensures { λ r. ⌜ r ≡ elementCountOf c (now (anchor .entry)) (now (other .entry)) ⌝ }
+{
+    subframes::element_count(c, anchor, other)
 }
 
 pub fn plan_up(g: UplinkGrant) -> UplinkPlan

@@ -24,6 +24,7 @@ use Rattle.walk.specs.declared.Stepped.{Stepped}
 use Rattle.symbol.specs.declared.ElementNumbers.{ElementNumbers}
 use Rattle.subframes.specs.declared.DownlinkPlan.{DownlinkPlan}
 use Rattle.subframes.specs.declared.DownlinkPlace.{DownlinkPlace}
+use Rattle.subframes.specs.declared.ElementCount.{ElementCount}
 use Rattle.subframes.specs.declared.DownlinkBack.{DownlinkBack}
 
 -- ---- what is asked
@@ -103,6 +104,9 @@ backNumbers a = a .no ∷ a .ours ∷ a .symbol ∷ a .position ∷ a .kind ∷ 
 abbrev pub downBackNumbers : DownlinkBack → List ℕ
 downBackNumbers a =
     a .back .no ∷ a .back .ours ∷ a .back .symbol ∷ a .back .position ∷ a .back .kind ∷ numberOf (a .cause) ∷ []
+
+abbrev pub countNumbers : ElementCount → List ℕ
+countNumbers a = a .no ∷ a .e ∷ []
 
 abbrev pub causeNumbers : CauseAnswer → List ℕ
 causeNumbers a = a .no ∷ numberOf (a .cause) ∷ []

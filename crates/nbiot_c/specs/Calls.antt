@@ -7,6 +7,7 @@ use lib.Ieee.{Float}
 use lib.ListN.{length, take, getD}
 use Rattle.cell.specs.declared.Cell.{Cell}
 use Rattle.cell.specs.Judge.{judgeOf, inForceOf, causeOf}
+use Rattle.subframes.specs.Cells.{elementCountOf}
 use Rattle.uplink.specs.Questions as up
 use Rattle.acknowledgement.specs.Questions as ack
 use Rattle.downlink.specs.Questions as down
@@ -16,7 +17,7 @@ use Rattle.symbol.specs.Outgoing.{numbersOf}
 use Rattle.fill.specs.Refusals.{fillRefusal}
 use Rattle.fill.specs.Fill.{outputOf}
 use Rattle.fill.specs.Element.{elementAnswer}
-use Rattle.nbiot_c.specs.Buffers.{cellOf, upGrantOf, ackGrantOf, downGrantOf, controlGrantOf, upPlanNumbers, downPlanNumbers, upPlaceNumbers, downPlaceNumbers, backNumbers, downBackNumbers, causeNumbers, upWalkOf, ackWalkOf, downWalkOf, controlWalkOf, lacks, tooShort, Reply, replyOf, StepReply, stepReplyOf, FillReply, fillReplyOf, ElementReply, elementReplyOf}
+use Rattle.nbiot_c.specs.Buffers.{cellOf, upGrantOf, ackGrantOf, downGrantOf, controlGrantOf, upPlanNumbers, downPlanNumbers, upPlaceNumbers, downPlaceNumbers, backNumbers, downBackNumbers, causeNumbers, countNumbers, upWalkOf, ackWalkOf, downWalkOf, controlWalkOf, lacks, tooShort, Reply, replyOf, StepReply, stepReplyOf, FillReply, fillReplyOf, ElementReply, elementReplyOf}
 
 unfoldable pub judge : List ℕ → List ℕ → List ℕ → ℕ
 judge cell anchor other = cond (lacks 8 cell) tooShort (judgeOf (cellOf cell) anchor other)
@@ -36,6 +37,9 @@ bitmap cell anchor other answer =
 
 unfoldable pub cause : List ℕ → List ℕ → List ℕ → ℕ → List ℕ → Reply
 cause cell anchor other t answer = replyOf (lacks 8 cell || lacks 2 answer) (causeNumbers (causeOf (cellOf cell) anchor other t)) answer
+
+unfoldable pub count : List ℕ → List ℕ → List ℕ → List ℕ → Reply
+count cell anchor other answer = replyOf (lacks 8 cell || lacks 2 answer) (countNumbers (elementCountOf (cellOf cell) anchor other)) answer
 
 -- ---- plan
 

@@ -61,6 +61,18 @@ pub extern "C" fn nbiot_cause(
     buffers::put2(answer, a.no, number)
 }
 
+// E: how many elements of a subframe are eligible.
+#[no_mangle]
+pub extern "C" fn nbiot_count(cell: &[u64], anchor: &[u8], other: &[u8], answer: &mut [u64]) -> u64
+    ensures { λ r. ⌜ (r ≡ calls.count (now (cell .entry)) (now (anchor .entry)) (now (other .entry)) (now (answer .entry)) .number) × (now (answer .exit) ≡ calls.count (now (cell .entry)) (now (anchor .entry)) (now (other .entry)) (now (answer .entry)) .answer) ⌝ }
+{
+    if buffers::short2(8, 2, cell.len(), answer.len()) {
+        return TOO_SHORT;
+    }
+    let a = nbiot::count(buffers::cell_of(cell), anchor, other);
+    buffers::put2(answer, a.no, a.e)
+}
+
 // First and last slot, copies, places, size and order.
 #[no_mangle]
 pub extern "C" fn nbiot_plan_up(grant: &[u64], answer: &mut [u64]) -> u64

@@ -1,17 +1,14 @@
--- DEMAND 3 IS KEPT: for every kind of grant. And backward hands on the cause.
-use mathlib.Core.Bool.{and-true}
+-- DEMAND 3 IS KEPT: for every kind of grant. Backward hands on the cause, and the question on E counts the eligible elements.
 use mathlib.Core.Path.{_≡_, refl, sym, ap}
+use mathlib.Core.List.{List}
 use Prim.Native.Nat.{ℕ, _*_}
+use borrow.Author.Tests.{eq-eqb}
 use native.Mathlib.Nat.{one-mul}
-use native.Mathlib.Omega.{arith}
-use Rattle.counting.specs.Counting.{rank}
-use Rattle.counting.proofs.Rank.{rank-same}
-use Rattle.counting.proofs.Range.{in-range}
-use Rattle.grid.specs.Grid.{subcarriers, elements, subcarrierOf}
 use Rattle.grid.specs.Tables.{entry, lengths, downlinkCopies}
-use Rattle.elements.specs.declared.Layout.{Layout}
-use Rattle.elements.specs.Elements.{eligible, used, countOf}
-use Rattle.subframes.specs.Cells.{layoutOf}
+use Rattle.elements.proofs.Laws.{all-used}
+use Rattle.cell.specs.declared.Cell.{Cell}
+use Rattle.cell.specs.Judge.{judgeOf}
+use Rattle.subframes.specs.Cells.{layoutOf, elementCountOf}
 use Rattle.downlink.specs.Refusals as npdsch-refusals
 use Rattle.downlink.specs.Questions as npdsch
 use Rattle.downlink.proofs.Accepting as npdsch-accepting
@@ -23,12 +20,10 @@ use Rattle.promises.proofs.Slotted.{uplink-demand, ack-demand}
 use Rattle.promises.proofs.Framed.{question-demand}
 use Rattle.promises.proofs.Handed.{hands-on}
 
--- on all subcarriers each eligible element is used
-all-used : (g : Layout) → rank (eligible g) elements ≡ countOf g 0 subcarriers
-unfolding used
-all-used g =
-    rank-same (eligible g) (used g 0 subcarriers) elements
-    (λ x h. rw (in-range 0 subcarriers (subcarrierOf x) (omega arith) (omega arith)) (sym (and-true (eligible g x))))
+-- an accepted cell is told its E
+counted : (c : Cell) (anchor other : List ℕ) → judgeOf c anchor other ≡ 0 → elementCountOf c anchor other ≡ record { no = 0; e = eligibleCount c }
+unfolding elementCountOf
+counted c anchor other e = rw (eq-eqb (judgeOf c anchor other) 0 e) refl
 
 pub kept : Promises
 unfolding npdsch.planOf npdsch.forwardOf npdsch.backwardOf npdcch.planOf npdcch.forwardOf npdcch.backwardOf
@@ -43,4 +38,5 @@ kept = record {
       question-demand c anchor other (npdcch-refusals.grantRefusal g) (npdcch.burstOf c g) (npdcch-accepting.burst-fits c g) refl (g .r) _ refl (sym (one-mul _)) h;
   downlinkCause = λ c anchor other g. hands-on c anchor other (npdsch-refusals.grantRefusal g) (npdsch.burstOf c g);
   controlCause = λ c anchor other g. hands-on c anchor other (npdcch-refusals.grantRefusal g) (npdcch.burstOf c g);
+  count = counted;
 }

@@ -11,14 +11,14 @@ use Rattle.cell.specs.declared.Cause.{Cause}
 use Rattle.cell.specs.declared.Cause.the-variants.{None, Npbch, Npss, Nsss, Sib1, Bitmap}
 use Rattle.cell.specs.Bitmap.{ownBuffer, bitmapIn}
 use Rattle.cell.specs.Usable.{period, why, usable}
-use Rattle.cell.specs.Judge.{causeOf}
+use Rattle.cell.specs.Judge.{judgeOf, causeOf}
 use Rattle.elements.specs.Elements.{reference, controlRegion, eligible, countOf, npdcchFrom, npdcchWidth}
 use Rattle.slots.specs.Mapping as slots
 use Rattle.sending.specs.Sending as sending
 use Rattle.sending.specs.Answer.{backOf}
 use Rattle.subframes.specs.declared.DownlinkPlan.{DownlinkPlan}
 use Rattle.subframes.specs.declared.DownlinkBack.{DownlinkBack}
-use Rattle.subframes.specs.Cells.{layoutOf}
+use Rattle.subframes.specs.Cells.{layoutOf, elementCountOf}
 use Rattle.subframes.specs.Mapping as subframes
 use Rattle.uplink.specs.declared.UplinkGrant.{UplinkGrant}
 use Rattle.uplink.specs.Fields.{unitSlots}
@@ -157,3 +157,6 @@ pub record Promises : Type 0 where
       → HandsOn c anchor other (npdsch.planOf c anchor other g) (byPlace (npdsch.backwardOf c anchor other g))
   pub controlCause : (c : Cell) (anchor other : List ℕ) (g : ControlGrant)
       → HandsOn c anchor other (npdcch.planOf c anchor other g) (byPlace (npdcch.backwardOf c anchor other g))
+  -- E, of every accepted cell: how many elements of a subframe are eligible
+  pub count : (c : Cell) (anchor other : List ℕ) → judgeOf c anchor other ≡ 0
+      → elementCountOf c anchor other ≡ record { no = 0; e = eligibleCount c }

@@ -38,6 +38,13 @@ fn cause(v: &Values, anchor: &[u8], other: &[u8], out: &mut Page, at: usize) -> 
     )
 }
 
+fn count(v: &Values, anchor: &[u8], other: &[u8], out: &mut Page, at: usize) -> usize
+    requires { ⌜ at + 320 ≤ 65536 ⌝ }
+    ensures { λ r. ⌜ r ≤ at + 320 ⌝ }
+{
+    answers::put_count(nbiot::count(questions::cell_of(v), anchor, other), out, at)
+}
+
 fn plan(k: Kind, v: &Values, anchor: &[u8], other: &[u8], out: &mut Page, at: usize) -> usize
     requires { ⌜ at + 320 ≤ 65536 ⌝ }
     ensures { λ r. ⌜ r ≤ at + 320 ⌝ }
@@ -179,6 +186,7 @@ pub fn ask<'a>(
         Question::Cell => answers::put_cell(nbiot::judge(questions::cell_of(v), a, b), out, at),
         Question::Bitmap => bitmap(v, a, b, out, at),
         Question::Cause => cause(v, a, b, out, at),
+        Question::Count => count(v, a, b, out, at),
         Question::Fill => fill(v, a, b, d, out, at),
         Question::Element => element(v, a, b, d, out, at),
         Question::Plan(k) => plan(k, v, a, b, out, at),

@@ -17,11 +17,12 @@ pub const LONGEST: usize = 4096;
 const LARGEST_ROOM: u64 = 1024;
 
 // The questions that want no kind stand first.
-const QUESTIONS: [[u8; 10]; 11] = [
+const QUESTIONS: [[u8; 10]; 12] = [
     *b"set       ",
     *b"cell      ",
     *b"bitmap    ",
     *b"cause     ",
+    *b"count     ",
     *b"fill      ",
     *b"element   ",
     *b"plan      ",
@@ -31,9 +32,9 @@ const QUESTIONS: [[u8; 10]; 11] = [
     *b"picture   ",
 ];
 
-const WITHOUT_KIND: usize = 6;
+const WITHOUT_KIND: usize = 7;
 
-const PICTURE: usize = 10;
+const PICTURE: usize = 11;
 
 // The kinds of the uplink stand first.
 const ACK: usize = 1;
@@ -59,6 +60,7 @@ pub enum Question {
     Cell,
     Bitmap,
     Cause,
+    Count,
     Fill,
     Element,
     Plan(Kind),
@@ -108,12 +110,13 @@ fn question_of(row: usize, kind: usize) -> Question {
         1 => Question::Cell,
         2 => Question::Bitmap,
         3 => Question::Cause,
-        4 => Question::Fill,
-        5 => Question::Element,
-        6 => Question::Plan(kind_of(kind)),
-        7 => Question::Forward(kind_of(kind)),
-        8 => Question::Backward(kind_of(kind)),
-        9 => Question::Step(kind_of(kind)),
+        4 => Question::Count,
+        5 => Question::Fill,
+        6 => Question::Element,
+        7 => Question::Plan(kind_of(kind)),
+        8 => Question::Forward(kind_of(kind)),
+        9 => Question::Backward(kind_of(kind)),
+        10 => Question::Step(kind_of(kind)),
         _ => Question::Picture(kind_of(kind)),
     }
 }

@@ -3,14 +3,23 @@ use mathlib.Core.Bool.{Bool, cond, not}
 use mathlib.Core.List.{List}
 use Prim.Native.Nat.{ℕ, _-_, _%_, _^_}
 use lib.Dec.{eqb, ltb}
+use Rattle.counting.specs.Counting.{rank}
+use Rattle.grid.specs.Grid.{elements}
 use Rattle.grid.specs.Tables.{isRepetition}
 use Rattle.cell.specs.declared.Cell.{Cell}
 use Rattle.cell.specs.Judge.{judgeOf}
 use Rattle.elements.specs.declared.Layout.{Layout}
+use Rattle.elements.specs.Elements.{eligible}
+use Rattle.subframes.specs.declared.ElementCount.{ElementCount}
 
 -- both reference signals use v = identity mod 6, in all modes
 abbrev pub layoutOf : Cell → Layout
 layoutOf c = record { v = c .identity % 6; nports = c .nports; cports = c .cports; control = c .control }
+
+-- the question on E: the cell's refusal, or how many elements of a subframe are eligible
+unfoldable pub elementCountOf : Cell → List ℕ → List ℕ → ElementCount
+elementCountOf c anchor other =
+    cond (eqb (judgeOf c anchor other) 0) (record { no = 0; e = rank (eligible (layoutOf c)) elements }) (record { no = judgeOf c anchor other; e = 0 })
 
 -- the last subframe that a grant may name
 abbrev pub lastSubframe : ℕ

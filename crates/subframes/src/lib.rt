@@ -11,7 +11,7 @@ ghost use Rattle.sending.specs.CopyOrder.{carried};
 ghost use Rattle.sending.specs.Answer.{backOf};
 ghost use Rattle.subframes.specs.Fits.{Fits, Going};
 ghost use Rattle.subframes.specs.Quick.{standsIn, Answerable};
-ghost use Rattle.subframes.specs.Cells.{layoutOf, fieldsRefusal};
+ghost use Rattle.subframes.specs.Cells.{layoutOf, elementCountOf, fieldsRefusal};
 ghost use Rattle.subframes.specs.Mapping.{sentSubframes};
 ghost use Rattle.subframes.specs.Answers.{refusedPlan, refusedPlace, placeOf, burstPlan, burstForward, backAnswer, planAnswer, forwardAnswer};
 use cell::Cause;
@@ -239,6 +239,26 @@ pub fn layout(c: Cell) -> Layout
         nports: c.nports,
         cports: c.cports,
         control: c.control,
+    }
+}
+
+// The answer: the refusal number; E.
+pub struct ElementCount {
+    pub no: u64,
+    pub e: u64,
+}
+
+// E of a cell: the eligible elements of a subframe.
+pub fn element_count(c: Cell, anchor: &[u8], other: &[u8]) -> ElementCount
+    ensures { λ r. ⌜ r ≡ elementCountOf c (now (anchor .entry)) (now (other .entry)) ⌝ }
+{
+    let no = cell::judge(c, anchor, other);
+    if no != 0 {
+        return ElementCount { no, e: 0 };
+    }
+    ElementCount {
+        no: 0,
+        e: elements::count(layout(c), 0, Grid::SUBCARRIERS),
     }
 }
 
