@@ -6,26 +6,22 @@ ghost use Rattle.slots.specs.Fits.{Fits};
 ghost use Rattle.slots.specs.Timing.{active, period};
 use super::Shape;
 
-// n over the slots of a block: a shift for 128 and 512.
-fn over_block(block: u64, n: u64) -> u64
-    requires { ⌜ 0 < block ⌝ }
-    ensures { λ r. ⌜ r ≡ n / block ⌝ }
+// How often 37 is doubled to get the slots of a round, if they are 148 or 592.
+fn doublings(round: u64) -> u64
+    ensures { λ r. ⌜ r < 8 ⌝ }
 {
-    if block == 128 {
-        return n / 128;
+    if round < 512 {
+        return 2;
     }
-    if block == 512 {
-        return n / 512;
-    }
-    n / block
+    4
 }
 
-// n over the slots of a round: 148 and 592 are products of 37 and a power of two.
+// n over the slots of a round, without a division by them if they are 148 or 592.
 pub fn over_round(round: u64, n: u64) -> u64
     requires { ⌜ 0 < round ⌝ }
     ensures { λ r. ⌜ r ≡ n / round ⌝ }
 {
-    let z = u64::trailing_zeros(round) as u64 % 8;
+    let z = doublings(round);
     if 37 << z == round {
         return (n / 37) >> z;
     }
@@ -39,5 +35,5 @@ pub fn active_at(s: Shape, i: u64) -> u64
 {
     let block = s.block;
     let gap = s.gap;
-    i + gap * over_block(block, i)
+    i + gap * (i / block)
 }

@@ -2,7 +2,6 @@ use mathlib.Core.Path.{_≡_, sym, ap, _∙_}
 use Prim.Native.Nat.{ℕ, _*_, _/_, _%_, _^_, _<_}
 use native.Mathlib.Nat.{div-div-eq-div-mul}
 use native.Mathlib.Omega.{arith}
-use lib.Count.{trailingZeros, trailing-le}
 use lib.Dec.{lit<}
 use lib.Pow.{shl-exact}
 use borrow.Author.Needs.{needs}
@@ -17,12 +16,13 @@ pub over-round-spec : {M : Type 1} → statement M
 over-round-spec =
     tie.close
     (tie.spec
-    (λ c. omega (arith, trailing-le 64 (c .args .round)))
-    (λ c. omega arith)
-    (λ c. omega arith)
+    (λ c κs. tt)
+    (λ c. omega (arith, c .doublings .ensures))
+    (λ c. omega (arith, c .before .doublings .ensures))
     (λ c.
-    let a = c .before .args in
-    let z : ℕ = trailingZeros 64 (a .round) % 8 in
-    div-div-eq-div-mul (a .n) 37 (2 ^ z) ∙ ap (λ (x : ℕ). a .n / x) (sym (shifted z (omega arith)) ∙ c .if1 .taken))
+    let d = c .before in
+    let a = d .before .args in
+    div-div-eq-div-mul (a .n) 37 (2 ^ d .doublings .result)
+    ∙ ap (λ (x : ℕ). a .n / x) (sym (shifted (d .doublings .result) (d .doublings .ensures)) ∙ c .if1 .taken))
     (λ c. search needs)
     (λ c. search needs))
