@@ -22,9 +22,8 @@ pub struct AckGrant {
 // The last subframe in which the NPDSCH may end.
 const LAST_SUBFRAME: u64 = 2_147_483_647;
 
-const NARROW_DELAYS: [u64; 2] = [13, 21];
-
-const WIDE_DELAYS: [u64; 4] = [13, 15, 17, 18];
+// The delays at 15 kHz, 13, 15, 17 and 18, by bytes.
+const WIDE_DELAYS: u64 = 0x1211_0f0d;
 
 // A field is above its largest number.
 fn above_largest(g: AckGrant) -> bool
@@ -62,8 +61,8 @@ fn delay(spacing: u64, field: u64) -> u64
     requires { ⌜ field ≤ 15 ⌝ }
     ensures { λ r. ⌜ r ≡ delayOf spacing field ⌝ }
 {
-    let narrow = NARROW_DELAYS[(field / 8) as usize];
-    let wide = WIDE_DELAYS[(field / 4) as usize];
+    let narrow = 13 + 8 * (field / 8);
+    let wide = (WIDE_DELAYS >> (8 * (field / 4))) % 256;
     slots::by_spacing(spacing, narrow, wide)
 }
 
