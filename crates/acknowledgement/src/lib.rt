@@ -126,7 +126,8 @@ pub fn forward(g: AckGrant, p: u64) -> UplinkPlace
     if no != 0 {
         return slots::refused_place(no);
     }
-    slots::forward(shape(g), p)
+    let s = shape(g);
+    slots::forward(s, p, slots::taken_apart(s, p))
 }
 
 // What stands at symbol l and subcarrier k of a slot.
@@ -137,5 +138,6 @@ pub fn backward(g: AckGrant, slot: u64, l: u64, k: u64) -> Back
     if no != 0 {
         return sending::refused(no);
     }
-    slots::backward(shape(g), slot, l, k)
+    let s = shape(g);
+    slots::backward(s, slot, slots::locate(s, slot), l, k)
 }

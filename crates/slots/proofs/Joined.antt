@@ -1,8 +1,8 @@
 -- The parts of an answer, joined: an equation for each number that the code works out, and no path through the code.
 use mathlib.Core.Bool.{Bool, true, false, _&&_}
 use mathlib.Core.Path.{_≡_, refl, sym, ap, ap₂, _∙_}
-use Prim.Native.Nat.{ℕ, _+_, _-_, _*_, _/_, _^_, _≤_, _<_}
-use native.Mathlib.Nat.{mul-le-mul, div-lt-iff-lt-mul}
+use Prim.Native.Nat.{ℕ, _+_, _-_, _*_, _^_, _≤_, _<_}
+use native.Mathlib.Nat.{mul-le-mul}
 use native.Mathlib.Omega.{arith}
 use lib.Dec.{ltb}
 use mir.Val.{boolByte}
@@ -23,7 +23,6 @@ use Rattle.slots.specs.Elements.{carriesData, carriesReference, slotData
 use Rattle.slots.specs.Mapping.{places}
 use Rattle.slots.specs.Quick.{splitOf}
 use Rattle.slots.specs.Answers.{refusedPlace, shapeForward, shapeBackward}
-use Rattle.slots.proofs.Lines.{some-data}
 
 -- ---- slots
 
@@ -53,10 +52,6 @@ module _ (s : Shape) (p : ℕ) where
   pub forward-refused : places s ≤ p → refusedPlace 14 ≡ shapeForward s p
   unfolding shapeForward
   forward-refused h = rw (le-ltb p (places s) h) refl
-
-  module _ (f : Fits s) (h : p < places s) where
-    pub unit-small : p / slotData s < 2 ^ 32
-    unit-small = omega (arith, div-lt-iff-lt-mul (some-data s f) .1 h, sent-small s f)
 
   pub forward-is : (at : Split) (w slot unit symbol : ℕ) → p < places s → w ≡ slotData s → at ≡ splitOf s p → slot ≡ slotAt s (at .i)
       → unit ≡ carried (s .row) (s .group) (s .codeword) (at .i) → symbol ≡ unit * w + at .e

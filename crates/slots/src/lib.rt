@@ -5,7 +5,7 @@ ghost use Rattle.sending.specs.CopyOrder.{carried};
 ghost use Rattle.slots.specs.Fits.{Fits};
 ghost use Rattle.slots.specs.Timing.{sentSlots, slotAt};
 ghost use Rattle.slots.specs.Mapping.{places};
-ghost use Rattle.slots.specs.Quick.{Located};
+ghost use Rattle.slots.specs.Quick.{splitOf, Located};
 ghost use Rattle.slots.specs.Answers.{refusedPlan, refusedPlace, shapePlan, shapeForward, shapeBackward};
 use grid::UplinkGrid;
 use sending::Back;
@@ -14,6 +14,7 @@ mod data;
 mod numerology;
 mod timing;
 
+pub use data::split as taken_apart;
 pub use numerology::block;
 pub use numerology::by_spacing;
 pub use numerology::first_after;
@@ -61,17 +62,17 @@ pub struct UplinkPlace {
 }
 
 // A position taken apart: the transmitted slot, the data element in it, and that element's symbol and subcarrier.
-struct Split {
-    i: u64,
-    e: u64,
-    l: u64,
-    k: u64,
+pub struct Split {
+    pub i: u64,
+    pub e: u64,
+    pub l: u64,
+    pub k: u64,
 }
 
 // Whether a slot is sent, and if so which transmitted slot it is.
-struct Turn {
-    sent: bool,
-    i: u64,
+pub struct Turn {
+    pub sent: bool,
+    pub i: u64,
 }
 
 pub fn refused_plan(no: u64) -> UplinkPlan
@@ -120,7 +121,7 @@ fn slot_at(s: Shape, i: u64) -> u64
 }
 
 // Whether a slot is sent, and which one it is.
-fn locate(s: Shape, slot: u64) -> Turn
+pub fn locate(s: Shape, slot: u64) -> Turn
     requires { ⌜ Fits s ⌝ }
     ensures { λ r. ⌜ Located s slot r ⌝ }
 {
@@ -184,16 +185,16 @@ pub fn plan(s: Shape) -> UplinkPlan
     }
 }
 
-// The place of position p, and the symbol there.
-pub fn forward(s: Shape, p: u64) -> UplinkPlace
-    requires { ⌜ Fits s ⌝ }
+// The place of position p, which `at` is taken apart, and the symbol there. Whoever asks takes it apart: one function of both would be too long for
+// the compiler to put into either kind of grant's.
+pub fn forward(s: Shape, p: u64, at: Split) -> UplinkPlace
+    requires { ⌜ Fits s × (at ≡ splitOf s p) ⌝ }
     ensures { λ r. ⌜ r ≡ shapeForward s p ⌝ }
 {
-    if p >= places(s) {
+    if at.i >= sent_slots(s) {
         return refused_place(14);
     }
     let w = data::slot_data(s);
-    let at = data::split(s, p);
     let slot = slot_at(s, at.i);
     let unit = carried_by(s, at.i);
     UplinkPlace {
@@ -205,9 +206,9 @@ pub fn forward(s: Shape, p: u64) -> UplinkPlace
     }
 }
 
-// What stands at symbol l and subcarrier k of a slot.
-pub fn backward(s: Shape, slot: u64, l: u64, k: u64) -> Back
-    requires { ⌜ Fits s ⌝ }
+// What stands at symbol l and subcarrier k of a slot, which is located at `turn`, as forward has its position.
+pub fn backward(s: Shape, slot: u64, turn: Turn, l: u64, k: u64) -> Back
+    requires { ⌜ Fits s × Located s slot turn ⌝ }
     ensures { λ r. ⌜ r ≡ shapeBackward s slot l k ⌝ }
 {
     let subcarriers = s.subcarriers;
@@ -215,7 +216,6 @@ pub fn backward(s: Shape, slot: u64, l: u64, k: u64) -> Back
     if !inside {
         return sending::refused(14);
     }
-    let turn = locate(s, slot);
     if !turn.sent {
         return sending::other(0);
     }

@@ -111,7 +111,8 @@ pub fn forward(g: UplinkGrant, p: u64) -> UplinkPlace
     if no != 0 {
         return slots::refused_place(no);
     }
-    slots::forward(shape(g, 0, 0), p)
+    let s = shape(g, 0, 0);
+    slots::forward(s, p, slots::taken_apart(s, p))
 }
 
 // What stands at symbol l and subcarrier k of a slot.
@@ -122,5 +123,6 @@ pub fn backward(g: UplinkGrant, slot: u64, l: u64, k: u64) -> Back
     if no != 0 {
         return sending::refused(no);
     }
-    slots::backward(shape(g, 0, 0), slot, l, k)
+    let s = shape(g, 0, 0);
+    slots::backward(s, slot, slots::locate(s, slot), l, k)
 }

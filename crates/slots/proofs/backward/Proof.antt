@@ -26,24 +26,31 @@ module _ (c : tie.Else1) where
   subcarrier-inside = ltb-true _ _ (both-parts (ltb (c .before .args .l) symbols) _ inside .1)
 
 -- in a slot that is sent
-sent : (c : tie.Else2) →
-    let a = c .before .before .before .before .args in
-    isSent (a .s) (a .slot) ≡ true
-sent c = sym (c .before .before .locate .ensures .says) ∙ not-false _ (c .if2 .left)
+module _ (c : tie.Else2) where
+  abbrev within : tie.Else1
+  within = c .before .before
 
-index : (c : tie.Else2) →
-    let a = c .before .before .before .before .args in
-    c .before .before .locate .result .i ≡ indexOf (a .s) (a .slot)
-index c = c .before .before .locate .ensures .index (sent c)
+  abbrev start : tie.Start
+  start = within .before
 
-index-small : (c : tie.Else2) → c .before .before .locate .result .i < 2 ^ 32
-index-small c =
-    let a = c .before .before .before .before in
-    omega (arith, index c, sent-small (a .args .s) (a .pre), slots-listed (a .args .s) (a .pre .block) .below (a .args .slot) (sent c))
+  sent : isSent (start .args .s) (start .args .slot) ≡ true
+  sent = sym (start .pre .1 .says) ∙ not-false _ (c .if2 .left)
+
+  index : start .args .turn .i ≡ indexOf (start .args .s) (start .args .slot)
+  index = start .pre .1 .index sent
+
+  index-small : start .args .turn .i < 2 ^ 32
+  index-small =
+      omega (
+        arith,
+        index,
+        sent-small (start .args .s) (start .pre .0),
+        slots-listed (start .args .s) (start .pre .0 .block) .below (start .args .slot) sent,
+      )
 
 -- on a data element
 data-element : (c : tie.Else3) →
-    let a = c .before .before .before .before .before .before .args in
+    let a = start (c .before .before) .args in
     carriesData (a .s) (uplinkElementOf (a .s .subcarriers) (a .l) (a .k)) ≡ true
 data-element c = sym (c .before .carries-data .ensures) ∙ not-false _ (c .if3 .left)
 
@@ -56,45 +63,40 @@ backward-spec =
     let a = c .before .before .args in
     c .refused .ensures ∙ backward-outside (a .s) (a .slot) (a .l) (a .k) (not-true _ (c .before .if1 .taken)))
     (λ c κs. search needs)
-    (λ c κs. search needs)
     (λ c.
-    let i = c .before .before .before .before in
-    let a = i .before .args in
-    c .other .ensures
-    ∙ backward-unsent (a .s) (a .slot) (a .l) (a .k) (inside i) (sym (c .before .before .before .locate .ensures .says) ∙ not-true _ (c .before .if2 .taken)))
-    (λ c κs.
     let i = c .before .before .before in
-    (i .before .pre, symbol-inside i, subcarrier-inside i))
+    let a = i .before in
+    c .other .ensures
+    ∙ backward-unsent (a .args .s) (a .args .slot) (a .args .l) (a .args .k) (inside i) (sym (a .pre .1 .says) ∙ not-true _ (c .before .if2 .taken)))
+    (λ c κs. (start c .pre .0, symbol-inside (within c), subcarrier-inside (within c)))
     (λ c κs.
-    let i = c .before .before .before .before .before in
-    (i .before .pre, symbol-inside i, subcarrier-inside i))
+    let o = c .before .before in
+    (start o .pre .0, symbol-inside (within o), subcarrier-inside (within o)))
     (λ c κs. search needs)
     (λ c.
     let o = c .before .before .before .before in
-    let i = o .before .before .before in
-    let a = i .before .args in
+    let a = start o .args in
     c .other2 .ensures
-    ∙ backward-other (a .s) (a .slot) (a .l) (a .k) (inside i) _ (sent o)
+    ∙ backward-other (a .s) (a .slot) (a .l) (a .k) (inside (within o)) _ (sent o)
     (sym (c .before .before .before .carries-data .ensures) ∙ not-true _ (c .before .before .if3 .taken)) (c .before .reference-kind .ensures))
-    (λ c κs. search needs)
+    (λ c κs. start (c .before .before) .pre .0)
     (λ c κs.
-    let i = c .before .before .before .before .before .before in
-    (i .before .pre, subcarrier-inside i, data-element (c .before)))
-    (λ c κs. search needs)
+    let o = c .before .before .before in
+    (start o .pre .0, subcarrier-inside (within o), data-element (c .before)))
+    (λ c κs. start (c .before .before .before .before) .pre .0)
     (λ c κs.
     let w = c .before .before in
     (omega (arith, c .carried-by .ensures .1), w .slot-data .ensures .2, omega (arith, c .before .number-of .ensures .1, w .slot-data .ensures .0)))
     (λ c κs.
     let w = c .before .before .before in
-    (omega (arith, index-small (w .before .before .before), c .before .carried-by .ensures .1), w .slot-data .ensures .2, omega (arith, c .before .before .number-of .ensures .1, w .slot-data .ensures .0)))
+    (index-small (w .before .before .before), w .slot-data .ensures .2, omega (arith, c .before .before .number-of .ensures .1, w .slot-data .ensures .0)))
     (λ c κs. search needs)
     (λ c.
     let u = c .before .before .before in
     let w = u .before .before in
     let o = w .before .before .before in
-    let i = o .before .before .before in
-    let a = i .before .args in
+    let a = start o .args in
     c .ours .ensures
-    ∙ backward-ours (a .s) (a .slot) (a .l) (a .k) (inside i) _ _ _ _ _ _ (sent o) (data-element (w .before)) (w .slot-data .ensures .0)
+    ∙ backward-ours (a .s) (a .slot) (a .l) (a .k) (inside (within o)) _ _ _ _ _ _ (sent o) (data-element (w .before)) (w .slot-data .ensures .0)
     (index o) (u .before .number-of .ensures .0) (u .carried-by .ensures .0) (c .before .before .item .ensures)
     (c .before .item2 .ensures)))

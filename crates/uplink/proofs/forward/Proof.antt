@@ -1,5 +1,6 @@
 use mathlib.Core.Path.{sym, ap, _∙_}
 use Rattle.slots.specs.declared.Shape.{Shape}
+use Rattle.slots.specs.Fits.{Fits}
 use Rattle.slots.specs.Answers.{shapeForward}
 use Rattle.slots.proofs.Judging.{forward-accepted, refused-place-is}
 use Rattle.slots.proofs.Sizes.{fits-sized, forward-sized}
@@ -19,10 +20,16 @@ returns c =
 returns-2 : tie.Need-returns-2
 unfolding forwardOf
 returns-2 c =
-    let j = c .before .before .before in
+    let s = c .before .before in
+    let j = s .before .before in
     let a = j .before .args in
-    c .forward .ensures ∙ ap (λ (s : Shape). shapeForward s (a .p)) (c .before .shape .ensures) ∙ forward-sized (shapeOf (a .g)) 0 0 (a .p)
-    ∙ forward-accepted _ (shapeOf (a .g)) (sym (j .judge .ensures) ∙ c .before .before .if1 .left) (a .p)
+    c .forward .ensures ∙ ap (λ (s : Shape). shapeForward s (a .p)) (s .shape .ensures) ∙ forward-sized (shapeOf (a .g)) 0 0 (a .p)
+    ∙ forward-accepted _ (shapeOf (a .g)) (sym (j .judge .ensures) ∙ s .before .if1 .left) (a .p)
+
+fitting : (c : tie.After-shape) → Fits (c .shape .result)
+fitting c =
+    let j = c .before .before in
+    rw (c .shape .ensures) (fits-sized _ 0 0 (fits (j .before .args .g) (sym (j .judge .ensures) ∙ c .before .if1 .left)))
 
 pub forward-spec : {M : Type 1} → statement M
 forward-spec =
@@ -32,7 +39,6 @@ forward-spec =
     (λ c κs. tt)
     returns
     (λ c κs. sym (c .before .judge .ensures) ∙ c .if1 .left)
-    (λ c κs.
-    let j = c .before .before in
-    rw (c .shape .ensures) (fits-sized _ 0 0 (fits (j .before .args .g) (sym (j .judge .ensures) ∙ c .before .if1 .left))))
+    (λ c κs. fitting c)
+    (λ c κs. (fitting (c .before), c .split .ensures))
     returns-2)
