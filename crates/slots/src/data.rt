@@ -2,17 +2,16 @@
 ghost use mathlib.Core.Path.{_≡_};
 ghost use mathlib.Core.Bool.{true};
 ghost use Prim.Native.Nat.{_+_, _/_, _^_, _<_};
-ghost use mir.Val.{boolByte};
 ghost use Rattle.counting.specs.Counting.{rank};
 ghost use Rattle.grid.specs.Grid.{symbols, uplinkElementOf};
 ghost use Rattle.slots.specs.Fits.{Fits};
-ghost use Rattle.slots.specs.Elements.{isReference, isGranted, isDataSymbol, carriesData, carriesReference, slotData, numberOf};
+ghost use Rattle.slots.specs.Elements.{isReference, isGranted, isDataSymbol, carriesData, slotData, numberOf};
 ghost use Rattle.slots.specs.Quick.{symbolOfLine, splitOf};
 use super::Shape;
 use super::Split;
 use grid::UplinkGrid;
 
-fn is_reference(s: Shape, l: u64) -> bool
+pub fn is_reference(s: Shape, l: u64) -> bool
     requires { ⌜ Fits s ⌝ }
     ensures { λ r. ⌜ r ≡ isReference s l ⌝ }
 {
@@ -21,28 +20,13 @@ fn is_reference(s: Shape, l: u64) -> bool
     (from <= l) & (l < from + references)
 }
 
-fn is_granted(s: Shape, k: u64) -> bool
+pub fn is_granted(s: Shape, k: u64) -> bool
     requires { ⌜ Fits s ⌝ }
     ensures { λ r. ⌜ r ≡ isGranted s k ⌝ }
 {
     let from = s.tone;
     let tones = s.tones;
     (from <= k) & (k < from + tones)
-}
-
-pub fn carries_data(s: Shape, l: u64, k: u64) -> bool
-    requires { ⌜ Fits s × (l < symbols) × (k < s .subcarriers) ⌝ }
-    ensures { λ r. ⌜ r ≡ carriesData s (uplinkElementOf (s .subcarriers) l k) ⌝ }
-{
-    !is_reference(s, l) & is_granted(s, k)
-}
-
-// Kind 1 on the reference signal, else 0.
-pub fn reference_kind(s: Shape, l: u64, k: u64) -> u64
-    requires { ⌜ Fits s × (l < symbols) × (k < s .subcarriers) ⌝ }
-    ensures { λ r. ⌜ r ≡ boolByte (carriesReference s (uplinkElementOf (s .subcarriers) l k)) ⌝ }
-{
-    (is_reference(s, l) & is_granted(s, k)) as u64
 }
 
 // How many elements of a slot carry data.

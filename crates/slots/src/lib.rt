@@ -219,8 +219,11 @@ pub fn backward(s: Shape, slot: u64, turn: Turn, l: u64, k: u64) -> Back
     if !turn.sent {
         return sending::other(0);
     }
-    if !data::carries_data(s, l, k) {
-        return sending::other(data::reference_kind(s, l, k));
+    if !data::is_granted(s, k) {
+        return sending::other(0);
+    }
+    if data::is_reference(s, l) {
+        return sending::other(1);
     }
     let w = data::slot_data(s);
     let i = turn.i;

@@ -8,7 +8,8 @@ use borrow.Author.Tests.{ltb-true, not-true, not-false}
 use Rattle.counting.proofs.Facts.{both-parts}
 use Rattle.grid.specs.Grid.{symbols, uplinkElementOf}
 use Rattle.slots.specs.Timing.{isSent, indexOf}
-use Rattle.slots.specs.Elements.{carriesData}
+use Rattle.slots.specs.Elements.{isGranted, carriesData}
+use Rattle.slots.proofs.Lines.{not-granted, on-reference, on-data}
 use Rattle.slots.proofs.Rounds.{slots-listed}
 use Rattle.slots.proofs.Joined.{sent-small, backward-outside, backward-unsent, backward-other, backward-ours}
 use Rattle.slots.proofs.backward.Statement.{statement}
@@ -48,11 +49,21 @@ module _ (c : tie.Else2) where
         slots-listed (start .args .s) (start .pre .0 .block) .below (start .args .slot) sent,
       )
 
--- on a data element
-data-element : (c : tie.Else3) →
+-- on a granted tone, and there on a data element
+granted : (c : tie.Else3) →
     let a = start (c .before .before) .args in
+    isGranted (a .s) (a .k) ≡ true
+granted c = sym (c .before .is-granted .ensures) ∙ not-false _ (c .if3 .left)
+
+data-element : (c : tie.Else4) →
+    let a = start (c .before .before .before .before) .args in
     carriesData (a .s) (uplinkElementOf (a .s .subcarriers) (a .l) (a .k)) ≡ true
-data-element c = sym (c .before .carries-data .ensures) ∙ not-false _ (c .if3 .left)
+data-element c =
+    let g = c .before .before in
+    let o = g .before .before in
+    let a = start o in
+    on-data (a .args .s) (a .pre .0) (a .args .l) (a .args .k) (subcarrier-inside (within o)) (symbol-inside (within o)) (granted g)
+    (sym (c .before .is-reference .ensures) ∙ c .if4 .left)
 
 pub backward-spec : {M : Type 1} → statement M
 backward-spec =
@@ -68,33 +79,39 @@ backward-spec =
     let a = i .before in
     c .other .ensures
     ∙ backward-unsent (a .args .s) (a .args .slot) (a .args .l) (a .args .k) (inside i) (sym (a .pre .1 .says) ∙ not-true _ (c .before .if2 .taken)))
-    (λ c κs. (start c .pre .0, symbol-inside (within c), subcarrier-inside (within c)))
-    (λ c κs.
-    let o = c .before .before in
-    (start o .pre .0, symbol-inside (within o), subcarrier-inside (within o)))
+    (λ c κs. start c .pre .0)
     (λ c κs. search needs)
     (λ c.
-    let o = c .before .before .before .before in
-    let a = start o .args in
-    c .other2 .ensures
-    ∙ backward-other (a .s) (a .slot) (a .l) (a .k) (inside (within o)) _ (sent o)
-    (sym (c .before .before .before .carries-data .ensures) ∙ not-true _ (c .before .before .if3 .taken)) (c .before .reference-kind .ensures))
+    let t = c .before in
+    let o = t .before .before in
+    let a = start o in
+    let n = not-granted (a .args .s) (a .pre .0) (a .args .l) (a .args .k) (subcarrier-inside (within o)) (sym (t .before .is-granted .ensures) ∙ not-true _ (t .if3 .taken)) in
+    c .other2 .ensures ∙ backward-other (a .args .s) (a .args .slot) (a .args .l) (a .args .k) (inside (within o)) 0 (sent o) (n .0) (n .1))
     (λ c κs. start (c .before .before) .pre .0)
-    (λ c κs.
-    let o = c .before .before .before in
-    (start o .pre .0, subcarrier-inside (within o), data-element (c .before)))
+    (λ c κs. search needs)
+    (λ c.
+    let t = c .before in
+    let g = t .before .before in
+    let o = g .before .before in
+    let a = start o in
+    let n = on-reference (a .args .s) (a .pre .0) (a .args .l) (a .args .k) (subcarrier-inside (within o)) (granted g) (sym (t .before .is-reference .ensures) ∙ t .if4 .taken) in
+    c .other3 .ensures ∙ backward-other (a .args .s) (a .args .slot) (a .args .l) (a .args .k) (inside (within o)) 1 (sent o) (n .0) (n .1))
     (λ c κs. start (c .before .before .before .before) .pre .0)
+    (λ c κs.
+    let o = c .before .before .before .before .before in
+    (start o .pre .0, subcarrier-inside (within o), data-element (c .before)))
+    (λ c κs. start (c .before .before .before .before .before .before) .pre .0)
     (λ c κs.
     let w = c .before .before in
     (omega (arith, c .carried-by .ensures .1), w .slot-data .ensures .2, omega (arith, c .before .number-of .ensures .1, w .slot-data .ensures .0)))
     (λ c κs.
     let w = c .before .before .before in
-    (index-small (w .before .before .before), w .slot-data .ensures .2, omega (arith, c .before .before .number-of .ensures .1, w .slot-data .ensures .0)))
+    (index-small (w .before .before .before .before .before), w .slot-data .ensures .2, omega (arith, c .before .before .number-of .ensures .1, w .slot-data .ensures .0)))
     (λ c κs. search needs)
     (λ c.
     let u = c .before .before .before in
     let w = u .before .before in
-    let o = w .before .before .before in
+    let o = w .before .before .before .before .before in
     let a = start o .args in
     c .ours .ensures
     ∙ backward-ours (a .s) (a .slot) (a .l) (a .k) (inside (within o)) _ _ _ _ _ _ (sent o) (data-element (w .before)) (w .slot-data .ensures .0)
