@@ -12,12 +12,11 @@ use Rattle.spans.specs.Pattern.{allows, periodOf}
 use Rattle.cell.specs.declared.Cell.{Cell}
 use Rattle.cell.specs.declared.Cause.{Cause}
 use Rattle.cell.specs.declared.Cause.the-variants.{None}
-use Rattle.cell.specs.declared.CauseAnswer.{CauseAnswer}
 use Rattle.cell.specs.declared.Verdict.{Verdict}
-use Rattle.cell.specs.Bitmap.{ownBuffer, allowed, bitmapIn}
+use Rattle.cell.specs.Bitmap.{allowed, bitmapIn}
 use Rattle.cell.specs.Usable.{period, usable}
-use Rattle.cell.specs.Judge.{formRefusal, noneAllowed, noneUsable, useRefusal, cellRefusal, judgeOf, causeOf}
-use Rattle.cell.specs.Quick.{Loaded, Shows, Leaves, VerdictOn, seen}
+use Rattle.cell.specs.Judge.{formRefusal, noneAllowed, noneUsable, useRefusal, cellRefusal}
+use Rattle.cell.specs.Quick.{Loaded, Shows, Leaves, VerdictOn, seen, causeOn}
 use Rattle.cell.proofs.Accepted.{form-bitmap}
 use Rattle.cell.proofs.Showing.{none-allowed, some-allowed, seen-is, some-usable, none-usable}
 
@@ -80,13 +79,21 @@ module _ (c : Cell) (own : List ℕ) where
             some = λ z. h;
           }
 
+-- ---- refusals 1 to 7 come first
+
+module _ (c : Cell) (own : List ℕ) (n : ℕ) (e : n ≡ formRefusal c own) (h : n ≡ 0 → ⊥) where
+  pub form-first : n ≡ cellRefusal c own
+  unfolding cellRefusal
+  form-first = simp (← e, ne-eqb n 0 h)
+
+  pub cause-form : (t : ℕ) → record { no = n; cause = None } ≡ causeOn c own t
+  cause-form t = simp (← form-first, ne-eqb n 0 h)
+
 -- ---- the question of the cause
 
-module _ (c : Cell) (anchor other : List ℕ) (v : Verdict) (h : VerdictOn c (ownBuffer c anchor other) v) (t : ℕ) where
-  pub cause-refused : (v .no ≡ 0 → ⊥) → record { no = v .no; cause = None } ≡ causeOf c anchor other t
-  unfolding judgeOf causeOf
+module _ (c : Cell) (own : List ℕ) (v : Verdict) (h : VerdictOn c own v) (t : ℕ) where
+  pub cause-refused : (v .no ≡ 0 → ⊥) → record { no = v .no; cause = None } ≡ causeOn c own t
   cause-refused n = simp (← h .number, ne-eqb (v .no) 0 n)
 
-  pub cause-told : (x : Cause) → v .no ≡ 0 → x ≡ seen c (v .pattern) t → record { no = 0; cause = x } ≡ causeOf c anchor other t
-  unfolding judgeOf causeOf
-  cause-told x e d = simp (← h .number, e, d, seen-is c (bitmapIn c (ownBuffer c anchor other)) (v .pattern) (h .shows e) t)
+  pub cause-told : (x : Cause) → v .no ≡ 0 → x ≡ seen c (v .pattern) t → record { no = 0; cause = x } ≡ causeOn c own t
+  cause-told x e d = simp (← h .number, e, d, seen-is c (bitmapIn c own) (v .pattern) (h .shows e) t)

@@ -11,6 +11,7 @@ use Rattle.spans.specs.Pattern.{span, maskBit, maskAt, allows, periodOf, Regula
 use Rattle.cell.specs.declared.Cell.{Cell}
 use Rattle.cell.specs.declared.Cause.{Cause}
 use Rattle.cell.specs.declared.Cause.the-variants.{None, Npbch, Npss, Nsss, Sib1, Bitmap}
+use Rattle.cell.specs.declared.CauseAnswer.{CauseAnswer}
 use Rattle.cell.specs.declared.Verdict.{Verdict}
 use Rattle.cell.specs.Bitmap.{bytesOf, listedLength, allowed, bitmapIn}
 use Rattle.cell.specs.Usable.{period, npbch, npss, nsss, bySchedule, sib1, isAnchor, why, none}
@@ -63,3 +64,8 @@ pub record VerdictOn (c : Cell) (own : List ℕ) (r : Verdict) : Type 0 where
   pub number : r .no ≡ cellRefusal c own
   pub shows : r .no ≡ 0 → Shows c (bitmapIn c own) (r .pattern)
   pub some : r .no ≡ 0 → 0 < rank (allows (r .pattern)) (periodOf (r .pattern))
+
+-- the question of the cause, on the cell's own buffer
+abbrev pub causeOn : Cell → List ℕ → ℕ → CauseAnswer
+causeOn c own t =
+    cond (eqb (cellRefusal c own) 0) (record { no = 0; cause = why c (bitmapIn c own) t }) (record { no = cellRefusal c own; cause = None })

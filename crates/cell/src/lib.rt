@@ -5,8 +5,8 @@ ghost use lib.Bits.{bitAnd};
 ghost use lib.Dec.{eqb, leb};
 ghost use Rattle.spans.specs.Pattern.{Regular};
 ghost use Rattle.cell.specs.Bitmap.{ownBuffer};
-ghost use Rattle.cell.specs.Judge.{numbersRefusal, formRefusal, judgeOf, inForceOf, causeOf};
-ghost use Rattle.cell.specs.Quick.{whyNot, seen, Leaves, VerdictOn};
+ghost use Rattle.cell.specs.Judge.{numbersRefusal, formRefusal, cellRefusal, judgeOf, inForceOf, causeOf};
+ghost use Rattle.cell.specs.Quick.{whyNot, seen, Leaves, VerdictOn, causeOn};
 ghost use Rattle.cell.specs.Usable.{numberOf};
 use spans::Pattern;
 
@@ -93,7 +93,7 @@ fn listed_control(in_band: bool, control: u64) -> bool
 }
 
 // Refusals 1 to 7.
-fn form_refusal(c: Cell, own: &[u8]) -> u64
+pub fn form_refusal(c: Cell, own: &[u8]) -> u64
     ensures { λ r. ⌜ r ≡ formRefusal c (now (own .entry)) ⌝ }
 {
     let no = numbers_refusal(c);
@@ -147,13 +147,12 @@ fn refused(no: u64) -> Verdict
     }
 }
 
-fn judged_own(c: Cell, own: &[u8]) -> Verdict
+// 8, 18 or the pattern, of a cell with none of the refusals 1 to 7. Some questions ask for both in turn: one function of them is too long for
+// the compiler to put into each.
+pub fn formed(c: Cell, own: &[u8]) -> Verdict
+    requires { ⌜ formRefusal c (now own) ≡ 0 ⌝ }
     ensures { λ r. ⌜ VerdictOn c (now (own .entry)) r ⌝ }
 {
-    let no = form_refusal(c, own);
-    if no != 0 {
-        return refused(no);
-    }
     let m = bitmap::load(c.bits, own);
     if m == 0 {
         return refused(8);
@@ -163,6 +162,16 @@ fn judged_own(c: Cell, own: &[u8]) -> Verdict
         return refused(18);
     }
     Verdict { no: 0, pattern: p }
+}
+
+fn judged_own(c: Cell, own: &[u8]) -> Verdict
+    ensures { λ r. ⌜ VerdictOn c (now (own .entry)) r ⌝ }
+{
+    let no = form_refusal(c, own);
+    if no != 0 {
+        return refused(no);
+    }
+    formed(c, own)
 }
 
 // A cell's refusal number, and the pattern of an accepted one.
@@ -175,11 +184,25 @@ pub fn judged(c: Cell, anchor: &[u8], other: &[u8]) -> Verdict
     judged_own(c, other)
 }
 
+// A cell's refusal number, by its own buffer.
+fn judge_own(c: Cell, own: &[u8]) -> u64
+    ensures { λ r. ⌜ r ≡ cellRefusal c (now (own .entry)) ⌝ }
+{
+    let no = form_refusal(c, own);
+    if no != 0 {
+        return no;
+    }
+    formed(c, own).no
+}
+
 // Judge a cell: its refusal number, or 0.
 pub fn judge(c: Cell, anchor: &[u8], other: &[u8]) -> u64
     ensures { λ r. ⌜ r ≡ judgeOf c (now (anchor .entry)) (now (other .entry)) ⌝ }
 {
-    judged(c, anchor, other).no
+    if c.carrier == 0 {
+        return judge_own(c, anchor);
+    }
+    judge_own(c, other)
 }
 
 // The bitmap in force: the first 0, 2 or 5 bytes of the carrier's own buffer; an empty part for a refused cell.
@@ -227,11 +250,18 @@ pub fn why(c: Cell, p: Pattern, t: u64) -> Cause
     why_not(c, t)
 }
 
-// Why subframe t is not usable: the first cause, or none.
-pub fn cause_at(c: Cell, anchor: &[u8], other: &[u8], t: u64) -> CauseAnswer
-    ensures { λ r. ⌜ r ≡ causeOf c (now (anchor .entry)) (now (other .entry)) t ⌝ }
+// Why subframe t is not usable, by the cell's own buffer.
+fn cause_own(c: Cell, own: &[u8], t: u64) -> CauseAnswer
+    ensures { λ r. ⌜ r ≡ causeOn c (now (own .entry)) t ⌝ }
 {
-    let v = judged(c, anchor, other);
+    let no = form_refusal(c, own);
+    if no != 0 {
+        return CauseAnswer {
+            no,
+            cause: Cause::None,
+        };
+    }
+    let v = formed(c, own);
     if v.no != 0 {
         return CauseAnswer {
             no: v.no,
@@ -242,6 +272,16 @@ pub fn cause_at(c: Cell, anchor: &[u8], other: &[u8], t: u64) -> CauseAnswer
         no: 0,
         cause: why(c, v.pattern, t),
     }
+}
+
+// Why subframe t is not usable: the first cause, or none.
+pub fn cause_at(c: Cell, anchor: &[u8], other: &[u8], t: u64) -> CauseAnswer
+    ensures { λ r. ⌜ r ≡ causeOf c (now (anchor .entry)) (now (other .entry)) t ⌝ }
+{
+    if c.carrier == 0 {
+        return cause_own(c, anchor, t);
+    }
+    cause_own(c, other, t)
 }
 
 // The number of a cause.
