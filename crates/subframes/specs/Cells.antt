@@ -7,7 +7,7 @@ use Rattle.counting.specs.Counting.{rank}
 use Rattle.grid.specs.Grid.{elements}
 use Rattle.grid.specs.Tables.{isRepetition}
 use Rattle.cell.specs.declared.Cell.{Cell}
-use Rattle.cell.specs.Judge.{judgeOf}
+use Rattle.cell.specs.Judge.{cellRefusal, judgeOf}
 use Rattle.elements.specs.declared.Layout.{Layout}
 use Rattle.elements.specs.Elements.{eligible}
 use Rattle.subframes.specs.declared.ElementCount.{ElementCount}
@@ -20,6 +20,11 @@ layoutOf c = record { v = c .identity % 6; nports = c .nports; cports = c .cport
 unfoldable pub elementCountOf : Cell → List ℕ → List ℕ → ElementCount
 elementCountOf c anchor other =
     cond (eqb (judgeOf c anchor other) 0) (record { no = 0; e = rank (eligible (layoutOf c)) elements }) (record { no = judgeOf c anchor other; e = 0 })
+
+-- the same on the cell's own buffer
+abbrev pub countOn : Cell → List ℕ → ElementCount
+countOn c own =
+    cond (eqb (cellRefusal c own) 0) (record { no = 0; e = rank (eligible (layoutOf c)) elements }) (record { no = cellRefusal c own; e = 0 })
 
 -- the last subframe that a grant may name
 abbrev pub lastSubframe : ℕ

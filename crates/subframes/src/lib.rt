@@ -11,7 +11,7 @@ ghost use Rattle.sending.specs.CopyOrder.{carried};
 ghost use Rattle.sending.specs.Answer.{backOf};
 ghost use Rattle.subframes.specs.Fits.{Fits, Going};
 ghost use Rattle.subframes.specs.Quick.{standsIn, Answerable};
-ghost use Rattle.subframes.specs.Cells.{layoutOf, elementCountOf, fieldsRefusal};
+ghost use Rattle.subframes.specs.Cells.{layoutOf, countOn, elementCountOf, fieldsRefusal};
 ghost use Rattle.subframes.specs.Mapping.{sentSubframes};
 ghost use Rattle.subframes.specs.Answers.{refusedPlan, refusedPlace, placeOf, burstPlan, burstForward, backAnswer, planAnswer, forwardAnswer};
 use cell::Cause;
@@ -248,11 +248,15 @@ pub struct ElementCount {
     pub e: u64,
 }
 
-// E of a cell: the eligible elements of a subframe.
-pub fn element_count(c: Cell, anchor: &[u8], other: &[u8]) -> ElementCount
-    ensures { λ r. ⌜ r ≡ elementCountOf c (now (anchor .entry)) (now (other .entry)) ⌝ }
+// E of a cell, judged by its own buffer: the eligible elements of a subframe.
+fn count_own(c: Cell, own: &[u8]) -> ElementCount
+    ensures { λ r. ⌜ r ≡ countOn c (now (own .entry)) ⌝ }
 {
-    let no = cell::judge(c, anchor, other);
+    let form = cell::form_refusal(c, own);
+    if form != 0 {
+        return ElementCount { no: form, e: 0 };
+    }
+    let no = cell::formed(c, own).no;
     if no != 0 {
         return ElementCount { no, e: 0 };
     }
@@ -260,6 +264,15 @@ pub fn element_count(c: Cell, anchor: &[u8], other: &[u8]) -> ElementCount
         no: 0,
         e: elements::count(layout(c), 0, Grid::SUBCARRIERS),
     }
+}
+
+pub fn element_count(c: Cell, anchor: &[u8], other: &[u8]) -> ElementCount
+    ensures { λ r. ⌜ r ≡ elementCountOf c (now (anchor .entry)) (now (other .entry)) ⌝ }
+{
+    if c.carrier == 0 {
+        return count_own(c, anchor);
+    }
+    count_own(c, other)
 }
 
 const LAST_SUBFRAME: u64 = 0x3fff_ffff;
