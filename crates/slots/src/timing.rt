@@ -6,24 +6,16 @@ ghost use Rattle.slots.specs.Fits.{Fits};
 ghost use Rattle.slots.specs.Timing.{active, period};
 use super::Shape;
 
-// How often 37 is doubled to get the slots of a round, if they are 148 or 592.
-fn doublings(round: u64) -> u64
-    ensures { λ r. ⌜ r < 8 ⌝ }
-{
-    if round < 512 {
-        return 2;
-    }
-    4
-}
-
-// n over the slots of a round, without a division by them if they are 148 or 592.
+// n over the slots of a round, without a division by them if they are 148 or 592: 37 times 4 or 16.
 pub fn over_round(round: u64, n: u64) -> u64
     requires { ⌜ 0 < round ⌝ }
     ensures { λ r. ⌜ r ≡ n / round ⌝ }
 {
-    let z = doublings(round);
-    if 37 << z == round {
-        return (n / 37) >> z;
+    if round == 148 {
+        return (n / 37) >> 2;
+    }
+    if round == 592 {
+        return (n / 37) >> 4;
     }
     n / round
 }
