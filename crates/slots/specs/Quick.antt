@@ -1,4 +1,4 @@
--- What the quick code takes apart. No definition of 01 and no public contract cites this.
+-- What the quick code takes apart. No definition of 01 cites this.
 use mathlib.Core.Bool.{true, cond}
 use mathlib.Core.Path.{_≡_}
 use Prim.Native.Nat.{ℕ, _+_, _/_, _%_}
