@@ -12,39 +12,41 @@ static uint64_t answer[8];
 static float output[336], pair[2];
 static const uint64_t cell[] = {1, 0, 5, 1, 4, 1, 1, 40}, down[] = {1000, 3, 64, 7, 9}, control[] = {1000, 64, 0, 1};
 static const uint64_t up[] = {1000, 1, 14, 5, 6, 2, 3}, ack[] = {1000, 1, 6, 5};
+static const uint64_t windows[17] = {3, 160, 8, 688128, 0, 320, 64, 786432, 20, 2560, 256, 6291456, 8};
 static const uint8_t anchor[] = {0xff, 0xf7, 0xdb, 0xff, 0xff}, other[5];
 static uint8_t bits[320];
 
 #define CELL cell, 8, anchor, 5, other, 5
 #define ANSWER answer, 8
+#define WINDOWS windows, 17
 
 static uint64_t nothing(void) { return 0; }
 static uint64_t judge(void) { return nbiot_judge(CELL); }
 static uint64_t bitmap(void) { return nbiot_bitmap(CELL, ANSWER); }
 static uint64_t count(void) { return nbiot_count(CELL, ANSWER); }
-static uint64_t plan_up(void) { return nbiot_plan_up(up, 7, ANSWER); }
-static uint64_t plan_ack(void) { return nbiot_plan_ack(ack, 4, ANSWER); }
+static uint64_t plan_up(void) { return nbiot_plan_up(up, 7, WINDOWS, ANSWER); }
+static uint64_t plan_ack(void) { return nbiot_plan_ack(ack, 4, WINDOWS, ANSWER); }
 static uint64_t plan_down(void) { return nbiot_plan_down(CELL, down, 5, ANSWER); }
 static uint64_t plan_control(void) { return nbiot_plan_control(CELL, control, 4, ANSWER); }
-static uint64_t forward_up(void) { return nbiot_forward_up(up, 7, 100, ANSWER); }
-static uint64_t forward_ack(void) { return nbiot_forward_ack(ack, 4, 100, ANSWER); }
+static uint64_t forward_up(void) { return nbiot_forward_up(up, 7, WINDOWS, 100, ANSWER); }
+static uint64_t forward_ack(void) { return nbiot_forward_ack(ack, 4, WINDOWS, 100, ANSWER); }
 static uint64_t forward_down(void) { return nbiot_forward_down(CELL, down, 5, 5000, ANSWER); }
 static uint64_t forward_control(void) { return nbiot_forward_control(CELL, control, 4, 100, ANSWER); }
-static uint64_t backward_up(void) { return nbiot_backward_up(up, 7, 2100, 2, 7, ANSWER); }
-static uint64_t backward_ack(void) { return nbiot_backward_ack(ack, 4, 2040, 0, 2, ANSWER); }
+static uint64_t backward_up(void) { return nbiot_backward_up(up, 7, WINDOWS, 2100, 2, 7, ANSWER); }
+static uint64_t backward_ack(void) { return nbiot_backward_ack(ack, 4, WINDOWS, 2040, 0, 2, ANSWER); }
 static uint64_t backward_down(void) { return nbiot_backward_down(CELL, down, 5, 1100, 1, 2, 7, ANSWER); }
 static uint64_t backward_control(void) { return nbiot_backward_control(CELL, control, 4, 1011, 1, 2, 7, ANSWER); }
 
 static uint64_t step_up(void) {
     uint64_t walk[8] = {100};
     memcpy(walk + 1, up, sizeof up);
-    return nbiot_step_up(walk, 8, ANSWER);
+    return nbiot_step_up(walk, 8, WINDOWS, ANSWER);
 }
 
 static uint64_t step_ack(void) {
     uint64_t walk[5] = {100};
     memcpy(walk + 1, ack, sizeof ack);
-    return nbiot_step_ack(walk, 5, ANSWER);
+    return nbiot_step_ack(walk, 5, WINDOWS, ANSWER);
 }
 
 static uint64_t step_down(void) {

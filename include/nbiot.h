@@ -24,11 +24,13 @@
  *    11  subcarrier field 48 to 63 at 3.75 kHz, 19 to 63 at 15 kHz
  *    12  Rmax or NPDCCH copies not a power of two, 1 to 2048
  *    13  MCS 5 to 15
+ *    19  a fifth random access window, a number of a window that is not listed, or its tones past 47
+ *    20  the windows leave no group of slots ever free on the granted tones
  *    14  position or transmitted subframe past the end, or a place outside the grid
  *    15  bits not ceil(N * E / 4) bytes, or output not 336 numbers
  *    16  level not from 2^-20 to 2^20
  *    17  fill asked for two ports
- *   255  a cell, grant, walk, answer or amplitudes buffer is too short: judged first, and nothing is written
+ *   255  a cell, grant, walk, windows, answer or amplitudes buffer is too short: judged first, and nothing is written
  *
  * A refused call answers its number and zeros in the answer; output and walk stay as they were. A buffer that is longer than
  * needed keeps its rest, so that a later version may answer more numbers.
@@ -77,6 +79,25 @@ enum {
     NBIOT_ACK_FIELD,     /* the 4-bit field of tone and delay */
     NBIOT_ACK_COPIES,
     NBIOT_ACK_NUMBERS
+};
+
+/*
+ * Random access windows, which push uplink slots aside: a count up to 4, then four windows; those past the count are not read, but
+ * the buffer has all 17 numbers. A buffer of no numbers is no window. The windows are lent with each uplink call.
+ * Window i, from 0, has its numbers from NBIOT_WINDOWS_FIRST + i * NBIOT_WINDOW_NUMBERS on.
+ */
+enum {
+    NBIOT_WINDOW_PERIOD, /* 40, 80, 160, 320, 640, 1280 or 2560 ms */
+    NBIOT_WINDOW_START,  /* 8 to 1024 ms, a power of two: windows begin at every t equal to it modulo the period */
+    NBIOT_WINDOW_LENGTH, /* in 1/30720 ms: 172032 or 196608, times a power of two up to 64 */
+    NBIOT_WINDOW_TONE,   /* the first of 12 tones at 3.75 kHz, 0 to 36 */
+    NBIOT_WINDOW_NUMBERS
+};
+
+enum {
+    NBIOT_WINDOWS_COUNT,
+    NBIOT_WINDOWS_FIRST,
+    NBIOT_WINDOWS_NUMBERS = NBIOT_WINDOWS_FIRST + 4 * NBIOT_WINDOW_NUMBERS
 };
 
 /* An NPDSCH grant that ends in subframe n. Delay, subframes and copies are fields, rmax is the number itself. */
@@ -170,9 +191,11 @@ enum {
 };
 
 uint64_t nbiot_plan_up(const uint64_t *grant, size_t grant_len,
+                       const uint64_t *windows, size_t windows_len,
                        uint64_t *answer, size_t answer_len);
 
 uint64_t nbiot_plan_ack(const uint64_t *grant, size_t grant_len,
+                        const uint64_t *windows, size_t windows_len,
                         uint64_t *answer, size_t answer_len);
 
 uint64_t nbiot_plan_down(const uint64_t *cell, size_t cell_len,
@@ -207,10 +230,12 @@ enum {
     NBIOT_PLACE_NUMBERS
 };
 
-uint64_t nbiot_forward_up(const uint64_t *grant, size_t grant_len, uint64_t p,
+uint64_t nbiot_forward_up(const uint64_t *grant, size_t grant_len,
+                          const uint64_t *windows, size_t windows_len, uint64_t p,
                           uint64_t *answer, size_t answer_len);
 
-uint64_t nbiot_forward_ack(const uint64_t *grant, size_t grant_len, uint64_t p,
+uint64_t nbiot_forward_ack(const uint64_t *grant, size_t grant_len,
+                           const uint64_t *windows, size_t windows_len, uint64_t p,
                            uint64_t *answer, size_t answer_len);
 
 uint64_t nbiot_forward_down(const uint64_t *cell, size_t cell_len,
@@ -241,10 +266,12 @@ enum {
 };
 
 uint64_t nbiot_backward_up(const uint64_t *grant, size_t grant_len,
+                           const uint64_t *windows, size_t windows_len,
                            uint64_t slot, uint64_t l, uint64_t k,
                            uint64_t *answer, size_t answer_len);
 
 uint64_t nbiot_backward_ack(const uint64_t *grant, size_t grant_len,
+                            const uint64_t *windows, size_t windows_len,
                             uint64_t slot, uint64_t l, uint64_t k,
                             uint64_t *answer, size_t answer_len);
 
@@ -290,9 +317,11 @@ enum {
 };
 
 uint64_t nbiot_step_up(uint64_t *walk, size_t walk_len,
+                       const uint64_t *windows, size_t windows_len,
                        uint64_t *answer, size_t answer_len);
 
 uint64_t nbiot_step_ack(uint64_t *walk, size_t walk_len,
+                        const uint64_t *windows, size_t windows_len,
                         uint64_t *answer, size_t answer_len);
 
 uint64_t nbiot_step_down(uint64_t *walk, size_t walk_len,

@@ -1,12 +1,13 @@
 //! The questions in plain Rust, as fast as we can write them. Nothing is kept between calls: each call judges its cell and
 //! its grant. No loop runs over subframes or elements, but for the fill, which writes its numbers once.
-//! Cells, grants and answers are in the order of include/nbiot.h.
+//! Cells, grants, windows and answers are in the order of include/nbiot.h.
 
 mod acknowledgement;
 mod cell;
 mod downlink;
 mod elements;
 mod fill;
+mod timeline;
 mod uplink;
 
 pub use acknowledgement::{backward_ack, forward_ack, plan_ack, step_ack};

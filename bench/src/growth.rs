@@ -22,8 +22,24 @@ fn times(scenes: &mut [Scene]) -> [f64; 3] {
     [planned, forward, backward]
 }
 
-fn line(name: &str, value: u64, mut scenes: Vec<Scene>) {
-    let [plan, forward, backward] = times(&mut scenes);
+/// The same of the uplink.
+fn uplink_times(scenes: &mut [Scene]) -> [f64; 3] {
+    let (mut plan, mut place, mut back) = ([0; 7], [0; 5], [0; 5]);
+    let (planned, _) = versus(scenes, |s| ours::plan_up(&s.up, &s.windows[0], &mut plan), |_| 0);
+    let (forward, _) = versus(scenes, |s| ours::forward_up(&s.up, &s.windows[0], s.p[0], &mut place), |_| 0);
+    let (backward, _) = versus(
+        scenes,
+        |s| {
+            let [slot, l, k] = s.at_up;
+            ours::backward_up(&s.up, &s.windows[0], slot, l, k, &mut back)
+        },
+        |_| 0,
+    );
+    [planned, forward, backward]
+}
+
+fn line(name: &str, value: u64, times: [f64; 3]) {
+    let [plan, forward, backward] = times;
     println!("| {name} | {value} | {plan:.1} | {forward:.1} | {backward:.1} |");
 }
 
@@ -40,26 +56,51 @@ fn scenes(r: &mut Random, change: impl Fn(&mut Scene)) -> Vec<Scene> {
     made.collect()
 }
 
+/// One tone at 3.75 kHz beside a window of 22.4 ms every 160 ms, so many copies of 10 units, at random positions.
+fn uplink_scenes(r: &mut Random, copies: u64) -> Vec<Scene> {
+    let made = (0..SCENES).map(|_| {
+        let mut scene = Scene::accepted(r);
+        let tone = r.below(48);
+        scene.up = [100 + r.below(1000), 0, tone, 7, copies, 0, 0];
+        scene.windows[0] = vec![1, 160, 8, 688_128, tone.min(36), 0, 0, 0, 0, 0, 0, 0, 0, 0, 0, 0, 0];
+        scene.aim(r);
+        scene
+    });
+    made.collect()
+}
+
+pub fn uplink_table(r: &mut Random) {
+    println!("\n| NPUSCH beside a window grows by | to | plan, ns | forward, ns | backward, ns |\n|---|---|---|---|---|");
+    for field in 0..8 {
+        line("copies", 1 << field, uplink_times(&mut uplink_scenes(r, field)));
+    }
+    for log in [0, 4, 8, 12, 16] {
+        let mut at = uplink_scenes(r, 7);
+        at.iter_mut().for_each(|s| s.place_up(1 << log));
+        line("p", 1 << log, uplink_times(&mut at));
+    }
+}
+
 pub fn table(r: &mut Random) {
     println!("\n| NPDSCH grows by | to | plan, ns | forward, ns | backward, ns |\n|---|---|---|---|---|");
     for (field, copies) in [1, 2, 4, 8, 16, 32, 64, 128].into_iter().enumerate() {
-        line("copies", copies, scenes(r, |s| s.down[4] = field as u64));
+        line("copies", copies, times(&mut scenes(r, |s| s.down[4] = field as u64)));
     }
     for (field, copies) in [(9, 256), (11, 512), (13, 1024), (15, 2048)] {
-        line("copies", copies, scenes(r, |s| s.down[4] = field));
+        line("copies", copies, times(&mut scenes(r, |s| s.down[4] = field)));
     }
     for (field, delay) in [0, 16, 32, 64, 128, 256, 512, 1024].into_iter().enumerate() {
-        line("delay", delay, scenes(r, |s| s.down[1] = field as u64));
+        line("delay", delay, times(&mut scenes(r, |s| s.down[1] = field as u64)));
     }
     for log in [0, 6, 12, 18, 24, 29] {
-        line("n", 1 << log, scenes(r, |s| s.down[0] = 1 << log));
+        line("n", 1 << log, times(&mut scenes(r, |s| s.down[0] = 1 << log)));
     }
     for log in [0, 4, 8, 12, 16, 20] {
         let mut at = scenes(r, |_| ());
         at.iter_mut().for_each(|s| s.place(1 << log));
-        line("p", 1 << log, at);
+        line("p", 1 << log, times(&mut at));
     }
     for ones in [40, 20, 10, 5, 2, 1] {
-        line("bitmap with ones", ones, scenes(r, |s| s.sparse(ones)));
+        line("bitmap with ones", ones, times(&mut scenes(r, |s| s.sparse(ones))));
     }
 }

@@ -18,5 +18,10 @@ fn main() {
     let mut ported: Vec<Scene> = timed.iter().map(|s| s.clone().with_one_port(&mut r)).collect();
     let mut compared: Vec<Scene> = (0..COMPARED).map(|_| Scene::any(&mut r)).collect();
     questions::table(&mut timed, &mut ported, &mut compared);
+    let mut w = Random::new(0x2545_f491_4f6c_dd1d);
+    let mut timed: Vec<Scene> = timed.into_iter().map(|s| s.beside_windows(&mut w)).collect();
+    let mut compared: Vec<Scene> = compared.into_iter().map(|s| s.beside_any_windows(&mut w)).collect();
+    questions::beside_windows(&mut timed, &mut compared);
     growth::table(&mut r);
+    growth::uplink_table(&mut w);
 }

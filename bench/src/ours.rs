@@ -11,14 +11,8 @@ extern "C" {
         cell: *const u64, cells: usize, anchor: *const u8, anchors: usize, other: *const u8, others: usize, t: u64,
         answer: *mut u64, answers: usize,
     ) -> u64;
-    fn nbiot_plan_up(grant: *const u64, grants: usize, answer: *mut u64, answers: usize) -> u64;
-    fn nbiot_forward_up(grant: *const u64, grants: usize, p: u64, answer: *mut u64, answers: usize) -> u64;
-    fn nbiot_backward_up(grant: *const u64, grants: usize, slot: u64, l: u64, k: u64, answer: *mut u64, answers: usize) -> u64;
-    fn nbiot_step_up(walk: *mut u64, walks: usize, answer: *mut u64, answers: usize) -> u64;
-    fn nbiot_plan_ack(grant: *const u64, grants: usize, answer: *mut u64, answers: usize) -> u64;
-    fn nbiot_forward_ack(grant: *const u64, grants: usize, p: u64, answer: *mut u64, answers: usize) -> u64;
-    fn nbiot_backward_ack(grant: *const u64, grants: usize, slot: u64, l: u64, k: u64, answer: *mut u64, answers: usize) -> u64;
-    fn nbiot_step_ack(walk: *mut u64, walks: usize, answer: *mut u64, answers: usize) -> u64;
+    fn nbiot_step_up(walk: *mut u64, walks: usize, windows: *const u64, lent: usize, answer: *mut u64, answers: usize) -> u64;
+    fn nbiot_step_ack(walk: *mut u64, walks: usize, windows: *const u64, lent: usize, answer: *mut u64, answers: usize) -> u64;
     fn nbiot_step_down(
         walk: *mut u64, walks: usize, anchor: *const u8, anchors: usize, other: *const u8, others: usize, answer: *mut u64, answers: usize,
     ) -> u64;
@@ -66,6 +60,34 @@ downlink! {
     backward_control nbiot_backward_control (t, slot, l, k) ControlGrant, 6;
 }
 
+macro_rules! uplink {
+    ($($name:ident $extern:ident ($($number:ident),*) $grant:ty, $columns:literal;)*) => {
+        extern "C" {
+            $(fn $extern(
+                grant: *const u64, grants: usize, windows: *const u64, lent: usize, $($number: u64,)* answer: *mut u64, answers: usize,
+            ) -> u64;)*
+        }
+        $(#[inline(always)]
+        pub fn $name(grant: &$grant, windows: &[u64], $($number: u64,)* answer: &mut [u64; $columns]) -> u64 {
+            // SAFETY: the pointers and lengths are those of slices, and only `answer` is written.
+            unsafe {
+                $extern(
+                    grant.as_ptr(), grant.len(), windows.as_ptr(), windows.len(), $($number,)* answer.as_mut_ptr(), answer.len(),
+                )
+            }
+        })*
+    };
+}
+
+uplink! {
+    plan_up nbiot_plan_up () UpGrant, 7;
+    plan_ack nbiot_plan_ack () AckGrant, 7;
+    forward_up nbiot_forward_up (p) UpGrant, 5;
+    forward_ack nbiot_forward_ack (p) AckGrant, 5;
+    backward_up nbiot_backward_up (slot, l, k) UpGrant, 5;
+    backward_ack nbiot_backward_ack (slot, l, k) AckGrant, 5;
+}
+
 #[inline(always)]
 pub fn judge(cell: &Cell, anchor: &[u8], other: &[u8]) -> u64 {
     // SAFETY: the pointers and lengths are those of slices, and nothing is written.
@@ -91,51 +113,15 @@ pub fn cause(cell: &Cell, anchor: &[u8], other: &[u8], t: u64, answer: &mut [u64
 }
 
 #[inline(always)]
-pub fn plan_up(grant: &UpGrant, answer: &mut [u64; 7]) -> u64 {
-    // SAFETY: as above; only `answer` is written.
-    unsafe { nbiot_plan_up(grant.as_ptr(), grant.len(), answer.as_mut_ptr(), answer.len()) }
-}
-
-#[inline(always)]
-pub fn forward_up(grant: &UpGrant, p: u64, answer: &mut [u64; 5]) -> u64 {
-    // SAFETY: as above; only `answer` is written.
-    unsafe { nbiot_forward_up(grant.as_ptr(), grant.len(), p, answer.as_mut_ptr(), answer.len()) }
-}
-
-#[inline(always)]
-pub fn backward_up(grant: &UpGrant, slot: u64, l: u64, k: u64, answer: &mut [u64; 5]) -> u64 {
-    // SAFETY: as above; only `answer` is written.
-    unsafe { nbiot_backward_up(grant.as_ptr(), grant.len(), slot, l, k, answer.as_mut_ptr(), answer.len()) }
-}
-
-#[inline(always)]
-pub fn step_up(walk: &mut UpWalk, answer: &mut [u64; 7]) -> u64 {
+pub fn step_up(walk: &mut UpWalk, windows: &[u64], answer: &mut [u64; 7]) -> u64 {
     // SAFETY: as above; only `walk` and `answer` are written.
-    unsafe { nbiot_step_up(walk.as_mut_ptr(), walk.len(), answer.as_mut_ptr(), answer.len()) }
+    unsafe { nbiot_step_up(walk.as_mut_ptr(), walk.len(), windows.as_ptr(), windows.len(), answer.as_mut_ptr(), answer.len()) }
 }
 
 #[inline(always)]
-pub fn plan_ack(grant: &AckGrant, answer: &mut [u64; 7]) -> u64 {
-    // SAFETY: as above; only `answer` is written.
-    unsafe { nbiot_plan_ack(grant.as_ptr(), grant.len(), answer.as_mut_ptr(), answer.len()) }
-}
-
-#[inline(always)]
-pub fn forward_ack(grant: &AckGrant, p: u64, answer: &mut [u64; 5]) -> u64 {
-    // SAFETY: as above; only `answer` is written.
-    unsafe { nbiot_forward_ack(grant.as_ptr(), grant.len(), p, answer.as_mut_ptr(), answer.len()) }
-}
-
-#[inline(always)]
-pub fn backward_ack(grant: &AckGrant, slot: u64, l: u64, k: u64, answer: &mut [u64; 5]) -> u64 {
-    // SAFETY: as above; only `answer` is written.
-    unsafe { nbiot_backward_ack(grant.as_ptr(), grant.len(), slot, l, k, answer.as_mut_ptr(), answer.len()) }
-}
-
-#[inline(always)]
-pub fn step_ack(walk: &mut AckWalk, answer: &mut [u64; 7]) -> u64 {
+pub fn step_ack(walk: &mut AckWalk, windows: &[u64], answer: &mut [u64; 7]) -> u64 {
     // SAFETY: as above; only `walk` and `answer` are written.
-    unsafe { nbiot_step_ack(walk.as_mut_ptr(), walk.len(), answer.as_mut_ptr(), answer.len()) }
+    unsafe { nbiot_step_ack(walk.as_mut_ptr(), walk.len(), windows.as_ptr(), windows.len(), answer.as_mut_ptr(), answer.len()) }
 }
 
 #[inline(always)]

@@ -7,7 +7,7 @@ use crate::scene::Scene;
 
 /// One question with an answer of numbers: a line of the table.
 macro_rules! line {
-    ($name:literal, $timed:expr, $compared:expr, $columns:literal, |$s:ident, $a:ident| $ours:expr, $fast:expr) => {{
+    ($name:expr, $timed:expr, $compared:expr, $columns:literal, |$s:ident, $a:ident| $ours:expr, $fast:expr) => {{
         let mut buffer = [0u64; $columns];
         let (ours_ns, fast_ns) = versus(
             $timed,
@@ -24,7 +24,7 @@ macro_rules! line {
             let no = $ours;
             agreed += (no == answer[0] && answer == $fast) as usize;
         }
-        report($name, ours_ns, fast_ns, agreed, $compared.len());
+        report(&$name, ours_ns, fast_ns, agreed, $compared.len());
     }};
 }
 
@@ -45,6 +45,14 @@ pub fn table(timed: &mut [Scene], ported: &mut [Scene], compared: &mut [Scene]) 
     steps(timed, compared);
     element(ported, compared);
     fill(ported, compared);
+}
+
+/// The uplink's lines again, of scenes with random access windows.
+pub fn beside_windows(timed: &mut [Scene], compared: &mut [Scene]) {
+    plan_uplink(", windows", timed, compared);
+    forward_uplink(", windows", timed, compared);
+    backward_uplink(", windows", timed, compared);
+    step_uplink(", windows", timed, compared);
 }
 
 fn judge(timed: &mut [Scene], compared: &[Scene]) {
@@ -73,9 +81,21 @@ fn cause(timed: &mut [Scene], compared: &mut [Scene]) {
     );
 }
 
+fn plan_uplink(with: &str, timed: &mut [Scene], compared: &mut [Scene]) {
+    line!(
+        format!("plan up{with}"), timed, compared, 7,
+        |s, a| ours::plan_up(&s.up, &s.windows[0], a),
+        fast::plan_up(&s.up, &s.windows[0])
+    );
+    line!(
+        format!("plan ack{with}"), timed, compared, 7,
+        |s, a| ours::plan_ack(&s.ack, &s.windows[1], a),
+        fast::plan_ack(&s.ack, &s.windows[1])
+    );
+}
+
 fn plans(timed: &mut [Scene], compared: &mut [Scene]) {
-    line!("plan up", timed, compared, 7, |s, a| ours::plan_up(&s.up, a), fast::plan_up(&s.up));
-    line!("plan ack", timed, compared, 7, |s, a| ours::plan_ack(&s.ack, a), fast::plan_ack(&s.ack));
+    plan_uplink("", timed, compared);
     line!(
         "plan down", timed, compared, 5,
         |s, a| ours::plan_down(&s.cell, &s.anchor, &s.other, &s.down, a),
@@ -88,17 +108,21 @@ fn plans(timed: &mut [Scene], compared: &mut [Scene]) {
     );
 }
 
+fn forward_uplink(with: &str, timed: &mut [Scene], compared: &mut [Scene]) {
+    line!(
+        format!("forward up{with}"), timed, compared, 5,
+        |s, a| ours::forward_up(&s.up, &s.windows[0], s.p[0], a),
+        fast::forward_up(&s.up, &s.windows[0], s.p[0])
+    );
+    line!(
+        format!("forward ack{with}"), timed, compared, 5,
+        |s, a| ours::forward_ack(&s.ack, &s.windows[1], s.p[3], a),
+        fast::forward_ack(&s.ack, &s.windows[1], s.p[3])
+    );
+}
+
 fn forwards(timed: &mut [Scene], compared: &mut [Scene]) {
-    line!(
-        "forward up", timed, compared, 5,
-        |s, a| ours::forward_up(&s.up, s.p[0], a),
-        fast::forward_up(&s.up, s.p[0])
-    );
-    line!(
-        "forward ack", timed, compared, 5,
-        |s, a| ours::forward_ack(&s.ack, s.p[3], a),
-        fast::forward_ack(&s.ack, s.p[3])
-    );
+    forward_uplink("", timed, compared);
     line!(
         "forward down", timed, compared, 6,
         |s, a| ours::forward_down(&s.cell, &s.anchor, &s.other, &s.down, s.p[1], a),
@@ -111,17 +135,21 @@ fn forwards(timed: &mut [Scene], compared: &mut [Scene]) {
     );
 }
 
+fn backward_uplink(with: &str, timed: &mut [Scene], compared: &mut [Scene]) {
+    line!(
+        format!("backward up{with}"), timed, compared, 5,
+        |s, a| ours::backward_up(&s.up, &s.windows[0], s.at_up[0], s.at_up[1], s.at_up[2], a),
+        fast::backward_up(&s.up, &s.windows[0], s.at_up)
+    );
+    line!(
+        format!("backward ack{with}"), timed, compared, 5,
+        |s, a| ours::backward_ack(&s.ack, &s.windows[1], s.at_ack[0], s.at_ack[1], s.at_ack[2], a),
+        fast::backward_ack(&s.ack, &s.windows[1], s.at_ack)
+    );
+}
+
 fn backwards(timed: &mut [Scene], compared: &mut [Scene]) {
-    line!(
-        "backward up", timed, compared, 5,
-        |s, a| ours::backward_up(&s.up, s.at_up[0], s.at_up[1], s.at_up[2], a),
-        fast::backward_up(&s.up, s.at_up)
-    );
-    line!(
-        "backward ack", timed, compared, 5,
-        |s, a| ours::backward_ack(&s.ack, s.at_ack[0], s.at_ack[1], s.at_ack[2], a),
-        fast::backward_ack(&s.ack, s.at_ack)
-    );
+    backward_uplink("", timed, compared);
     line!(
         "backward down", timed, compared, 6,
         |s, a| {
@@ -142,7 +170,7 @@ fn backwards(timed: &mut [Scene], compared: &mut [Scene]) {
 
 /// A step from the scene's position: the record's position is set before each, and shifted into the answer to compare it too.
 macro_rules! step {
-    ($name:literal, $timed:expr, $compared:expr, $walk:ident, $p:literal, |$s:ident, $a:ident| $ours:expr, $fast:expr) => {{
+    ($name:expr, $timed:expr, $compared:expr, $walk:ident, $p:literal, |$s:ident, $a:ident| $ours:expr, $fast:expr) => {{
         line!(
             $name, $timed, $compared, 7,
             |$s, $a| {
@@ -161,15 +189,27 @@ macro_rules! step {
             let moved = $s.$walk;
             $s.record();
             $fast;
-            assert_eq!(moved, $s.$walk, concat!($name, ": the records differ"));
+            assert_eq!(moved, $s.$walk, "{}: the records differ", $name);
             $s.record();
         }
     }};
 }
 
+fn step_uplink(with: &str, timed: &mut [Scene], compared: &mut [Scene]) {
+    step!(
+        format!("step up{with}"), timed, compared, walk_up, 0,
+        |s, a| ours::step_up(&mut s.walk_up, &s.windows[0], a),
+        fast::step_up(&mut s.walk_up, &s.windows[0])
+    );
+    step!(
+        format!("step ack{with}"), timed, compared, walk_ack, 3,
+        |s, a| ours::step_ack(&mut s.walk_ack, &s.windows[1], a),
+        fast::step_ack(&mut s.walk_ack, &s.windows[1])
+    );
+}
+
 fn steps(timed: &mut [Scene], compared: &mut [Scene]) {
-    step!("step up", timed, compared, walk_up, 0, |s, a| ours::step_up(&mut s.walk_up, a), fast::step_up(&mut s.walk_up));
-    step!("step ack", timed, compared, walk_ack, 3, |s, a| ours::step_ack(&mut s.walk_ack, a), fast::step_ack(&mut s.walk_ack));
+    step_uplink("", timed, compared);
     step!(
         "step down", timed, compared, walk_down, 1,
         |s, a| ours::step_down(&mut s.walk_down, &s.anchor, &s.other, a),

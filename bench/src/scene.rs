@@ -36,7 +36,8 @@ impl Random {
     }
 }
 
-/// One cell and a grant of each kind, with a position, a place and a walk for each; a transmitted subframe, and bits and a level to fill it.
+/// One cell and a grant of each kind, with a position, a place and a walk for each; the windows beside the two uplink grants; a transmitted
+/// subframe, and bits and a level to fill it.
 #[derive(Clone)]
 pub struct Scene {
     pub cell: Cell,
@@ -46,6 +47,7 @@ pub struct Scene {
     pub ack: AckGrant,
     pub down: DownGrant,
     pub control: ControlGrant,
+    pub windows: [Vec<u64>; 2],
     pub p: [u64; 4],
     pub at_up: [u64; 3],
     pub at_ack: [u64; 3],
@@ -104,6 +106,19 @@ fn control(r: &mut Random) -> ControlGrant {
     [r.below(1 << 30), 1 << r.below(12), format, if format == 0 { r.below(2) } else { 0 }]
 }
 
+/// One to three windows that share a tone of 3.75 kHz.
+fn windows(r: &mut Random, tone: u64) -> Vec<u64> {
+    let count = 1 + r.below(3);
+    let mut numbers = vec![count];
+    for _ in 0..4 {
+        let (period, start) = (40 << r.below(7), 8 << r.below(8));
+        let length = r.one_of(&[172_032, 196_608]) << r.below(7);
+        let lowest = tone.saturating_sub(11);
+        numbers.extend([period, start, length, lowest + r.below(tone.min(36) - lowest + 1)]);
+    }
+    numbers
+}
+
 impl Scene {
     fn plain(r: &mut Random) -> Scene {
         let cell = cell(r);
@@ -113,7 +128,7 @@ impl Scene {
         let (walk_up, walk_ack, walk_down, walk_control) = ([0; 8], [0; 5], [0; 14], [0; 13]);
         let (i, bits, level) = (0, Vec::new(), 1.0);
         Scene {
-            cell, anchor, other, up, ack, down, control, p: [0; 4], at_up, at_ack, at_down, at_control,
+            cell, anchor, other, up, ack, down, control, windows: [vec![], vec![]], p: [0; 4], at_up, at_ack, at_down, at_control,
             walk_up, walk_ack, walk_down, walk_control, i, bits, level,
         }
     }
@@ -142,16 +157,16 @@ impl Scene {
     pub fn aim(&mut self, r: &mut Random) {
         let s = &*self;
         let plans = [
-            fast::plan_up(&s.up)[4],
+            fast::plan_up(&s.up, &s.windows[0])[4],
             fast::plan_down(&s.cell, &s.anchor, &s.other, &s.down)[4],
             fast::plan_control(&s.cell, &s.anchor, &s.other, &s.control)[4],
-            fast::plan_ack(&s.ack)[4],
+            fast::plan_ack(&s.ack, &s.windows[1])[4],
         ];
         let p = plans.map(|places| r.below(places.max(1)));
-        let [_, slot, l, k, _] = fast::forward_up(&s.up, p[0]);
+        let [_, slot, l, k, _] = fast::forward_up(&s.up, &s.windows[0], p[0]);
         let [_, t, a, b, c, _] = fast::forward_down(&s.cell, &s.anchor, &s.other, &s.down, p[1]);
         let [_, u, d, e, f, _] = fast::forward_control(&s.cell, &s.anchor, &s.other, &s.control, p[2]);
-        let [_, at_ack @ .., _] = fast::forward_ack(&s.ack, p[3]);
+        let [_, at_ack @ .., _] = fast::forward_ack(&s.ack, &s.windows[1], p[3]);
         (self.at_up, self.at_ack, self.at_down, self.at_control) = ([slot, l, k], at_ack, [t, a, b, c], [u, d, e, f]);
         if r.below(2) == 0 {
             let (slot, l, k) = (r.below(2), r.below(7), r.below(12));
@@ -168,6 +183,13 @@ impl Scene {
         self.p[1] = p;
         let [_, t, slot, l, k, _] = fast::forward_down(&self.cell, &self.anchor, &self.other, &self.down, p);
         self.at_down = [t, slot, l, k];
+    }
+
+    /// Position p of the uplink grant, and its place.
+    pub fn place_up(&mut self, p: u64) {
+        self.p[0] = p;
+        let [_, at @ .., _] = fast::forward_up(&self.up, &self.windows[0], p);
+        self.at_up = at;
     }
 
     /// On a non-anchor, a bitmap of 40 bits with so many ones, evenly spread.
@@ -192,6 +214,46 @@ impl Scene {
                 return scene;
             }
         }
+    }
+
+    /// The first tone of each uplink grant, at 3.75 kHz.
+    fn first_tones(&self) -> [u64; 2] {
+        let up = fast::forward_up(&self.up, &[], 0)[3] << (2 * (self.up[1] & 1));
+        let ack = fast::forward_ack(&self.ack, &[], 0)[3] << (2 * (self.ack[1] & 1));
+        [up, ack]
+    }
+
+    /// Beside windows that push its uplink grants aside.
+    pub fn beside_windows(mut self, r: &mut Random) -> Scene {
+        let [up, ack] = self.first_tones();
+        loop {
+            self.windows = [windows(r, up), windows(r, ack)];
+            if fast::plan_up(&self.up, &self.windows[0])[0] == 0 && fast::plan_ack(&self.ack, &self.windows[1])[0] == 0 {
+                self.aim(r);
+                self.record();
+                return self;
+            }
+        }
+    }
+
+    /// Beside any windows: now and then a number that is not listed.
+    pub fn beside_any_windows(mut self, r: &mut Random) -> Scene {
+        let tones = self.first_tones();
+        self.windows = tones.map(|tone| windows(r, tone));
+        self.aim(r);
+        for numbers in &mut self.windows {
+            let i = r.below(68) as usize;
+            if i < 17 {
+                numbers[i] = r.wild(numbers[i] + 1);
+            }
+        }
+        if r.below(3) == 0 {
+            self.p = self.p.map(|p| r.wild(p + 1));
+            self.at_up[0] = r.wild(self.at_up[0] + 2);
+            self.at_ack[0] = r.wild(self.at_ack[0] + 2);
+        }
+        self.record();
+        self
     }
 
     /// Any numbers: now and then a field out of range.

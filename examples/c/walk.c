@@ -1,4 +1,7 @@
-/* Plans an NPDSCH grant, says why subframes are skipped, walks it to its end, fills its first subframe, and plans its acknowledgement. */
+/*
+ * Plans an NPDSCH grant, says why subframes are skipped, walks it to its end, fills its first subframe, and plans its acknowledgement,
+ * without random access windows and with one.
+ */
 #include "nbiot.h"
 
 #include <inttypes.h>
@@ -118,21 +121,26 @@ static int fill(void)
     return 0;
 }
 
+/* A window of 22.4 ms at 32, 112, 192 ms and so on, on tones 0 to 11. */
+static const uint64_t windows[NBIOT_WINDOWS_NUMBERS] = {1, 80, 32, 688128, 0};
+
 /* The acknowledgement of an NPDSCH that ends in subframe n: 15 kHz, field 0, one copy. */
-static int acknowledge(uint64_t n)
+static int acknowledge(const char *name, uint64_t n, const uint64_t *lent, size_t lent_len)
 {
     const uint64_t ack[NBIOT_ACK_NUMBERS] = {n, 1, 0, 0};
     uint64_t a[NBIOT_PLAN_UP_NUMBERS];
-    if (refused("acknowledgement", nbiot_plan_ack(ack, LEN(ack), a, LEN(a)))) {
+    if (refused(name, nbiot_plan_ack(ack, LEN(ack), lent, lent_len, a, LEN(a)))) {
         return 1;
     }
-    printf("acknowledgement: slots %" PRIu64 " to %" PRIu64 ", places %" PRIu64 "\n",
-           a[NBIOT_PLAN_FIRST], a[NBIOT_PLAN_LAST], a[NBIOT_PLAN_PLACES]);
+    printf("%s: slots %" PRIu64 " to %" PRIu64 ", places %" PRIu64 "\n",
+           name, a[NBIOT_PLAN_FIRST], a[NBIOT_PLAN_LAST], a[NBIOT_PLAN_PLACES]);
     return 0;
 }
 
 int main(void)
 {
     uint64_t first, last, places;
-    return plan(&first, &last, &places) || skipped(first, last) || walk(places) || fill() || acknowledge(last);
+    return plan(&first, &last, &places) || skipped(first, last) || walk(places) || fill() ||
+           acknowledge("acknowledgement", last, NULL, 0) ||
+           acknowledge("acknowledgement beside a window", last, windows, LEN(windows));
 }

@@ -3,6 +3,7 @@
 use crate::places::{copy_order, Listing};
 use crate::slots::{self, SlotUse};
 use crate::uplink::COPIES;
+use crate::windows::Windows;
 use crate::{refuse, Refusal};
 
 /// The largest n: the last subframe of an NPDSCH.
@@ -15,13 +16,15 @@ const SLOTS_IN_UNIT: u64 = 4;
 const DELAY_15: [u64; 4] = [13, 15, 17, 18];
 const DELAY_3_75: [u64; 2] = [13, 21];
 
-/// An acknowledgement of the NPDSCH whose last subframe is n; all but n are fields.
+/// An acknowledgement of the NPDSCH whose last subframe is n, all but n fields,
+/// and the windows that push it aside.
 #[derive(Clone, Copy, Debug, Default, PartialEq, Eq)]
 pub struct Ack {
     pub n: u64,
     pub spacing: u64,
     pub field: u64,
     pub copies: u64,
+    pub windows: Windows,
 }
 
 impl Ack {
@@ -57,16 +60,21 @@ impl Ack {
         slots::first_after(self.spacing, self.n + self.delay() - 1)
     }
 
+    /// How many slots an accepted grant sends.
+    pub fn slot_count(&self) -> u64 {
+        COPIES[self.copies as usize] * SLOTS_IN_UNIT
+    }
+
     /// Judge the grant, then list what is sent.
     pub fn list(&self) -> Result<Listing, Refusal> {
         self.judge()?;
+        let free = self.windows.free_groups(&self.slot_use())?;
         let copies = COPIES[self.copies as usize];
-        let count = copies * SLOTS_IN_UNIT;
         let g = slots::group(self.spacing);
         Ok(Listing {
             copies,
             codeword_units: SLOTS_IN_UNIT,
-            sent: slots::sent_slots(self.spacing, self.start(), count),
+            sent: slots::sent_slots(self.spacing, self.start(), self.slot_count(), &free),
             carries: copy_order(copies, SLOTS_IN_UNIT, 1, g),
             elements: self.slot_use().data_elements(),
         })

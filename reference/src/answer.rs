@@ -43,12 +43,12 @@ pub struct Picture {
     pub skipped: Vec<(u64, Cause)>,
 }
 
-/// The listing of the last cell and grant of a kind.
+/// The last cell and grant of a kind that were accepted, listed.
 #[derive(Debug)]
 struct Last {
     cell: Cell,
     grant: Grant,
-    listed: Result<Listing, Refusal>,
+    listing: Listing,
 }
 
 /// Reads lines, keeps values and answers.
@@ -100,15 +100,15 @@ impl Answerer {
         let cell = &self.values.cell;
         let last = &mut self.last[kind as usize];
         if !last.as_ref().is_some_and(|l| l.serves(cell, &grant)) {
+            let listing = grant.list(cell)?;
             *last = Some(Last {
                 cell: cell.clone(),
                 grant,
-                listed: grant.list(cell),
+                listing,
             });
         }
-        match last.as_ref().map(|l| &l.listed) {
-            Some(Ok(listing)) => Ok((grant, &self.values, listing)),
-            Some(Err(no)) => Err(*no),
+        match last {
+            Some(last) => Ok((grant, &self.values, &last.listing)),
             None => unreachable!("listed above"),
         }
     }

@@ -41,6 +41,7 @@ fn passing_value(name: &str) -> &'static str {
     match name {
         "anchor" | "other" | "data" => "-",
         "level" => "00000000",
+        "w1" | "w2" | "w3" | "w4" => "7,0,7,77",
         _ => "77",
     }
 }

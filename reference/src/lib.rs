@@ -8,6 +8,7 @@ pub mod answer;
 pub mod cell;
 pub mod counts;
 pub mod downlink;
+pub mod drawn_windows;
 pub mod elements;
 pub mod faults;
 pub mod fill;
@@ -22,6 +23,7 @@ pub mod spoil;
 pub mod table;
 pub mod text;
 pub mod uplink;
+pub mod windows;
 pub mod write;
 
 /// A number from 01's table "Numbers a caller may get back".

@@ -4,12 +4,14 @@
 use crate::ack::{self, Ack};
 use crate::cell::{Cell, PERIOD};
 use crate::downlink::{self, Npdcch, Npdsch, LARGEST_N, SUBFRAMES};
+use crate::drawn_windows::{draw_windows, window_words};
 use crate::elements;
 use crate::grant::Grant;
 use crate::places::Listing;
 use crate::random::Random;
 use crate::text::Kind;
 use crate::uplink::Npusch;
+use crate::windows::Windows;
 use crate::write::hex_text;
 
 /// A name and its value's text.
@@ -184,7 +186,22 @@ fn draw_npusch(random: &mut Random) -> Npusch {
         copies: random.below(8),
         delay: random.below(4),
         mcs: random.below(5),
+        windows: Windows::default(),
     }
+}
+
+/// The first n for windows that reach over t = 0 is often small.
+fn draw_early_n(random: &mut Random, windows: &Windows) -> Option<u64> {
+    let over_zero = windows.read().iter().any(|w| w.meets_time(&(0..1)));
+    (over_zero && random.chance(60)).then(|| random.below(400))
+}
+
+/// An NPUSCH grant that the windows push aside now and then.
+fn draw_pushed_npusch(random: &mut Random) -> Npusch {
+    let mut g = draw_npusch(random);
+    g.windows = draw_windows(random, &g.slot_use(), g.slot_count());
+    g.n = draw_early_n(random, &g.windows).unwrap_or(g.n);
+    g
 }
 
 /// Near the largest n the slots at 15 kHz pass 2^32.
@@ -206,15 +223,24 @@ fn draw_ack(random: &mut Random) -> Ack {
         spacing: random.below(2),
         field: random.below(16),
         copies: random.below(8),
+        windows: Windows::default(),
     }
+}
+
+/// An acknowledgement that the windows push aside now and then.
+fn draw_pushed_ack(random: &mut Random) -> Ack {
+    let mut g = draw_ack(random);
+    g.windows = draw_windows(random, &g.slot_use(), g.slot_count());
+    g.n = draw_early_n(random, &g.windows).unwrap_or(g.n);
+    g
 }
 
 fn draw_grant(random: &mut Random, kind: Kind, cell: &Cell) -> Grant {
     match kind {
         Kind::Down => Grant::Down(draw_bearable_npdsch(random, cell)),
         Kind::Control => Grant::Control(draw_npdcch(random)),
-        Kind::Up => Grant::Up(draw_npusch(random)),
-        Kind::Ack => Grant::Ack(draw_ack(random)),
+        Kind::Up => Grant::Up(draw_pushed_npusch(random)),
+        Kind::Ack => Grant::Ack(draw_pushed_ack(random)),
     }
 }
 
@@ -239,7 +265,18 @@ pub fn cell_words(random: &mut Random, cell: &Cell) -> Vec<Word> {
 }
 
 /// The words that set a grant.
-pub fn grant_words(grant: &Grant) -> Vec<Word> {
+pub fn grant_words(random: &mut Random, grant: &Grant) -> Vec<Word> {
+    let mut words = grant_numbers(grant);
+    match grant {
+        Grant::Up(g) => words.extend(window_words(random, &g.windows)),
+        Grant::Ack(g) => words.extend(window_words(random, &g.windows)),
+        _ => {}
+    }
+    words
+}
+
+/// The words of a grant's own numbers.
+fn grant_numbers(grant: &Grant) -> Vec<Word> {
     match grant {
         Grant::Down(g) => vec![
             number("n", g.n),
@@ -302,6 +339,7 @@ fn idle_words(random: &mut Random, kind: Kind) -> Vec<Word> {
             "units",
             "mcs",
             "field",
+            "windows",
         ],
         Kind::Control => &[
             "delay",
@@ -311,6 +349,7 @@ fn idle_words(random: &mut Random, kind: Kind) -> Vec<Word> {
             "spacing",
             "mcs",
             "field",
+            "windows",
         ],
         Kind::Up => &[
             "mode",
@@ -354,7 +393,7 @@ impl Scene {
             Ok(listing) => listing,
             Err(no) => unreachable!("drawn to be accepted, refused with {no}"),
         };
-        let mut words = grant_words(&grant);
+        let mut words = grant_words(random, &grant);
         if !kind.is_uplink() {
             words.extend(cell_words(random, &cell));
         }
@@ -386,7 +425,8 @@ impl Scene {
         if !self.kind.is_uplink() && usable_in_period(&self.cell) < 200 {
             return None;
         }
-        Some(grant_words(&draw_grant(random, self.kind, &self.cell)))
+        let grant = draw_grant(random, self.kind, &self.cell);
+        Some(grant_words(random, &grant))
     }
 
     /// A new level and new bits of the right length.

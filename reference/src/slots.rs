@@ -1,10 +1,12 @@
 //! Uplink slots: where they lie in time, which of them a grant sends and what
-//! it uses of each (01, "Time and grid" and "Uplink grants").
+//! it uses of each (01, "Time and grid" and "Uplink grants"; 02, "L4").
 
 use crate::elements::{Element, SYMBOLS};
+use crate::windows::FreeGroups;
 use std::ops::Range;
 
-/// Time is counted in half milliseconds: 256 ms of sending, 40 ms empty.
+/// Time is counted in half milliseconds: 256 ms of sending and postponements,
+/// 40 ms empty.
 const SENDING: u64 = 2 * 256;
 const EMPTY: u64 = 2 * 40;
 
@@ -25,6 +27,15 @@ impl SlotUse {
             48
         } else {
             12
+        }
+    }
+
+    /// The granted tones as tones of 3.75 kHz: a 15 kHz tone k covers 4k to 4k + 3.
+    pub fn tones_at_3_75(&self) -> Range<u64> {
+        if self.spacing == 0 {
+            self.tones.clone()
+        } else {
+            4 * self.tones.start..4 * self.tones.end
         }
     }
 
@@ -70,6 +81,11 @@ fn slot_time(spacing: u64) -> u64 {
     }
 }
 
+/// How long a group lasts, in milliseconds.
+pub fn group_time(spacing: u64) -> u64 {
+    group(spacing) * slot_time(spacing) / 2
+}
+
 /// The first slot that begins after the end of a subframe.
 pub fn first_after(spacing: u64, subframe: u64) -> u64 {
     let end = 2 * (subframe + 1);
@@ -80,23 +96,19 @@ pub fn first_after(spacing: u64, subframe: u64) -> u64 {
     slot
 }
 
-/// Step slot by slot: after every 256 ms of sending, if slots remain, 40 ms empty.
-pub fn sent_slots(spacing: u64, start: u64, count: u64) -> Vec<u64> {
+/// Step group by group from the slot that the grant first names. There 256 ms
+/// begin in which a group is sent if it is free and else postponed, then 40 ms
+/// that are left empty, and so on.
+pub fn sent_slots(spacing: u64, start: u64, count: u64, free: &FreeGroups) -> Vec<u64> {
     let mut list = Vec::new();
     let mut slot = start;
-    let mut sending = 0;
     while (list.len() as u64) < count {
-        if sending == SENDING {
-            let mut empty = 0;
-            while empty < EMPTY {
-                slot += 1;
-                empty += slot_time(spacing);
-            }
-            sending = 0;
+        let time = (slot - start) * slot_time(spacing);
+        let in_gap = time % (SENDING + EMPTY) >= SENDING;
+        if !in_gap && free.has(slot) {
+            list.extend(slot..slot + group(spacing));
         }
-        list.push(slot);
-        slot += 1;
-        sending += slot_time(spacing);
+        slot += group(spacing);
     }
     list
 }

@@ -2,18 +2,21 @@
 
 use crate::ack;
 use crate::downlink;
+use crate::drawn_windows::{draw_never_free, draw_unlisted, window_words};
 use crate::grant::Grant;
 use crate::random::Random;
 use crate::scene::{bitmap_of, buffer, data_word, Scene, Word};
+use crate::slots::SlotUse;
 use crate::text::{Kind, Question};
+use crate::windows::Windows;
 
 const CELL: &[u64] = &[1, 2, 3, 4, 5, 6, 7, 8, 8, 18, 18];
 const PLAN: &[u64] = &[1, 2, 3, 4, 5, 6, 7, 8, 18, 9, 10, 12];
-const PLAN_UP: &[u64] = &[9, 10, 11, 13];
-const PLAN_ACK: &[u64] = &[9, 10];
+const PLAN_UP: &[u64] = &[9, 10, 11, 13, 19, 20];
+const PLAN_ACK: &[u64] = &[9, 10, 19, 20];
 const PLACE: &[u64] = &[1, 2, 3, 4, 5, 6, 7, 8, 18, 9, 10, 12, 14];
-const PLACE_UP: &[u64] = &[9, 10, 11, 13, 14];
-const PLACE_ACK: &[u64] = &[9, 10, 14];
+const PLACE_UP: &[u64] = &[9, 10, 11, 13, 19, 20, 14];
+const PLACE_ACK: &[u64] = &[9, 10, 19, 20, 14];
 const FILL: &[u64] = &[
     1, 2, 3, 4, 5, 6, 7, 8, 18, 9, 10, 12, 14, 15, 15, 15, 15, 15, 15, 16, 16, 16, 16, 16, 16, 16,
     16, 16, 17,
@@ -117,6 +120,8 @@ pub fn spoil(random: &mut Random, scene: &Scene, question: Question, no: u64) ->
         13 => vec![("mcs", random.between(5, 15).to_string())],
         14 => bad_place(random, scene, question),
         15 => bad_length(random, scene, question),
+        19 => spoilt_windows(random, scene, draw_unlisted),
+        20 => spoilt_windows(random, scene, draw_never_free),
         16 => vec![("level", format!("{:08x}", random.pick(&BAD_LEVELS)))],
         _ => two_ports(random, scene),
     }
@@ -265,6 +270,19 @@ fn outside_grid(random: &mut Random, scene: &Scene) -> Vec<Word> {
         1 if !scene.kind.is_uplink() => one_above(random, "slot", 1),
         _ => one_above(random, "k", subcarriers - 1),
     }
+}
+
+/// Numbers 19 and 20: windows drawn for the tones of an uplink grant.
+fn spoilt_windows(
+    random: &mut Random,
+    scene: &Scene,
+    draw: fn(&mut Random, &SlotUse) -> Windows,
+) -> Vec<Word> {
+    let Some(slot_use) = scene.grant.slot_use() else {
+        return Vec::new();
+    };
+    let windows = draw(random, &slot_use);
+    window_words(random, &windows)
 }
 
 /// Number 15: bits of a wrong length, or output not of 336 numbers.

@@ -5,7 +5,7 @@ use crate::cell::Cause;
 use crate::fill::Shown;
 use crate::grant::Step;
 use crate::lines::next_line;
-use crate::text::{Fault, Question};
+use crate::text::{Fault, Kind, Question, Values};
 use std::io::{self, BufRead, Write};
 
 /// What one row counts.
@@ -20,7 +20,7 @@ pub struct Row {
     /// Causes named, in their order.
     pub causes: [u64; 5],
     /// By number; place 0 isn't used.
-    pub refused: [u64; 19],
+    pub refused: [u64; 21],
 }
 
 /// The whole table: a row for each question and kind.
@@ -28,6 +28,8 @@ pub struct Row {
 pub struct Table {
     pub rows: Vec<(Question, Row)>,
     pub faults: [u64; 8],
+    /// Uplink questions asked with a window or more.
+    pub windowed: u64,
 }
 
 impl Row {
@@ -96,14 +98,20 @@ impl Default for Table {
         Table {
             rows: questions.map(|q| (q, Row::default())).collect(),
             faults: [0; 8],
+            windowed: 0,
         }
     }
 }
 
 impl Table {
-    pub fn count(&mut self, answer: &Answer) {
+    /// Counts an answer, given with the values in force.
+    pub fn count(&mut self, answer: &Answer, values: &Values) {
         if let Answer::Fault(fault) = answer {
             self.faults[*fault as usize] += 1;
+        }
+        let kind = answer.question().and_then(Question::kind);
+        if kind.is_some_and(Kind::is_uplink) && values.windows.count > 0 {
+            self.windowed += 1;
         }
         for (question, row) in &mut self.rows {
             if answer.question() == Some(*question) {
@@ -137,7 +145,7 @@ impl Table {
         for cause in Cause::ALL {
             write!(out, " {:>6}", cause.word())?;
         }
-        for no in 1..19 {
+        for no in 1..21 {
             write!(out, " {:>6}", format!("no{no}"))?;
         }
         writeln!(out)?;
@@ -145,6 +153,7 @@ impl Table {
             row.write(out, &question.text())?;
         }
         self.total().write(out, "all")?;
+        writeln!(out, "uplink questions with windows: {}", self.windowed)?;
         self.write_faults(out)
     }
 
@@ -167,7 +176,7 @@ pub fn table_of(input: &mut impl BufRead) -> io::Result<Table> {
     let mut line = Vec::new();
     while next_line(input, &mut line)? {
         if let Some(answer) = answerer.line(&line) {
-            table.count(&answer);
+            table.count(&answer, &answerer.values);
         }
     }
     Ok(table)

@@ -7,6 +7,7 @@ use crate::elements::Element;
 use crate::grant::Grant;
 use crate::lines::LONGEST_LINE;
 use crate::uplink::Npusch;
+use crate::windows::{Window, Windows};
 
 /// The kind of grant that a question names.
 #[derive(Clone, Copy, Debug, PartialEq, Eq)]
@@ -166,6 +167,7 @@ pub struct Values {
     pub units: u64,
     pub mcs: u64,
     pub field: u64,
+    pub windows: Windows,
     pub p: u64,
     pub t: u64,
     pub slot: u64,
@@ -194,6 +196,7 @@ impl Default for Values {
             units: 0,
             mcs: 0,
             field: 0,
+            windows: Windows::default(),
             p: 0,
             t: 0,
             slot: 0,
@@ -212,6 +215,7 @@ enum Kept<'a> {
     Number(&'a mut u64),
     Buffer(&'a mut Vec<u8>, usize),
     Level(&'a mut u32),
+    Window(&'a mut Window),
 }
 
 impl Values {
@@ -221,6 +225,10 @@ impl Values {
             b"other" => Kept::Buffer(&mut self.cell.other, 64),
             b"data" => Kept::Buffer(&mut self.data, 1024),
             b"level" => Kept::Level(&mut self.level),
+            b"w1" => Kept::Window(&mut self.windows.entries[0]),
+            b"w2" => Kept::Window(&mut self.windows.entries[1]),
+            b"w3" => Kept::Window(&mut self.windows.entries[2]),
+            b"w4" => Kept::Window(&mut self.windows.entries[3]),
             _ => Kept::Number(self.number(name)?),
         })
     }
@@ -248,6 +256,7 @@ impl Values {
             b"units" => &mut self.units,
             b"mcs" => &mut self.mcs,
             b"field" => &mut self.field,
+            b"windows" => &mut self.windows.count,
             b"p" => &mut self.p,
             b"t" => &mut self.t,
             b"slot" => &mut self.slot,
@@ -283,12 +292,14 @@ impl Values {
                 copies: self.copies,
                 delay: self.delay,
                 mcs: self.mcs,
+                windows: self.windows,
             }),
             Kind::Ack => Grant::Ack(Ack {
                 n: self.n,
                 spacing: self.spacing,
                 field: self.field,
                 copies: self.copies,
+                windows: self.windows,
             }),
         }
     }
@@ -347,6 +358,7 @@ enum Read {
     Number(u64),
     Buffer(Vec<u8>),
     Level(u32),
+    Window(Window),
 }
 
 fn read_buffer(text: &[u8], longest: usize) -> Result<Read, Fault> {
@@ -371,6 +383,21 @@ fn read_number(name: &[u8], text: &[u8]) -> Result<Read, Fault> {
     Ok(Read::Number(number))
 }
 
+/// Four decimal numbers with commas between them: period, start, length, tone.
+fn read_window(text: &[u8]) -> Result<Read, Fault> {
+    let parts = text.split(|&b| b == b',');
+    let numbers: Result<Vec<u64>, Fault> = parts.map(decimal).collect();
+    let [period, start, length, tone] = numbers?[..] else {
+        return Err(Fault::Number);
+    };
+    Ok(Read::Window(Window {
+        period,
+        start,
+        length,
+        tone,
+    }))
+}
+
 /// One `name=value` word: `value`, `name`, `number`, `hex`, `size` in this order.
 fn read_word<'a>(values: &mut Values, word: &'a [u8]) -> Result<(&'a [u8], Read), Fault> {
     let odd = word.iter().any(|&b| b == b'\t' || b == b'\r');
@@ -383,6 +410,7 @@ fn read_word<'a>(values: &mut Values, word: &'a [u8]) -> Result<(&'a [u8], Read)
         Kept::Number(_) => read_number(name, text)?,
         Kept::Buffer(_, longest) => read_buffer(text, longest)?,
         Kept::Level(_) => read_level(text)?,
+        Kept::Window(_) => read_window(text)?,
     };
     Ok((name, read))
 }
@@ -392,6 +420,7 @@ fn keep(values: &mut Values, name: &[u8], read: Read) {
         (Some(Kept::Number(kept)), Read::Number(x)) => *kept = x,
         (Some(Kept::Buffer(kept, _)), Read::Buffer(x)) => *kept = x,
         (Some(Kept::Level(kept)), Read::Level(x)) => *kept = x,
+        (Some(Kept::Window(kept)), Read::Window(x)) => *kept = x,
         _ => unreachable!("a value is read as its name keeps it"),
     }
 }

@@ -3,6 +3,7 @@
 use crate::downlink::{LARGEST_N, SUBFRAMES};
 use crate::places::{copy_order, Listing};
 use crate::slots::{self, SlotUse};
+use crate::windows::Windows;
 use crate::{refuse, Refusal};
 use std::ops::Range;
 
@@ -24,7 +25,7 @@ const SIZE: [[u64; 8]; 5] = [
 const ONE_TONE_ROW: [usize; 5] = [0, 2, 1, 3, 4];
 const ONE_TONE_ORDER: [u64; 5] = [1, 1, 2, 2, 2];
 
-/// An NPUSCH grant; all but n are fields.
+/// An NPUSCH grant, all but n fields, and the windows that push it aside.
 #[derive(Clone, Copy, Debug, Default, PartialEq, Eq)]
 pub struct Npusch {
     pub n: u64,
@@ -34,6 +35,7 @@ pub struct Npusch {
     pub copies: u64,
     pub delay: u64,
     pub mcs: u64,
+    pub windows: Windows,
 }
 
 impl Npusch {
@@ -98,17 +100,28 @@ impl Npusch {
         }
     }
 
+    /// N: the codeword's slots.
+    fn codeword_slots(&self) -> u64 {
+        SUBFRAMES[self.units as usize] * self.slots_in_unit()
+    }
+
+    /// How many slots an accepted grant sends.
+    pub fn slot_count(&self) -> u64 {
+        COPIES[self.copies as usize] * self.codeword_slots()
+    }
+
     /// Judge the grant, then list what is sent.
     pub fn list(&self) -> Result<Listing, Refusal> {
         self.judge()?;
+        let free = self.windows.free_groups(&self.slot_use())?;
         let copies = COPIES[self.copies as usize];
-        let slots = SUBFRAMES[self.units as usize] * self.slots_in_unit();
+        let slots = self.codeword_slots();
         let g = slots::group(self.spacing);
         let m = self.repeats_in_pass(copies);
         Ok(Listing {
             copies,
             codeword_units: slots,
-            sent: slots::sent_slots(self.spacing, self.start(), copies * slots),
+            sent: slots::sent_slots(self.spacing, self.start(), self.slot_count(), &free),
             carries: copy_order(copies, slots, m, g),
             elements: self.slot_use().data_elements(),
         })

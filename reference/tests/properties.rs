@@ -8,6 +8,7 @@ use reference::elements::Element;
 use reference::grant::{step, Grant, Step};
 use reference::places::{copy_order, Listing, Place};
 use reference::uplink::{self, Npusch};
+use reference::windows::{Window, Windows};
 use std::collections::HashMap;
 
 fn standalone() -> Cell {
@@ -74,7 +75,26 @@ fn npusch(spacing: u64, subcarrier: u64, units: u64, copies: u64) -> Grant {
         copies,
         delay: 1,
         mcs: 4,
+        windows: Windows::default(),
     })
+}
+
+/// Two windows that overlap each other and the 40 ms, one from below t = 0.
+fn busy() -> Windows {
+    let window = |period, start, length, tone| Window {
+        period,
+        start,
+        length,
+        tone,
+    };
+    let mut windows = Windows {
+        count: 3,
+        ..Windows::default()
+    };
+    windows.entries[0] = window(640, 512, 172_032 * 32, 0);
+    windows.entries[1] = window(80, 16, 196_608 * 2, 8);
+    windows.entries[2] = window(80, 32, 172_032, 36);
+    windows
 }
 
 fn ack(spacing: u64, field: u64, copies: u64) -> Grant {
@@ -83,7 +103,18 @@ fn ack(spacing: u64, field: u64, copies: u64) -> Grant {
         spacing,
         field,
         copies,
+        windows: Windows::default(),
     })
+}
+
+/// The same grant with windows.
+fn pushed(grant: Grant) -> Grant {
+    let windows = busy();
+    match grant {
+        Grant::Up(g) => Grant::Up(Npusch { windows, ..g }),
+        Grant::Ack(g) => Grant::Ack(Ack { windows, ..g }),
+        _ => grant,
+    }
 }
 
 fn grants() -> Vec<(Cell, Grant)> {
@@ -104,10 +135,14 @@ fn grants() -> Vec<(Cell, Grant)> {
         (1, 17, 3, 3),
         (1, 18, 2, 6),
     ] {
-        list.push((Cell::default(), npusch(spacing, subcarrier, units, copies)));
+        let grant = npusch(spacing, subcarrier, units, copies);
+        list.push((Cell::default(), grant));
+        list.push((Cell::default(), pushed(grant)));
     }
     for (spacing, field, copies) in [(0, 0, 0), (0, 15, 7), (1, 3, 7), (1, 12, 2)] {
-        list.push((Cell::default(), ack(spacing, field, copies)));
+        let grant = ack(spacing, field, copies);
+        list.push((Cell::default(), grant));
+        list.push((Cell::default(), pushed(grant)));
     }
     list
 }

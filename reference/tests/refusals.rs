@@ -1,4 +1,4 @@
-//! Every number 1 to 18, the bounds of the fields, and the generator's shares.
+//! Every number 1 to 20, the bounds of the fields, and the generator's shares.
 
 mod common;
 use common::{ask, value};
@@ -107,7 +107,7 @@ fn generated_questions_have_their_shares() {
     let faults: u64 = table.faults.iter().sum();
     assert_eq!(all.asked + faults, 20_000);
     assert!(all.accepted >= 10_000);
-    for no in 1..19 {
+    for no in 1..21 {
         assert!(all.refused[no] >= 20, "number {no}");
     }
     assert!(table.rows.iter().all(|(_, row)| row.asked > 0));
@@ -123,7 +123,7 @@ fn generated_acknowledgements() {
     let rows: Vec<_> = table.rows.iter().filter(|(q, _)| of_ack(q)).collect();
     let asked: u64 = rows.iter().map(|(_, row)| row.asked).sum();
     assert!(asked >= 2400, "at least 12 of a hundred");
-    for no in [9, 10, 14] {
+    for no in [9, 10, 19, 20, 14] {
         let refused: u64 = rows.iter().map(|(_, row)| row.refused[no]).sum();
         assert!(refused >= 20, "number {no}");
     }
@@ -144,6 +144,16 @@ fn generated_causes() {
         let row = table.row(Question::Backward(kind));
         assert!(row.causes.iter().all(|&count| count > 0));
     }
+}
+
+#[test]
+fn generated_windows() {
+    let mut file = Vec::new();
+    generate(10, 20_000, None, &mut file).expect("memory takes all");
+    let table = table_of(&mut &file[..]).expect("memory gives all");
+    assert!(table.windowed >= 3000, "at least 15 of a hundred");
+    let all = table.total();
+    assert!(all.refused[19] >= 100 && all.refused[20] >= 100);
 }
 
 #[test]

@@ -97,7 +97,14 @@ fn error_value() {
 
 #[test]
 fn error_name() {
-    for line in ["cell moed=1", "cell =1", "cell Mode=1", "cell q=x"] {
+    for line in [
+        "cell moed=1",
+        "cell =1",
+        "cell Mode=1",
+        "cell q=x",
+        "cell w0=1",
+        "cell w5=1,2,3,4",
+    ] {
         fault(line.as_bytes(), "name");
     }
 }
@@ -114,6 +121,23 @@ fn error_number() {
     ] {
         fault(format!("cell {word}").as_bytes(), "number");
     }
+    for window in [
+        "",
+        "40",
+        "40,8,172032",
+        "40,8,172032,0,0",
+        "40,8,172032,0,",
+        ",40,8,172032,0",
+        "40,8,,0",
+        "40;8;172032;0",
+        "40,8,172032,-1",
+        "40,8,172032,18446744073709551616",
+        "-",
+    ] {
+        fault(format!("cell w1={window}").as_bytes(), "number");
+        fault(format!("cell w4={window}").as_bytes(), "number");
+    }
+    fault(b"set w1=40, 8,172032,0", "number");
     let largest = "step up p=18446744073709551615";
     let answer = "no=14 finished=0 slot=0 l=0 k=0 symbol=0 p=18446744073709551615";
     assert_eq!(ask(largest), [answer]);
@@ -174,6 +198,20 @@ cell mode=4\ncell\ncell mode=3 mode=4 mode=3\nstep up p=95\nstep up\nstep up p=9
             "no=0 slot=5 l=0 k=0 symbol=0",
         ]
     );
+}
+
+#[test]
+fn windows_are_kept() {
+    let answers = ask("set windows=1 w1=40,8,1376256,0
+plan up
+plan up windows=0
+plan up windows=1
+plan up w1=40,8,1376256,36 w2=1,1,1,1
+plan up w1=40,8,1376256
+plan up");
+    let numbers: Vec<&str> = answers.iter().map(|a| &a[..a.len().min(5)]).collect();
+    let expected = ["no=20", "no=0 ", "no=20", "no=0 ", "error", "no=0 "];
+    assert_eq!(numbers, expected);
 }
 
 #[test]

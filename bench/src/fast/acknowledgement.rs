@@ -1,5 +1,6 @@
 //! Acknowledgements on NPUSCH format 2: one tone, four slots, four data symbols a slot.
 
+use super::timeline::{beside, Timeline};
 use super::{other, ours, refused, stepped, AckGrant, AckWalk};
 
 const LAST_NPDSCH: u64 = (1 << 31) - 1;
@@ -32,15 +33,15 @@ fn shape(grant: &AckGrant) -> Result<Shape, u64> {
 }
 
 impl Shape {
+    /// The slots without windows.
+    #[inline(always)]
+    fn plain(&self) -> Timeline<'static> {
+        Timeline::plain(self.wide, self.first)
+    }
+
     #[inline(always)]
     fn sent(&self) -> u64 {
         4 << self.copies
-    }
-
-    /// Transmitted slot i: 128 or 512 slots, then 20 or 80 left empty.
-    #[inline(always)]
-    fn slot(&self, i: u64) -> u64 {
-        self.first + i + (i >> (7 + 2 * self.wide)) * (20 << (2 * self.wide))
     }
 
     /// The first of the three reference symbols.
@@ -48,60 +49,79 @@ impl Shape {
     fn reference(&self) -> u64 {
         2 * self.wide as u64
     }
-
-    /// How many slots may be sent before slot x from the first, if x may be.
-    #[inline(always)]
-    fn index(&self, x: u64) -> Option<u64> {
-        let (rounds, rest, block) = if self.wide == 0 { (x / 148, x % 148, 128) } else { (x / 592, x % 592, 512) };
-        (rest < block).then_some(rounds * block + rest)
-    }
 }
 
+/// What is asked of an accepted grant and its slots beside windows.
 #[inline(never)]
-pub fn plan_ack(grant: &AckGrant) -> [u64; 7] {
-    shape(grant).map_or_else(refused, |s| [0, s.first, s.slot(s.sent() - 1), 1 << s.copies, 4 * s.sent(), 1, 1])
+fn pushed<const N: usize>(grant: &AckGrant, windows: &[u64], ask: impl Fn(&Shape, &Timeline) -> [u64; N]) -> [u64; N] {
+    shape(grant).map_or_else(refused, |s| {
+        let tones = s.tone << (2 * s.wide)..(s.tone + 1) << (2 * s.wide);
+        beside(windows, s.wide, s.first, tones, |t| ask(&s, t))
+    })
 }
 
 #[inline(always)]
-fn forward(s: &Shape, p: u64) -> [u64; 5] {
+fn plan(s: &Shape, t: &Timeline) -> [u64; 7] {
+    let sent = s.sent();
+    [0, t.slot(0), t.slot(sent as u32 - 1), 1 << s.copies, 4 * sent, 1, 1]
+}
+
+#[inline(never)]
+pub fn plan_ack(grant: &AckGrant, windows: &[u64]) -> [u64; 7] {
+    if windows.is_empty() {
+        return shape(grant).map_or_else(refused, |s| plan(&s, &s.plain()));
+    }
+    pushed(grant, windows, plan)
+}
+
+#[inline(always)]
+fn forward(s: &Shape, t: &Timeline, p: u64) -> [u64; 5] {
     if p >= 4 * s.sent() {
         return refused(14);
     }
     let e = p % 4;
     let l = e + if e < s.reference() { 0 } else { 3 };
-    [0, s.slot(p / 4), l, s.tone, p % 16]
+    [0, t.slot((p / 4) as u32), l, s.tone, p % 16]
 }
 
 #[inline(never)]
-pub fn forward_ack(grant: &AckGrant, p: u64) -> [u64; 5] {
-    shape(grant).map_or_else(refused, |s| forward(&s, p))
+pub fn forward_ack(grant: &AckGrant, windows: &[u64], p: u64) -> [u64; 5] {
+    if windows.is_empty() {
+        return shape(grant).map_or_else(refused, |s| forward(&s, &s.plain(), p));
+    }
+    pushed(grant, windows, |s, t| forward(s, t, p))
+}
+
+/// Forward's answer, and the places.
+#[inline(always)]
+fn reach(s: &Shape, t: &Timeline, p: u64) -> [u64; 6] {
+    let [no, slot, l, k, symbol] = forward(s, t, p);
+    [no, slot, l, k, symbol, 4 * s.sent()]
 }
 
 #[inline(never)]
-pub fn step_ack(walk: &mut AckWalk) -> [u64; 7] {
+pub fn step_ack(walk: &mut AckWalk, windows: &[u64]) -> [u64; 7] {
     let (p, grant) = walk.split_first_mut().expect("5 numbers");
-    let s = match shape(grant.first_chunk().expect("4 numbers")) {
-        Ok(s) => s,
-        Err(no) => return refused(no),
+    let grant = grant.first_chunk().expect("4 numbers");
+    let at = *p;
+    let [no, slot, l, k, symbol, places] = if windows.is_empty() {
+        shape(grant).map_or_else(refused, |s| reach(&s, &s.plain(), at))
+    } else {
+        pushed(grant, windows, |s, t| reach(s, t, at))
     };
-    let [no, slot, l, k, symbol] = forward(&s, *p);
-    stepped(p, no, 4 * s.sent(), [0, slot, l, k, symbol])
+    stepped(p, no, places, [0, slot, l, k, symbol])
 }
 
-#[inline(never)]
-pub fn backward_ack(grant: &AckGrant, at: [u64; 3]) -> [u64; 5] {
-    let s = match shape(grant) {
-        Ok(s) => s,
-        Err(no) => return refused(no),
-    };
+#[inline(always)]
+fn backward(s: &Shape, t: &Timeline, at: [u64; 3]) -> [u64; 5] {
     let [slot, l, k] = at;
     if l > 6 || k >= if s.wide == 0 { 48 } else { 12 } {
         return refused(14);
     }
-    if slot < s.first || k != s.tone {
+    if k != s.tone {
         return other(0);
     }
-    match s.index(slot - s.first) {
+    match t.index(slot) {
         Some(i) if i < s.sent() => {
             if l.wrapping_sub(s.reference()) < 3 {
                 return other(1);
@@ -111,4 +131,12 @@ pub fn backward_ack(grant: &AckGrant, at: [u64; 3]) -> [u64; 5] {
         }
         _ => other(0),
     }
+}
+
+#[inline(never)]
+pub fn backward_ack(grant: &AckGrant, windows: &[u64], at: [u64; 3]) -> [u64; 5] {
+    if windows.is_empty() {
+        return shape(grant).map_or_else(refused, |s| backward(&s, &s.plain(), at));
+    }
+    pushed(grant, windows, |s, t| backward(s, t, at))
 }

@@ -8,7 +8,7 @@ const PLAIN: u64 = 0xf7_9def_79de;
 const NOT_EVEN: u64 = 0xf7_9cef_79ce;
 const NOT_ODD: u64 = 0xf3_9def_39de;
 
-const ONES: u64 = 0x0101_0101_0101_0101;
+pub const ONES: u64 = 0x0101_0101_0101_0101;
 const HIGH: u64 = 0x8080_8080_8080_8080;
 
 /// The usable subframes: `1 << shift` spans to a period, with SIB1 in the four from `first` on.
@@ -160,12 +160,18 @@ pub fn judged(cell: &Cell, anchor: &[u8], others: &[u8]) -> Result<Pattern, u64>
     Ok(p)
 }
 
-/// The place of the k-th one of a mask: the byte by prefix sums of its bytes' counts, then a table.
+/// The ones of each byte of a mask.
 #[inline(always)]
-fn select(m: u64, k: u32) -> u32 {
+pub fn byte_counts(m: u64) -> u64 {
     let s = m - ((m >> 1) & 0x5555_5555_5555_5555);
     let s = (s & 0x3333_3333_3333_3333) + ((s >> 2) & 0x3333_3333_3333_3333);
-    let s = ((s + (s >> 4)) & 0x0f0f_0f0f_0f0f_0f0f).wrapping_mul(ONES);
+    (s + (s >> 4)) & 0x0f0f_0f0f_0f0f_0f0f
+}
+
+/// The place of the k-th one of a mask: the byte by prefix sums of its bytes' counts, then a table.
+#[inline(always)]
+pub fn select(m: u64, k: u32) -> u32 {
+    let s = byte_counts(m).wrapping_mul(ONES);
     let passed = ((k as u64 * ONES | HIGH) - s) & HIGH;
     let place = ((passed >> 7).wrapping_mul(ONES) >> 56) * 8;
     let rest = k as u64 - ((s << 8) >> place & 0xff);

@@ -1,6 +1,8 @@
 //! NPUSCH format 1.
 
+use super::timeline::{beside, Timeline};
 use super::{other, ours, refused, stepped, UpGrant, UpWalk, LAST_SUBFRAME, LENGTHS};
+use std::ops::Range;
 
 const SIZES: [[u16; 8]; 5] = [
     [16, 32, 56, 88, 120, 152, 208, 256],
@@ -61,6 +63,12 @@ fn shape(grant: &UpGrant) -> Result<Shape, u64> {
 }
 
 impl Shape {
+    /// The slots without windows.
+    #[inline(always)]
+    fn plain(&self) -> Timeline<'static> {
+        Timeline::plain(self.wide, self.first)
+    }
+
     #[inline(always)]
     fn sent(&self) -> u32 {
         self.length << (self.slots + self.copies)
@@ -71,11 +79,11 @@ impl Shape {
         6 * self.tones
     }
 
-    /// Transmitted slot i: 128 or 512 slots, then 20 or 80 left empty.
+    /// The granted tones as tones of 3.75 kHz.
     #[inline(always)]
-    fn slot(&self, i: u32) -> u64 {
-        let gaps = i >> (7 + 2 * self.wide);
-        self.first + i as u64 + (gaps * (20 << (2 * self.wide))) as u64
+    fn tones(&self) -> Range<u64> {
+        let (tone, tones) = (self.tone as u64, self.tones as u64);
+        tone << (2 * self.wide)..(tone + tones) << (2 * self.wide)
     }
 
     /// The codeword slot that transmitted slot i carries.
@@ -85,30 +93,33 @@ impl Shape {
         let r = (i >> within) % self.length << within | i & ((1 << within) - 1);
         r >> (self.wide + self.row) << self.wide | r & self.wide
     }
-
-    /// How many slots may be sent before slot x from the first, if x may be.
-    #[inline(always)]
-    fn index(&self, x: u64) -> Option<u64> {
-        let (rounds, rest, block) = if self.wide == 0 { (x / 148, x % 148, 128) } else { (x / 592, x % 592, 512) };
-        (rest < block).then_some(rounds * block + rest)
-    }
 }
 
+/// What is asked of an accepted grant and its slots beside windows.
 #[inline(never)]
-pub fn plan_up(grant: &UpGrant) -> [u64; 7] {
-    let s = match shape(grant) {
-        Ok(s) => s,
-        Err(no) => return refused(no),
-    };
+fn pushed<const N: usize>(grant: &UpGrant, windows: &[u64], ask: impl Fn(&Shape, &Timeline) -> [u64; N]) -> [u64; N] {
+    shape(grant).map_or_else(refused, |s| beside(windows, s.wide, s.first, s.tones(), |t| ask(&s, t)))
+}
+
+#[inline(always)]
+fn plan(s: &Shape, t: &Timeline, grant: &UpGrant) -> [u64; 7] {
     let (units, mcs) = (grant[3] as usize, grant[6] as usize);
     let (row, order) = if s.tones == 1 { (ROWS[mcs] as usize, ORDERS[mcs]) } else { (mcs, 2) };
     let sent = s.sent();
     let places = (sent * s.data()) as u64;
-    [0, s.first, s.slot(sent - 1), 1 << s.copies, places, SIZES[row][units] as u64, order as u64]
+    [0, t.slot(0), t.slot(sent - 1), 1 << s.copies, places, SIZES[row][units] as u64, order as u64]
+}
+
+#[inline(never)]
+pub fn plan_up(grant: &UpGrant, windows: &[u64]) -> [u64; 7] {
+    if windows.is_empty() {
+        return shape(grant).map_or_else(refused, |s| plan(&s, &s.plain(), grant));
+    }
+    pushed(grant, windows, |s, t| plan(s, t, grant))
 }
 
 #[inline(always)]
-fn forward(s: &Shape, p: u64) -> [u64; 5] {
+fn forward(s: &Shape, t: &Timeline, p: u64) -> [u64; 5] {
     let w = s.data();
     if p >= (s.sent() * w) as u64 {
         return refused(14);
@@ -124,45 +135,50 @@ fn forward(s: &Shape, p: u64) -> [u64; 5] {
     let line = e * s.inverse >> 10;
     let l = line + (line >= 4 - s.wide) as u32;
     let k = s.tone + e - line * s.tones;
-    [0, s.slot(i), l as u64, k as u64, (s.carried(i) * w + e) as u64]
+    [0, t.slot(i), l as u64, k as u64, (s.carried(i) * w + e) as u64]
 }
 
 #[inline(never)]
-pub fn forward_up(grant: &UpGrant, p: u64) -> [u64; 5] {
-    shape(grant).map_or_else(refused, |s| forward(&s, p))
+pub fn forward_up(grant: &UpGrant, windows: &[u64], p: u64) -> [u64; 5] {
+    if windows.is_empty() {
+        return shape(grant).map_or_else(refused, |s| forward(&s, &s.plain(), p));
+    }
+    pushed(grant, windows, |s, t| forward(s, t, p))
+}
+
+/// Forward's answer, and the places.
+#[inline(always)]
+fn reach(s: &Shape, t: &Timeline, p: u64) -> [u64; 6] {
+    let [no, slot, l, k, symbol] = forward(s, t, p);
+    [no, slot, l, k, symbol, (s.sent() * s.data()) as u64]
 }
 
 #[inline(never)]
-pub fn step_up(walk: &mut UpWalk) -> [u64; 7] {
+pub fn step_up(walk: &mut UpWalk, windows: &[u64]) -> [u64; 7] {
     let (p, grant) = walk.split_first_mut().expect("8 numbers");
-    let s = match shape(grant.first_chunk().expect("7 numbers")) {
-        Ok(s) => s,
-        Err(no) => return refused(no),
+    let grant = grant.first_chunk().expect("7 numbers");
+    let at = *p;
+    let [no, slot, l, k, symbol, places] = if windows.is_empty() {
+        shape(grant).map_or_else(refused, |s| reach(&s, &s.plain(), at))
+    } else {
+        pushed(grant, windows, |s, t| reach(s, t, at))
     };
-    let [no, slot, l, k, symbol] = forward(&s, *p);
-    stepped(p, no, (s.sent() * s.data()) as u64, [0, slot, l, k, symbol])
+    stepped(p, no, places, [0, slot, l, k, symbol])
 }
 
-#[inline(never)]
-pub fn backward_up(grant: &UpGrant, at: [u64; 3]) -> [u64; 5] {
-    let s = match shape(grant) {
-        Ok(s) => s,
-        Err(no) => return refused(no),
-    };
+#[inline(always)]
+fn backward(s: &Shape, t: &Timeline, at: [u64; 3]) -> [u64; 5] {
     let [slot, l, k] = at;
     if l > 6 || k >= if s.wide == 0 { 48 } else { 12 } {
         return refused(14);
     }
-    if slot < s.first {
+    let tone = (k as u32).wrapping_sub(s.tone);
+    if tone >= s.tones {
         return other(0);
     }
-    let tone = (k as u32).wrapping_sub(s.tone);
-    match s.index(slot - s.first) {
+    match t.index(slot) {
         Some(i) if i < s.sent() as u64 => {
             let reference = 4 - s.wide as u64;
-            if tone >= s.tones {
-                return other(0);
-            }
             if l == reference {
                 return other(1);
             }
@@ -172,4 +188,12 @@ pub fn backward_up(grant: &UpGrant, at: [u64; 3]) -> [u64; 5] {
         }
         _ => other(0),
     }
+}
+
+#[inline(never)]
+pub fn backward_up(grant: &UpGrant, windows: &[u64], at: [u64; 3]) -> [u64; 5] {
+    if windows.is_empty() {
+        return shape(grant).map_or_else(refused, |s| backward(&s, &s.plain(), at));
+    }
+    pushed(grant, windows, |s, t| backward(s, t, at))
 }

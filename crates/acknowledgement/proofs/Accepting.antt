@@ -1,36 +1,49 @@
 -- What acceptance says of an acknowledgement's numbers, and that its shape then fits.
 use mathlib.Core.Bool.{Bool, true, false, cond, _&&_}
-use mathlib.Core.Path.{_≡_, refl}
+use mathlib.Core.Path.{_≡_, refl, ap₂, _∙_}
 use Prim.Native.Nat.{ℕ, zero, suc, _+_, _-_, _%_, _^_, _≤_, _<_}
 use native.Mathlib.Nat.{mod-one}
 use native.Mathlib.Omega.{arith}
 use lib.Dec.{T, eqb, leb, ltb, leb→le, eqb→eq}
 use borrow.Author.Tests.{ltb-false, le-ltb}
-use Rattle.counting.proofs.Facts.{passed, either-parts, each, each-at}
+use Rattle.counting.proofs.Facts.{passed, after-first, first-alone, either-parts, each, each-at}
 use Rattle.grid.specs.Grid.{uplinkSubcarriers}
 use Rattle.grid.specs.Tables.{entry, uplinkCopies}
 use Rattle.grid.proofs.Rules.{parts, uplink-copies-bounds}
+use Rattle.bars.specs.declared.Bars.{Bars}
+use Rattle.bars.specs.Bars.{noBars}
 use Rattle.slots.specs.Fits.{Fits}
-use Rattle.slots.specs.Numerology.{groupOf}
+use Rattle.slots.specs.Quick.{barred}
+use Rattle.slots.specs.Numerology.{groupMs}
 use Rattle.slots.proofs.Spacing.{first-bound, by-spacing-bounds, block-is, gap-is}
+use Rattle.windows.specs.Windows.{none}
+use Rattle.windows.proofs.Closing.{none-refused, none-bars}
+use Rattle.windows.proofs.Spaced.{left, ms-within}
+use Rattle.acknowledgement.specs.declared.AckFields.{AckFields}
+use Rattle.acknowledgement.specs.Quick.{fieldsOf, unwindowed}
 use Rattle.acknowledgement.specs.declared.AckGrant.{AckGrant}
 use Rattle.acknowledgement.specs.Fields.{toneOf, delayOf}
-use Rattle.acknowledgement.specs.Refusals.{lastSubframe, aboveLargest, refusal}
+use Rattle.acknowledgement.specs.Refusals.{lastSubframe, aboveLargest, windowed, fieldsRefusal, refusal}
 use Rattle.acknowledgement.specs.Shaping.{unitSlots, shapeOf}
 
 -- every number in its range
-pub record Accepted (g : AckGrant) : Type 0 where
+pub record InRange (g : AckGrant) : Type 0 where
   pub early : g .n ≤ lastSubframe
   pub spacing : g .spacing ≤ 1
   pub field : g .field ≤ 15
   pub copies : g .copies ≤ 7
 
+-- and the windows not refused
+pub record Accepted (g : AckGrant) : Type 0 where
+  pub range : InRange g
+  pub windows : windowed g ≡ 0
+
 module _ (g : AckGrant) where
-  pub accepted : refusal g ≡ 0 → Accepted g
-  unfolding refusal
-  accepted e =
+  pub ranged : fieldsRefusal g ≡ 0 → InRange g
+  unfolding fieldsRefusal
+  ranged e =
       let p9 = passed (ltb lastSubframe (g .n)) 9 _ (omega arith) e in
-      let p10 = passed (aboveLargest g) 10 0 (omega arith) (p9 .1) in
+      let p10 = passed (aboveLargest g) 10 _ (omega arith) (p9 .1) in
       let a = either-parts (ltb 1 (g .spacing)) _ (p10 .0) in
       let b = either-parts (ltb 15 (g .field)) _ (a .1) in
       record {
@@ -41,15 +54,23 @@ module _ (g : AckGrant) where
       }
 
   -- and nothing else is refused
-  pub accepts : Accepted g → refusal g ≡ 0
-  unfolding refusal
-  accepts a =
+  pub in-range-passes : InRange g → fieldsRefusal g ≡ 0
+  unfolding fieldsRefusal
+  in-range-passes a =
       rw (
         le-ltb lastSubframe (g .n) (a .early),
         le-ltb 1 (g .spacing) (a .spacing),
         le-ltb 15 (g .field) (a .field),
         le-ltb 7 (g .copies) (a .copies),
       ) refl
+
+  pub accepted : refusal g ≡ 0 → Accepted g
+  unfolding refusal
+  accepted e = let p = after-first (fieldsRefusal g) (windowed g) e in record { range = ranged (p .0); windows = p .1 }
+
+  pub accepts : Accepted g → refusal g ≡ 0
+  unfolding refusal
+  accepts a = rw (in-range-passes (a .range)) (a .windows)
 
 -- ---- what the field names, by one computed test for each spacing: a tone inside the grid, and a delay of 1 to 21
 
@@ -90,12 +111,14 @@ pub fits : (g : AckGrant) → refusal g ≡ 0 → Fits (shapeOf g)
 unfolding shapeOf
 fits g e =
     let a = accepted g e in
-    let f = named (g .spacing) (g .field) (a .spacing) (a .field) in
-    let copies = uplink-copies-bounds (g .copies) (omega (arith, a .copies)) in
+    let f = named (g .spacing) (g .field) (a .range .spacing) (a .range .field) in
+    let copies = uplink-copies-bounds (g .copies) (omega (arith, a .range .copies)) in
     let group = by-spacing-bounds (g .spacing) 1 2 in
     let reference = by-spacing-bounds (g .spacing) 0 2 in
     let block = by-spacing-bounds (g .spacing) 128 512 in
     let gap = by-spacing-bounds (g .spacing) 20 80 in
+    let l = left (shapeOf g) (g .spacing) (g .n + delayOf (g .spacing) (g .field) - 1) (toneOf (g .spacing) (g .field)) 1 (g .windows) (a .range .spacing)
+    refl refl refl refl refl (a .windows) in
     record {
       block = omega (arith, block .0, block-is (eqb (g .spacing) 0));
       tones = omega arith;
@@ -108,7 +131,15 @@ fits g e =
       withinTones = f .inside;
       passes = mod-one (entry uplinkCopies (g .copies));
       groups = whole-groups (eqb (g .spacing) 0);
-      firstSmall = omega (arith, a .early, first-bound (g .spacing) (g .n + delayOf (g .spacing) (g .field) - 1), f .small);
+      wholeFirst = l .wholeFirst;
+      wholeBlock = l .wholeBlock;
+      wholeGap = l .wholeGap;
+      again = l .again;
+      some = l .some;
+      bars = l .bars;
+      short = l .short;
+      shortSmall = l .shortSmall;
+      firstSmall = omega (arith, a .range .early, first-bound (g .spacing) (g .n + delayOf (g .spacing) (g .field) - 1), f .small);
       blockSmall = omega (arith, block .1, block-is (eqb (g .spacing) 0));
       gapSmall = omega (arith, gap .1, gap-is (eqb (g .spacing) 0));
       subcarriersSmall = omega (arith, by-spacing-bounds (g .spacing) (uplinkSubcarriers 0) (uplinkSubcarriers 1) .1);
@@ -117,3 +148,35 @@ fits g e =
       rowSmall = omega arith;
       groupSmall = omega (arith, group .1);
     }
+
+-- ---- a grant by its fields
+
+module _ (g : AckGrant) where
+  pub same-fields : fieldsRefusal (unwindowed (fieldsOf g)) ≡ fieldsRefusal g
+  unfolding fieldsRefusal
+  same-fields = refl
+
+  pub fields-pass : refusal g ≡ 0 → fieldsRefusal (unwindowed (fieldsOf g)) ≡ 0
+  fields-pass e = same-fields ∙ in-range-passes g (accepted g e .range)
+
+  -- its shape, by its fields and the groups that its windows close
+  pub same-shape : (f : AckFields) (b : Bars) → f ≡ fieldsOf g → b ≡ shapeOf g .bars → barred (shapeOf (unwindowed f)) b ≡ shapeOf g
+  unfolding shapeOf
+  same-shape f b hf hb = ap₂ (λ (x : AckFields) (y : Bars). barred (shapeOf (unwindowed x)) y) hf hb
+
+-- ---- fields with no window
+
+module _ (f : AckFields) where
+  plain-windowed : windowed (unwindowed f) ≡ 0
+  plain-windowed = let w = ms-within (f .spacing) in none-refused (groupMs (f .spacing)) _ _ none refl (w .0) (w .1)
+
+  pub plain-refusal : fieldsRefusal (unwindowed f) ≡ refusal (unwindowed f)
+  unfolding refusal
+  plain-refusal = first-alone (fieldsRefusal (unwindowed f)) (windowed (unwindowed f)) plain-windowed
+
+  plain-bars : noBars ≡ shapeOf (unwindowed f) .bars
+  unfolding shapeOf
+  plain-bars = none-bars (groupMs (f .spacing)) _ _ none refl
+
+  pub plain-shape : (b : Bars) → b ≡ noBars → barred (shapeOf (unwindowed f)) b ≡ shapeOf (unwindowed f)
+  plain-shape b e = same-shape (unwindowed f) f b refl (e ∙ plain-bars)

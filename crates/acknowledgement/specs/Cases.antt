@@ -4,12 +4,13 @@ use mathlib.Core.Path.{_≡_}
 use Prim.Native.Nat.{ℕ, _+_, _^_, _≤_, _<_}
 use Rattle.slots.specs.declared.UplinkPlan.{UplinkPlan}
 use Rattle.slots.specs.Answers.{refusedPlan}
+use Rattle.windows.specs.Windows.{none}
 use Rattle.acknowledgement.specs.declared.AckGrant.{AckGrant}
 use Rattle.acknowledgement.specs.Refusals.{lastSubframe}
 use Rattle.acknowledgement.specs.Questions.{planOf, forwardOf}
 
 abbrev pub grant : ℕ → ℕ → ℕ → ℕ → AckGrant
-grant n spacing field copies = record { n = n; spacing = spacing; field = field; copies = copies }
+grant n spacing field copies = record { n = n; spacing = spacing; field = field; copies = copies; windows = none }
 
 -- one copy from slot a to slot b: 4 slots of 4 symbols, one bit by BPSK
 abbrev pub oneCopy : ℕ → ℕ → UplinkPlan

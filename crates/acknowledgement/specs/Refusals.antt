@@ -1,8 +1,10 @@
--- When an acknowledgement is refused, and with which number: 02 L1. Each test is asked where those before it passed.
+-- When an acknowledgement is refused, and with which number: 02 L1, L4. Each test is asked where those before it passed.
 use mathlib.Core.Bool.{Bool, cond, _||_}
 use Prim.Native.Nat.{ℕ, _-_, _^_}
-use lib.Dec.{ltb}
+use lib.Dec.{eqb, ltb}
+use Rattle.windows.specs.Windows.{refusalOn}
 use Rattle.acknowledgement.specs.declared.AckGrant.{AckGrant}
+use Rattle.acknowledgement.specs.Fields.{toneOf}
 
 -- the last subframe in which the NPDSCH may end
 abbrev pub lastSubframe : ℕ
@@ -12,6 +14,14 @@ lastSubframe = 2 ^ 31 - 1
 abbrev pub aboveLargest : AckGrant → Bool
 aboveLargest g = ltb 1 (g .spacing) || (ltb 15 (g .field) || ltb 7 (g .copies))
 
--- the number, or 0
+-- the random access windows' refusal on the grant's tone, 19 or 20, or 0
+abbrev pub windowed : AckGrant → ℕ
+windowed g = refusalOn (g .spacing) (toneOf (g .spacing) (g .field)) 1 (g .windows)
+
+-- the number of the fields, or 0
+unfoldable pub fieldsRefusal : AckGrant → ℕ
+fieldsRefusal g = cond (ltb lastSubframe (g .n)) 9 (cond (aboveLargest g) 10 0)
+
+-- the number, or 0: the windows' after those of the fields
 unfoldable pub refusal : AckGrant → ℕ
-refusal g = cond (ltb lastSubframe (g .n)) 9 (cond (aboveLargest g) 10 0)
+refusal g = cond (eqb (fieldsRefusal g) 0) (windowed g) (fieldsRefusal g)

@@ -1,9 +1,10 @@
--- The shape of an acknowledgement on NPUSCH format 2: 02 L1.
+-- The shape of an acknowledgement on NPUSCH format 2: 02 L1, L4.
 use Prim.Native.Nat.{ℕ, _+_, _-_}
 use Rattle.grid.specs.Grid.{uplinkSubcarriers}
 use Rattle.grid.specs.Tables.{entry, uplinkCopies}
 use Rattle.slots.specs.declared.Shape.{Shape}
 use Rattle.slots.specs.Numerology.{bySpacing, slotsIn, firstAfter, groupOf}
+use Rattle.windows.specs.Windows.{barsOn}
 use Rattle.acknowledgement.specs.declared.AckGrant.{AckGrant}
 use Rattle.acknowledgement.specs.Fields.{toneOf, delayOf}
 
@@ -39,4 +40,5 @@ shapeOf g = record {
   references = references;
   size = 1;
   order = 1;
+  bars = barsOn (g .spacing) (toneOf (g .spacing) (g .field)) 1 (g .windows);
 }

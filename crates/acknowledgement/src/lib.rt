@@ -2,17 +2,31 @@
 ghost use mathlib.Core.Path.{_≡_};
 ghost use Prim.Native.Nat.{_≤_};
 ghost use Rattle.acknowledgement.specs.Fields.{toneOf, delayOf};
-ghost use Rattle.acknowledgement.specs.Refusals.{aboveLargest, refusal};
+ghost use Rattle.acknowledgement.specs.Quick.{fieldsOf, unwindowed};
+ghost use Rattle.acknowledgement.specs.Refusals.{aboveLargest, fieldsRefusal, refusal};
+ghost use Rattle.slots.specs.Quick.{barred};
 ghost use Rattle.acknowledgement.specs.Shaping.{startOf, referenceOf, shapeOf};
 ghost use Rattle.acknowledgement.specs.Questions.{planOf, forwardOf, backwardOf};
+use bars::Bars;
 use grid::UplinkGrid;
 use sending::Back;
 use slots::Shape;
 use slots::UplinkPlace;
 use slots::UplinkPlan;
+use windows::Windows;
 
-// The NPDSCH that is answered ends in subframe n; the rest are fields, one of them the 4-bit field of tone and delay.
+// The NPDSCH that is answered ends in subframe n; the rest are fields, one of them the 4-bit field of tone and delay,
+// and the random access windows that it has to keep clear of.
 pub struct AckGrant {
+    pub n: u64,
+    pub spacing: u64,
+    pub field: u64,
+    pub copies: u64,
+    pub windows: Windows,
+}
+
+// The fields alone: a grant with no window.
+pub struct AckFields {
     pub n: u64,
     pub spacing: u64,
     pub field: u64,
@@ -25,28 +39,60 @@ const LAST_SUBFRAME: u64 = 2_147_483_647;
 // The delays at 15 kHz, 13, 15, 17 and 18, by bytes.
 const WIDE_DELAYS: u64 = 0x1211_0f0d;
 
-// A field is above its largest number.
-fn above_largest(g: AckGrant) -> bool
-    ensures { λ r. ⌜ r ≡ aboveLargest g ⌝ }
+fn fields_of(g: AckGrant) -> AckFields
+    ensures { λ r. ⌜ r ≡ fieldsOf g ⌝ }
 {
-    let spacing = g.spacing;
-    let field = g.field;
-    let copies = g.copies;
+    AckFields {
+        n: g.n,
+        spacing: g.spacing,
+        field: g.field,
+        copies: g.copies,
+    }
+}
+
+// A field is above its largest number.
+fn above_largest(f: AckFields) -> bool
+    ensures { λ r. ⌜ r ≡ aboveLargest (unwindowed f) ⌝ }
+{
+    let spacing = f.spacing;
+    let field = f.field;
+    let copies = f.copies;
     (spacing > 1) | ((field > 15) | (copies > 7))
+}
+
+// The number with which the fields are refused, or 0.
+fn judge_fields(f: AckFields) -> u64
+    ensures { λ r. ⌜ r ≡ fieldsRefusal (unwindowed f) ⌝ }
+{
+    let n = f.n;
+    if n > LAST_SUBFRAME {
+        return 9;
+    }
+    if above_largest(f) {
+        return 10;
+    }
+    0
 }
 
 // The number with which a grant is refused, or 0.
 fn judge(g: AckGrant) -> u64
     ensures { λ r. ⌜ r ≡ refusal g ⌝ }
 {
-    let n = g.n;
-    if n > LAST_SUBFRAME {
-        return 9;
+    let spacing = g.spacing;
+    let no = judge_fields(fields_of(g));
+    if no != 0 {
+        return no;
     }
-    if above_largest(g) {
-        return 10;
-    }
-    0
+    windows::refusal(spacing, tone(spacing, g.field), 1, g.windows)
+}
+
+// The groups that the windows of an accepted grant close.
+fn closed(g: AckGrant) -> Bars
+    requires { ⌜ refusal g ≡ 0 ⌝ }
+    ensures { λ r. ⌜ r ≡ shapeOf g .bars ⌝ }
+{
+    let spacing = g.spacing;
+    windows::bars(spacing, tone(spacing, g.field), 1, g.windows)
 }
 
 // The tone that the field names.
@@ -67,13 +113,13 @@ fn delay(spacing: u64, field: u64) -> u64
 }
 
 // The first slot.
-fn start(g: AckGrant) -> u64
-    requires { ⌜ refusal g ≡ 0 ⌝ }
-    ensures { λ r. ⌜ r ≡ startOf g ⌝ }
+fn start(f: AckFields) -> u64
+    requires { ⌜ fieldsRefusal (unwindowed f) ≡ 0 ⌝ }
+    ensures { λ r. ⌜ r ≡ startOf (unwindowed f) ⌝ }
 {
-    let n = g.n;
-    let spacing = g.spacing;
-    slots::first_after(spacing, n + delay(spacing, g.field) - 1)
+    let n = f.n;
+    let spacing = f.spacing;
+    slots::first_after(spacing, n + delay(spacing, f.field) - 1)
 }
 
 // The first reference symbol.
@@ -83,27 +129,28 @@ fn reference(spacing: u64) -> u64
     slots::by_spacing(spacing, 0, 2)
 }
 
-// The shape of an accepted grant.
-fn shape(g: AckGrant) -> Shape
-    requires { ⌜ refusal g ≡ 0 ⌝ }
-    ensures { λ r. ⌜ r ≡ shapeOf g ⌝ }
+// The shape of accepted fields.
+fn shape(f: AckFields, bars: Bars) -> Shape
+    requires { ⌜ fieldsRefusal (unwindowed f) ≡ 0 ⌝ }
+    ensures { λ r. ⌜ r ≡ barred (shapeOf (unwindowed f)) bars ⌝ }
 {
-    let spacing = g.spacing;
+    let spacing = f.spacing;
     Shape {
-        first: start(g),
+        first: start(f),
         subcarriers: UplinkGrid::subcarriers(spacing),
         block: slots::block(spacing),
         gap: slots::gap(spacing),
-        tone: tone(spacing, g.field),
+        tone: tone(spacing, f.field),
         tones: 1,
         codeword: 4,
-        copies: grid::uplink_copies(g.copies),
+        copies: grid::uplink_copies(f.copies),
         row: 1,
         group: slots::group(spacing),
         reference: reference(spacing),
         references: 3,
         size: 1,
         order: 1,
+        bars,
     }
 }
 
@@ -115,7 +162,17 @@ pub fn plan(g: AckGrant) -> UplinkPlan
     if no != 0 {
         return slots::refused_plan(no);
     }
-    slots::plan(shape(g))
+    slots::plan(shape(fields_of(g), closed(g)))
+}
+
+pub fn plain_plan(f: AckFields) -> UplinkPlan
+    ensures { λ r. ⌜ r ≡ planOf (unwindowed f) ⌝ }
+{
+    let no = judge_fields(f);
+    if no != 0 {
+        return slots::refused_plan(no);
+    }
+    slots::plain_plan(shape(f, bars::none()))
 }
 
 // The place of position p, and the symbol there.
@@ -126,8 +183,21 @@ pub fn forward(g: AckGrant, p: u64) -> UplinkPlace
     if no != 0 {
         return slots::refused_place(no);
     }
-    let s = shape(g);
-    slots::forward(s, p, slots::taken_apart(s, p))
+    let s = shape(fields_of(g), closed(g));
+    let at = slots::taken_apart(s, p);
+    slots::forward(s, p, at, slots::slot_at(s, at.i))
+}
+
+pub fn plain_forward(f: AckFields, p: u64) -> UplinkPlace
+    ensures { λ r. ⌜ r ≡ forwardOf (unwindowed f) p ⌝ }
+{
+    let no = judge_fields(f);
+    if no != 0 {
+        return slots::refused_place(no);
+    }
+    let s = shape(f, bars::none());
+    let at = slots::taken_apart(s, p);
+    slots::forward(s, p, at, slots::plain_slot_at(s, at.i))
 }
 
 // What stands at symbol l and subcarrier k of a slot.
@@ -138,6 +208,17 @@ pub fn backward(g: AckGrant, slot: u64, l: u64, k: u64) -> Back
     if no != 0 {
         return sending::refused(no);
     }
-    let s = shape(g);
+    let s = shape(fields_of(g), closed(g));
     slots::backward(s, slot, slots::locate(s, slot), l, k)
+}
+
+pub fn plain_backward(f: AckFields, slot: u64, l: u64, k: u64) -> Back
+    ensures { λ r. ⌜ r ≡ backwardOf (unwindowed f) slot l k ⌝ }
+{
+    let no = judge_fields(f);
+    if no != 0 {
+        return sending::refused(no);
+    }
+    let s = shape(f, bars::none());
+    slots::backward(s, slot, slots::plain_locate(s, slot), l, k)
 }

@@ -4,7 +4,7 @@ use mathlib.Core.Path.{_≡_, refl, sym, ap, _∙_, subst}
 use mathlib.Core.Logic.{_⊎_, inl, inr, ⊎-elim}
 use Prim.Native.Nat.{ℕ, zero, suc, _≤_, _<_, _/_}
 use native.Mathlib.Nat.{eq-or-lt-of-le, le-of-suc-le-suc, le-div-iff-mul-le, div-mul-le-self}
-use native.Mathlib.Decide.{decLt}
+use native.Mathlib.Decide.{decLt, ℕ-discrete}
 use native.Mathlib.Omega.{arith}
 use lib.Dec.{T, eqb}
 use borrow.Author.Tests.{eq-eqb, ne-eqb}
@@ -58,6 +58,21 @@ truth false = inr refl
 pub passed : (t : Bool) (k r : ℕ) → 0 < k → cond t k r ≡ 0 → (t ≡ false) × (r ≡ 0)
 passed true k r h e = absurd (omega arith)
 passed false k r h e = (refl, e)
+
+-- one number first, then another
+pub after-first : (f w : ℕ) → cond (eqb f 0) w f ≡ 0 → (f ≡ 0) × (w ≡ 0)
+after-first f w e = by (ℕ-discrete f 0)
+  where
+    by : Dec (f ≡ 0) → (f ≡ 0) × (w ≡ 0)
+    by (yes z) = (z, sym (ap (λ (b : Bool). cond b w f) (eq-eqb f 0 z)) ∙ e)
+    by (no n) = absurd (n (sym (ap (λ (b : Bool). cond b w f) (ne-eqb f 0 n)) ∙ e))
+
+pub first-alone : (f w : ℕ) → w ≡ 0 → f ≡ cond (eqb f 0) w f
+first-alone f w h = by (ℕ-discrete f 0)
+  where
+    by : Dec (f ≡ 0) → f ≡ cond (eqb f 0) w f
+    by (yes e) = rw (eq-eqb f 0 e) (e ∙ sym h)
+    by (no n) = rw (ne-eqb f 0 n) refl
 
 -- the first chain's number, or the next chain's where it is 0
 pub chained : (a r : ℕ) → cond (eqb a 0) r a ≡ 0 → (a ≡ 0) × (r ≡ 0)

@@ -1,3 +1,4 @@
 mod Replies
 mod Walked
 pub mod Bitmap
+pub mod Unwindowed

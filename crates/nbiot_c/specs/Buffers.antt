@@ -1,16 +1,21 @@
 -- Cells, grants and answers as buffers of numbers, in the order of include/nbiot.h.
-use mathlib.Core.Bool.{Bool, false, cond, _||_}
+use mathlib.Core.Bool.{Bool, false, cond, _&&_, _||_}
 use mathlib.Core.List.{List, [], _∷_, _++_}
 use mathlib.Core.Path.{_≡_}
-use Prim.Native.Nat.{ℕ, _≤_}
+use Prim.Native.Nat.{ℕ, _+_, _≤_}
 use lib.Dec.{ltb}
 use lib.Ieee.{Float}
 use lib.ListN.{length, getD, drop}
 use Rattle.cell.specs.declared.Cell.{Cell}
 use Rattle.cell.specs.declared.CauseAnswer.{CauseAnswer}
 use Rattle.cell.specs.Usable.{numberOf}
+use Rattle.windows.specs.declared.Window.{Window}
+use Rattle.windows.specs.declared.Windows.{Windows}
+use Rattle.windows.specs.Windows.{none}
 use Rattle.uplink.specs.declared.UplinkGrant.{UplinkGrant}
+use Rattle.uplink.specs.declared.UplinkFields.{UplinkFields}
 use Rattle.acknowledgement.specs.declared.AckGrant.{AckGrant}
+use Rattle.acknowledgement.specs.declared.AckFields.{AckFields}
 use Rattle.downlink.specs.declared.DownlinkGrant.{DownlinkGrant}
 use Rattle.control.specs.declared.ControlGrant.{ControlGrant}
 use Rattle.sending.specs.declared.Back.{Back}
@@ -41,8 +46,45 @@ cellOf s = record {
   bits = getD s 7 0;
 }
 
-abbrev pub upGrantOf : List ℕ → UplinkGrant
-upGrantOf s = record {
+-- the window whose numbers stand from a place on
+abbrev pub windowAt : List ℕ → ℕ → Window
+windowAt s i = record { period = getD s i 0; start = getD s (i + 1) 0; length = getD s (i + 2) 0; tone = getD s (i + 3) 0 }
+
+-- random access windows: their count and four windows, 17 numbers; a buffer of fewer has none
+unfoldable pub windowsOf : List ℕ → Windows
+windowsOf s =
+    cond (ltb (length s) 17) none record {
+      count = getD s 0 0;
+      w1 = windowAt s 1;
+      w2 = windowAt s 5;
+      w3 = windowAt s 9;
+      w4 = windowAt s 13;
+    }
+
+abbrev pub upGrantOf : List ℕ → List ℕ → UplinkGrant
+upGrantOf s windows = record {
+  n = getD s 0 0;
+  spacing = getD s 1 0;
+  subcarrier = getD s 2 0;
+  units = getD s 3 0;
+  copies = getD s 4 0;
+  delay = getD s 5 0;
+  mcs = getD s 6 0;
+  windows = windowsOf windows;
+}
+
+abbrev pub ackGrantOf : List ℕ → List ℕ → AckGrant
+ackGrantOf s windows = record {
+  n = getD s 0 0;
+  spacing = getD s 1 0;
+  field = getD s 2 0;
+  copies = getD s 3 0;
+  windows = windowsOf windows;
+}
+
+-- the fields of a grant, without its windows
+abbrev pub upFieldsOf : List ℕ → UplinkFields
+upFieldsOf s = record {
   n = getD s 0 0;
   spacing = getD s 1 0;
   subcarrier = getD s 2 0;
@@ -52,8 +94,8 @@ upGrantOf s = record {
   mcs = getD s 6 0;
 }
 
-abbrev pub ackGrantOf : List ℕ → AckGrant
-ackGrantOf s = record { n = getD s 0 0; spacing = getD s 1 0; field = getD s 2 0; copies = getD s 3 0 }
+abbrev pub ackFieldsOf : List ℕ → AckFields
+ackFieldsOf s = record { n = getD s 0 0; spacing = getD s 1 0; field = getD s 2 0; copies = getD s 3 0 }
 
 abbrev pub downGrantOf : List ℕ → DownlinkGrant
 downGrantOf s = record {
@@ -71,11 +113,11 @@ controlGrantOf s = record { n = getD s 0 0; r = getD s 1 0; format = getD s 2 0;
 abbrev pub walkOf : Cell → Grant → ℕ → Walk
 walkOf c g p = record { cell = c; grant = g; p = p }
 
-abbrev pub upWalkOf : List ℕ → Walk
-upWalkOf s = walkOf (cellOf []) (Up (upGrantOf (drop 1 s))) (getD s 0 0)
+abbrev pub upWalkOf : List ℕ → List ℕ → Walk
+upWalkOf s windows = walkOf (cellOf []) (Up (upGrantOf (drop 1 s) windows)) (getD s 0 0)
 
-abbrev pub ackWalkOf : List ℕ → Walk
-ackWalkOf s = walkOf (cellOf []) (Ack (ackGrantOf (drop 1 s))) (getD s 0 0)
+abbrev pub ackWalkOf : List ℕ → List ℕ → Walk
+ackWalkOf s windows = walkOf (cellOf []) (Ack (ackGrantOf (drop 1 s) windows)) (getD s 0 0)
 
 abbrev pub downWalkOf : List ℕ → Walk
 downWalkOf s = walkOf (cellOf (drop 1 s)) (Down (downGrantOf (drop 9 s))) (getD s 0 0)
@@ -126,9 +168,19 @@ elementAmplitudes a = a .re ∷ a .im ∷ []
 abbrev pub lacks : {A : Type 0} → ℕ → List A → Bool
 lacks n s = ltb (length s) n
 
+-- the windows' buffer has some numbers and fewer than 17
+abbrev pub windowsShort : List ℕ → Bool
+windowsShort s = ltb 0 (length s) && lacks 17 s
+
 -- r says that one of two or three buffers, of s, t and u numbers, has fewer than it needs
 pub record Short2 (m n s t : ℕ) (r : Bool) : Type 0 where
   pub says : r ≡ (ltb s m || ltb t n)
+  pub first : r ≡ false → m ≤ s
+  pub last : r ≡ false → n ≤ t
+
+-- the same of two buffers and the windows
+pub record ShortUp (m n s t : ℕ) (windows : List ℕ) (r : Bool) : Type 0 where
+  pub says : r ≡ (ltb s m || (ltb t n || windowsShort windows))
   pub first : r ≡ false → m ≤ s
   pub last : r ≡ false → n ≤ t
 

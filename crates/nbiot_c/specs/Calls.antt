@@ -17,7 +17,7 @@ use Rattle.symbol.specs.Outgoing.{numbersOf}
 use Rattle.fill.specs.Refusals.{fillRefusal}
 use Rattle.fill.specs.Fill.{outputOf}
 use Rattle.fill.specs.Element.{elementAnswer}
-use Rattle.nbiot_c.specs.Buffers.{cellOf, upGrantOf, ackGrantOf, downGrantOf, controlGrantOf, upPlanNumbers, downPlanNumbers, upPlaceNumbers, downPlaceNumbers, backNumbers, downBackNumbers, causeNumbers, countNumbers, upWalkOf, ackWalkOf, downWalkOf, controlWalkOf, lacks, tooShort, Reply, replyOf, StepReply, stepReplyOf, FillReply, fillReplyOf, ElementReply, elementReplyOf}
+use Rattle.nbiot_c.specs.Buffers.{cellOf, upGrantOf, ackGrantOf, downGrantOf, controlGrantOf, upPlanNumbers, downPlanNumbers, upPlaceNumbers, downPlaceNumbers, backNumbers, downBackNumbers, causeNumbers, countNumbers, upWalkOf, ackWalkOf, downWalkOf, controlWalkOf, lacks, windowsShort, tooShort, Reply, replyOf, StepReply, stepReplyOf, FillReply, fillReplyOf, ElementReply, elementReplyOf}
 
 unfoldable pub judge : List ℕ → List ℕ → List ℕ → ℕ
 judge cell anchor other = cond (lacks 8 cell) tooShort (judgeOf (cellOf cell) anchor other)
@@ -43,11 +43,17 @@ count cell anchor other answer = replyOf (lacks 8 cell || lacks 2 answer) (count
 
 -- ---- plan
 
-unfoldable pub planUp : List ℕ → List ℕ → Reply
-planUp grant answer = replyOf (lacks 7 grant || lacks 7 answer) (upPlanNumbers (up.planOf (upGrantOf grant))) answer
+unfoldable pub planUp : List ℕ → List ℕ → List ℕ → Reply
+planUp grant windows answer =
+    replyOf (lacks 7 grant || (lacks 7 answer || windowsShort windows))
+    (upPlanNumbers (up.planOf (upGrantOf grant windows)))
+    answer
 
-unfoldable pub planAck : List ℕ → List ℕ → Reply
-planAck grant answer = replyOf (lacks 4 grant || lacks 7 answer) (upPlanNumbers (ack.planOf (ackGrantOf grant))) answer
+unfoldable pub planAck : List ℕ → List ℕ → List ℕ → Reply
+planAck grant windows answer =
+    replyOf (lacks 4 grant || (lacks 7 answer || windowsShort windows))
+    (upPlanNumbers (ack.planOf (ackGrantOf grant windows)))
+    answer
 
 unfoldable pub planDown : List ℕ → List ℕ → List ℕ → List ℕ → List ℕ → Reply
 planDown cell anchor other grant answer =
@@ -63,11 +69,17 @@ planControl cell anchor other grant answer =
 
 -- ---- forward
 
-unfoldable pub forwardUp : List ℕ → ℕ → List ℕ → Reply
-forwardUp grant p answer = replyOf (lacks 7 grant || lacks 5 answer) (upPlaceNumbers (up.forwardOf (upGrantOf grant) p)) answer
+unfoldable pub forwardUp : List ℕ → List ℕ → ℕ → List ℕ → Reply
+forwardUp grant windows p answer =
+    replyOf (lacks 7 grant || (lacks 5 answer || windowsShort windows))
+    (upPlaceNumbers (up.forwardOf (upGrantOf grant windows) p))
+    answer
 
-unfoldable pub forwardAck : List ℕ → ℕ → List ℕ → Reply
-forwardAck grant p answer = replyOf (lacks 4 grant || lacks 5 answer) (upPlaceNumbers (ack.forwardOf (ackGrantOf grant) p)) answer
+unfoldable pub forwardAck : List ℕ → List ℕ → ℕ → List ℕ → Reply
+forwardAck grant windows p answer =
+    replyOf (lacks 4 grant || (lacks 5 answer || windowsShort windows))
+    (upPlaceNumbers (ack.forwardOf (ackGrantOf grant windows) p))
+    answer
 
 unfoldable pub forwardDown : List ℕ → List ℕ → List ℕ → List ℕ → ℕ → List ℕ → Reply
 forwardDown cell anchor other grant p answer =
@@ -83,13 +95,17 @@ forwardControl cell anchor other grant p answer =
 
 -- ---- backward
 
-unfoldable pub backwardUp : List ℕ → ℕ → ℕ → ℕ → List ℕ → Reply
-backwardUp grant slot l k answer =
-    replyOf (lacks 7 grant || lacks 5 answer) (backNumbers (up.backwardOf (upGrantOf grant) slot l k)) answer
+unfoldable pub backwardUp : List ℕ → List ℕ → ℕ → ℕ → ℕ → List ℕ → Reply
+backwardUp grant windows slot l k answer =
+    replyOf (lacks 7 grant || (lacks 5 answer || windowsShort windows))
+    (backNumbers (up.backwardOf (upGrantOf grant windows) slot l k))
+    answer
 
-unfoldable pub backwardAck : List ℕ → ℕ → ℕ → ℕ → List ℕ → Reply
-backwardAck grant slot l k answer =
-    replyOf (lacks 4 grant || lacks 5 answer) (backNumbers (ack.backwardOf (ackGrantOf grant) slot l k)) answer
+unfoldable pub backwardAck : List ℕ → List ℕ → ℕ → ℕ → ℕ → List ℕ → Reply
+backwardAck grant windows slot l k answer =
+    replyOf (lacks 4 grant || (lacks 5 answer || windowsShort windows))
+    (backNumbers (ack.backwardOf (ackGrantOf grant windows) slot l k))
+    answer
 
 unfoldable pub backwardDown : List ℕ → List ℕ → List ℕ → List ℕ → ℕ → ℕ → ℕ → ℕ → List ℕ → Reply
 backwardDown cell anchor other grant t slot l k answer =
@@ -105,11 +121,13 @@ backwardControl cell anchor other grant t slot l k answer =
 
 -- ---- step
 
-unfoldable pub stepUp : List ℕ → List ℕ → StepReply
-stepUp walk answer = stepReplyOf (lacks 8 walk || lacks 7 answer) (steppedOf (upWalkOf walk) [] []) walk answer
+unfoldable pub stepUp : List ℕ → List ℕ → List ℕ → StepReply
+stepUp walk windows answer =
+    stepReplyOf (lacks 8 walk || (lacks 7 answer || windowsShort windows)) (steppedOf (upWalkOf walk windows) [] []) walk answer
 
-unfoldable pub stepAck : List ℕ → List ℕ → StepReply
-stepAck walk answer = stepReplyOf (lacks 5 walk || lacks 7 answer) (steppedOf (ackWalkOf walk) [] []) walk answer
+unfoldable pub stepAck : List ℕ → List ℕ → List ℕ → StepReply
+stepAck walk windows answer =
+    stepReplyOf (lacks 5 walk || (lacks 7 answer || windowsShort windows)) (steppedOf (ackWalkOf walk windows) [] []) walk answer
 
 unfoldable pub stepDown : List ℕ → List ℕ → List ℕ → List ℕ → StepReply
 stepDown walk anchor other answer =

@@ -10,13 +10,14 @@ ghost use Rattle.control.specs.Questions as control;
 ghost use Rattle.walk.specs.Step.{askedOf, isEnd};
 ghost use Rattle.walk.specs.Quick.{walkAt, stoppedAt};
 ghost use Rattle.nbiot_c.specs.Buffers.{cellOf, upGrantOf, ackGrantOf, downGrantOf, controlGrantOf, upPlanNumbers, downPlanNumbers, upPlaceNumbers, downPlaceNumbers, upWalkOf, ackWalkOf, downWalkOf, controlWalkOf, stepNumbers, laid};
+use super::asked;
 use super::buffers;
 
-pub fn plan_up(grant: &[u64], answer: &mut [u64]) -> u64
+pub fn plan_up(grant: &[u64], windows: &[u64], answer: &mut [u64]) -> u64
     requires { ⌜ (7 ≤ length (now grant)) × (7 ≤ length (now answer)) ⌝ }
-    ensures { λ r. ⌜ (r ≡ up.planOf (upGrantOf (now (grant .entry))) .no) × (now (answer .exit) ≡ laid (upPlanNumbers (up.planOf (upGrantOf (now (grant .entry))))) (now (answer .entry))) ⌝ }
+    ensures { λ r. ⌜ (r ≡ up.planOf (upGrantOf (now (grant .entry)) (now (windows .entry))) .no) × (now (answer .exit) ≡ laid (upPlanNumbers (up.planOf (upGrantOf (now (grant .entry)) (now (windows .entry))))) (now (answer .entry))) ⌝ }
 {
-    let a = nbiot::plan_up(buffers::up_grant_of(grant));
+    let a = asked::up_plan(grant, windows);
     buffers::put7(
         answer,
         a.no,
@@ -29,11 +30,11 @@ pub fn plan_up(grant: &[u64], answer: &mut [u64]) -> u64
     )
 }
 
-pub fn plan_ack(grant: &[u64], answer: &mut [u64]) -> u64
+pub fn plan_ack(grant: &[u64], windows: &[u64], answer: &mut [u64]) -> u64
     requires { ⌜ (4 ≤ length (now grant)) × (7 ≤ length (now answer)) ⌝ }
-    ensures { λ r. ⌜ (r ≡ ack.planOf (ackGrantOf (now (grant .entry))) .no) × (now (answer .exit) ≡ laid (upPlanNumbers (ack.planOf (ackGrantOf (now (grant .entry))))) (now (answer .entry))) ⌝ }
+    ensures { λ r. ⌜ (r ≡ ack.planOf (ackGrantOf (now (grant .entry)) (now (windows .entry))) .no) × (now (answer .exit) ≡ laid (upPlanNumbers (ack.planOf (ackGrantOf (now (grant .entry)) (now (windows .entry))))) (now (answer .entry))) ⌝ }
 {
-    let a = nbiot::plan_ack(buffers::ack_grant_of(grant));
+    let a = asked::ack_plan(grant, windows);
     buffers::put7(
         answer,
         a.no,
@@ -84,19 +85,19 @@ pub fn plan_control(
     buffers::put5(answer, a.no, a.first, a.last, a.copies, a.places)
 }
 
-pub fn place_up(grant: &[u64], p: u64, answer: &mut [u64]) -> u64
+pub fn place_up(grant: &[u64], windows: &[u64], p: u64, answer: &mut [u64]) -> u64
     requires { ⌜ (7 ≤ length (now grant)) × (5 ≤ length (now answer)) ⌝ }
-    ensures { λ r. ⌜ (r ≡ up.forwardOf (upGrantOf (now (grant .entry))) p .no) × (now (answer .exit) ≡ laid (upPlaceNumbers (up.forwardOf (upGrantOf (now (grant .entry))) p)) (now (answer .entry))) ⌝ }
+    ensures { λ r. ⌜ (r ≡ up.forwardOf (upGrantOf (now (grant .entry)) (now (windows .entry))) p .no) × (now (answer .exit) ≡ laid (upPlaceNumbers (up.forwardOf (upGrantOf (now (grant .entry)) (now (windows .entry))) p)) (now (answer .entry))) ⌝ }
 {
-    let a = nbiot::forward_up(buffers::up_grant_of(grant), p);
+    let a = asked::up_place(grant, windows, p);
     buffers::put5(answer, a.no, a.slot, a.l, a.k, a.symbol)
 }
 
-pub fn place_ack(grant: &[u64], p: u64, answer: &mut [u64]) -> u64
+pub fn place_ack(grant: &[u64], windows: &[u64], p: u64, answer: &mut [u64]) -> u64
     requires { ⌜ (4 ≤ length (now grant)) × (5 ≤ length (now answer)) ⌝ }
-    ensures { λ r. ⌜ (r ≡ ack.forwardOf (ackGrantOf (now (grant .entry))) p .no) × (now (answer .exit) ≡ laid (upPlaceNumbers (ack.forwardOf (ackGrantOf (now (grant .entry))) p)) (now (answer .entry))) ⌝ }
+    ensures { λ r. ⌜ (r ≡ ack.forwardOf (ackGrantOf (now (grant .entry)) (now (windows .entry))) p .no) × (now (answer .exit) ≡ laid (upPlaceNumbers (ack.forwardOf (ackGrantOf (now (grant .entry)) (now (windows .entry))) p)) (now (answer .entry))) ⌝ }
 {
-    let a = nbiot::forward_ack(buffers::ack_grant_of(grant), p);
+    let a = asked::ack_place(grant, windows, p);
     buffers::put5(answer, a.no, a.slot, a.l, a.k, a.symbol)
 }
 
@@ -143,19 +144,19 @@ pub fn place_control(
 }
 
 // Forward at a walk's position, in the columns of a step.
-pub fn walked_up(walk: &[u64], answer: &mut [u64]) -> u64
+pub fn walked_up(walk: &[u64], windows: &[u64], answer: &mut [u64]) -> u64
     requires { ⌜ (8 ≤ length (now walk)) × (7 ≤ length (now answer)) ⌝ }
-    ensures { λ r. ⌜ (r ≡ walkAt (upWalkOf (now (walk .entry))) [] [] .no) × (now (answer .exit) ≡ laid (stepNumbers (walkAt (upWalkOf (now (walk .entry))) [] [])) (now (answer .entry))) ⌝ }
+    ensures { λ r. ⌜ (r ≡ walkAt (upWalkOf (now (walk .entry)) (now (windows .entry))) [] [] .no) × (now (answer .exit) ≡ laid (stepNumbers (walkAt (upWalkOf (now (walk .entry)) (now (windows .entry))) [] [])) (now (answer .entry))) ⌝ }
 {
-    let no = place_up(&walk[1..], walk[0], &mut answer[2..]);
+    let no = place_up(&walk[1..], windows, walk[0], &mut answer[2..]);
     buffers::put3(answer, no, 0, 0)
 }
 
-pub fn walked_ack(walk: &[u64], answer: &mut [u64]) -> u64
+pub fn walked_ack(walk: &[u64], windows: &[u64], answer: &mut [u64]) -> u64
     requires { ⌜ (5 ≤ length (now walk)) × (7 ≤ length (now answer)) ⌝ }
-    ensures { λ r. ⌜ (r ≡ walkAt (ackWalkOf (now (walk .entry))) [] [] .no) × (now (answer .exit) ≡ laid (stepNumbers (walkAt (ackWalkOf (now (walk .entry))) [] [])) (now (answer .entry))) ⌝ }
+    ensures { λ r. ⌜ (r ≡ walkAt (ackWalkOf (now (walk .entry)) (now (windows .entry))) [] [] .no) × (now (answer .exit) ≡ laid (stepNumbers (walkAt (ackWalkOf (now (walk .entry)) (now (windows .entry))) [] [])) (now (answer .entry))) ⌝ }
 {
-    let no = place_ack(&walk[1..], walk[0], &mut answer[2..]);
+    let no = place_ack(&walk[1..], windows, walk[0], &mut answer[2..]);
     buffers::put3(answer, no, 0, 0)
 }
 
@@ -190,19 +191,19 @@ pub fn walked_control(walk: &[u64], anchor: &[u8], other: &[u8], answer: &mut [u
 }
 
 // The plan of a walk's grant says whether its position is the end. The answer's buffer has room for the plan.
-pub fn ended_up(walk: &[u64], answer: &mut [u64]) -> bool
+pub fn ended_up(walk: &[u64], windows: &[u64], answer: &mut [u64]) -> bool
     requires { ⌜ (8 ≤ length (now walk)) × (7 ≤ length (now answer)) ⌝ }
-    ensures { λ r. ⌜ (r ≡ isEnd (askedOf (upWalkOf (now (walk .entry))) [] []) (getD (now (walk .entry)) 0 0)) × (drop 7 (now (answer .exit)) ≡ drop 7 (now (answer .entry))) ⌝ }
+    ensures { λ r. ⌜ (r ≡ isEnd (askedOf (upWalkOf (now (walk .entry)) (now (windows .entry))) [] []) (getD (now (walk .entry)) 0 0)) × (drop 7 (now (answer .exit)) ≡ drop 7 (now (answer .entry))) ⌝ }
 {
-    plan_up(&walk[1..], answer);
+    plan_up(&walk[1..], windows, answer);
     walk::is_end(answer[0], answer[4], walk[0])
 }
 
-pub fn ended_ack(walk: &[u64], answer: &mut [u64]) -> bool
+pub fn ended_ack(walk: &[u64], windows: &[u64], answer: &mut [u64]) -> bool
     requires { ⌜ (5 ≤ length (now walk)) × (7 ≤ length (now answer)) ⌝ }
-    ensures { λ r. ⌜ (r ≡ isEnd (askedOf (ackWalkOf (now (walk .entry))) [] []) (getD (now (walk .entry)) 0 0)) × (drop 7 (now (answer .exit)) ≡ drop 7 (now (answer .entry))) ⌝ }
+    ensures { λ r. ⌜ (r ≡ isEnd (askedOf (ackWalkOf (now (walk .entry)) (now (windows .entry))) [] []) (getD (now (walk .entry)) 0 0)) × (drop 7 (now (answer .exit)) ≡ drop 7 (now (answer .entry))) ⌝ }
 {
-    plan_ack(&walk[1..], answer);
+    plan_ack(&walk[1..], windows, answer);
     walk::is_end(answer[0], answer[4], walk[0])
 }
 

@@ -1,14 +1,22 @@
 // Buffers of numbers: cells and grants read from them, answers put at their front.
 ghost use mathlib.Core.List.{[], _∷_};
 ghost use mathlib.Core.Path.{_≡_};
-ghost use Prim.Native.Nat.{_≤_};
+ghost use Prim.Native.Nat.{_+_, _≤_};
 ghost use lib.ListN.{length};
-ghost use Rattle.nbiot_c.specs.Buffers.{cellOf, upGrantOf, ackGrantOf, downGrantOf, controlGrantOf, Short2, Short3, laid};
+ghost use Rattle.windows.specs.Windows.{none};
+ghost use Rattle.nbiot_c.specs.Buffers.{cellOf, windowAt, windowsOf, upGrantOf, ackGrantOf, upFieldsOf, ackFieldsOf, downGrantOf, controlGrantOf, Short2, Short3, ShortUp, laid};
+use acknowledgement::AckFields;
 use acknowledgement::AckGrant;
 use cell::Cell;
 use control::ControlGrant;
 use downlink::DownlinkGrant;
+use uplink::UplinkFields;
 use uplink::UplinkGrant;
+use windows::Window;
+use windows::Windows;
+
+// The numbers of windows: the count, and four of four.
+pub const WINDOWS: usize = 17;
 
 // A buffer has fewer numbers than it needs; of two buffers, and of three.
 pub fn short2(m: usize, n: usize, s: usize, t: usize) -> bool
@@ -21,6 +29,13 @@ pub fn short3(m: usize, n: usize, k: usize, s: usize, t: usize, u: usize) -> boo
     ensures { λ r. ⌜ Short3 m n k s t u r ⌝ }
 {
     (s < m) | ((t < n) | (u < k))
+}
+
+// The same of two buffers and the windows, which may be none.
+pub fn short_up(m: usize, n: usize, s: usize, t: usize, windows: &[u64]) -> bool
+    ensures { λ r. ⌜ ShortUp m n s t (now (windows .entry)) r ⌝ }
+{
+    (s < m) | ((t < n) | ((0 < windows.len()) & (windows.len() < WINDOWS)))
 }
 
 pub fn cell_of(s: &[u64]) -> Cell
@@ -39,11 +54,90 @@ pub fn cell_of(s: &[u64]) -> Cell
     }
 }
 
-pub fn up_grant_of(s: &[u64]) -> UplinkGrant
+// The window whose numbers stand from a place on.
+fn window_at(s: &[u64], i: usize) -> Window
+    requires { ⌜ i + 4 ≤ length (now s) ⌝ }
+    ensures { λ r. ⌜ r ≡ windowAt (now (s .entry)) i ⌝ }
+{
+    Window {
+        period: s[i],
+        start: s[i + 1],
+        length: s[i + 2],
+        tone: s[i + 3],
+    }
+}
+
+fn no_windows() -> Windows
+    ensures { λ r. ⌜ r ≡ none ⌝ }
+{
+    let w = Window {
+        period: 0,
+        start: 0,
+        length: 0,
+        tone: 0,
+    };
+    Windows {
+        count: 0,
+        w1: w,
+        w2: w,
+        w3: w,
+        w4: w,
+    }
+}
+
+fn windows_of(windows: &[u64]) -> Windows
+    ensures { λ r. ⌜ r ≡ windowsOf (now (windows .entry)) ⌝ }
+{
+    if windows.len() < WINDOWS {
+        return no_windows();
+    }
+    let w1 = window_at(windows, 1);
+    let w2 = window_at(windows, 5);
+    let w3 = window_at(windows, 9);
+    let w4 = window_at(windows, 13);
+    Windows {
+        count: windows[0],
+        w1,
+        w2,
+        w3,
+        w4,
+    }
+}
+
+pub fn up_grant_of(s: &[u64], windows: &[u64]) -> UplinkGrant
     requires { ⌜ 7 ≤ length (now s) ⌝ }
-    ensures { λ r. ⌜ r ≡ upGrantOf (now (s .entry)) ⌝ }
+    ensures { λ r. ⌜ r ≡ upGrantOf (now (s .entry)) (now (windows .entry)) ⌝ }
 {
     UplinkGrant {
+        n: s[0],
+        spacing: s[1],
+        subcarrier: s[2],
+        units: s[3],
+        copies: s[4],
+        delay: s[5],
+        mcs: s[6],
+        windows: windows_of(windows),
+    }
+}
+
+pub fn ack_grant_of(s: &[u64], windows: &[u64]) -> AckGrant
+    requires { ⌜ 4 ≤ length (now s) ⌝ }
+    ensures { λ r. ⌜ r ≡ ackGrantOf (now (s .entry)) (now (windows .entry)) ⌝ }
+{
+    AckGrant {
+        n: s[0],
+        spacing: s[1],
+        field: s[2],
+        copies: s[3],
+        windows: windows_of(windows),
+    }
+}
+
+pub fn up_fields_of(s: &[u64]) -> UplinkFields
+    requires { ⌜ 7 ≤ length (now s) ⌝ }
+    ensures { λ r. ⌜ r ≡ upFieldsOf (now (s .entry)) ⌝ }
+{
+    UplinkFields {
         n: s[0],
         spacing: s[1],
         subcarrier: s[2],
@@ -54,11 +148,11 @@ pub fn up_grant_of(s: &[u64]) -> UplinkGrant
     }
 }
 
-pub fn ack_grant_of(s: &[u64]) -> AckGrant
+pub fn ack_fields_of(s: &[u64]) -> AckFields
     requires { ⌜ 4 ≤ length (now s) ⌝ }
-    ensures { λ r. ⌜ r ≡ ackGrantOf (now (s .entry)) ⌝ }
+    ensures { λ r. ⌜ r ≡ ackFieldsOf (now (s .entry)) ⌝ }
 {
-    AckGrant {
+    AckFields {
         n: s[0],
         spacing: s[1],
         field: s[2],

@@ -4,6 +4,7 @@ ghost use mathlib.Core.Path.{_≡_};
 ghost use Rattle.nbiot_c.specs.Calls as calls;
 
 mod answers;
+mod asked;
 mod buffers;
 
 const TOO_SHORT: u64 = 255;
@@ -75,24 +76,24 @@ pub extern "C" fn nbiot_count(cell: &[u64], anchor: &[u8], other: &[u8], answer:
 
 // First and last slot, copies, places, size and order.
 #[no_mangle]
-pub extern "C" fn nbiot_plan_up(grant: &[u64], answer: &mut [u64]) -> u64
-    ensures { λ r. ⌜ (r ≡ calls.planUp (now (grant .entry)) (now (answer .entry)) .number) × (now (answer .exit) ≡ calls.planUp (now (grant .entry)) (now (answer .entry)) .answer) ⌝ }
+pub extern "C" fn nbiot_plan_up(grant: &[u64], windows: &[u64], answer: &mut [u64]) -> u64
+    ensures { λ r. ⌜ (r ≡ calls.planUp (now (grant .entry)) (now (windows .entry)) (now (answer .entry)) .number) × (now (answer .exit) ≡ calls.planUp (now (grant .entry)) (now (windows .entry)) (now (answer .entry)) .answer) ⌝ }
 {
-    if buffers::short2(7, 7, grant.len(), answer.len()) {
+    if buffers::short_up(7, 7, grant.len(), answer.len(), windows) {
         return TOO_SHORT;
     }
-    answers::plan_up(grant, answer)
+    answers::plan_up(grant, windows, answer)
 }
 
 // First and last slot, copies, places, size and order.
 #[no_mangle]
-pub extern "C" fn nbiot_plan_ack(grant: &[u64], answer: &mut [u64]) -> u64
-    ensures { λ r. ⌜ (r ≡ calls.planAck (now (grant .entry)) (now (answer .entry)) .number) × (now (answer .exit) ≡ calls.planAck (now (grant .entry)) (now (answer .entry)) .answer) ⌝ }
+pub extern "C" fn nbiot_plan_ack(grant: &[u64], windows: &[u64], answer: &mut [u64]) -> u64
+    ensures { λ r. ⌜ (r ≡ calls.planAck (now (grant .entry)) (now (windows .entry)) (now (answer .entry)) .number) × (now (answer .exit) ≡ calls.planAck (now (grant .entry)) (now (windows .entry)) (now (answer .entry)) .answer) ⌝ }
 {
-    if buffers::short2(4, 7, grant.len(), answer.len()) {
+    if buffers::short_up(4, 7, grant.len(), answer.len(), windows) {
         return TOO_SHORT;
     }
-    answers::plan_ack(grant, answer)
+    answers::plan_ack(grant, windows, answer)
 }
 
 // First and last subframe, copies and places.
@@ -131,24 +132,34 @@ pub extern "C" fn nbiot_plan_control(
 
 // The place of position p, and the symbol there.
 #[no_mangle]
-pub extern "C" fn nbiot_forward_up(grant: &[u64], p: u64, answer: &mut [u64]) -> u64
-    ensures { λ r. ⌜ (r ≡ calls.forwardUp (now (grant .entry)) p (now (answer .entry)) .number) × (now (answer .exit) ≡ calls.forwardUp (now (grant .entry)) p (now (answer .entry)) .answer) ⌝ }
+pub extern "C" fn nbiot_forward_up(
+    grant: &[u64],
+    windows: &[u64],
+    p: u64,
+    answer: &mut [u64],
+) -> u64
+    ensures { λ r. ⌜ (r ≡ calls.forwardUp (now (grant .entry)) (now (windows .entry)) p (now (answer .entry)) .number) × (now (answer .exit) ≡ calls.forwardUp (now (grant .entry)) (now (windows .entry)) p (now (answer .entry)) .answer) ⌝ }
 {
-    if buffers::short2(7, 5, grant.len(), answer.len()) {
+    if buffers::short_up(7, 5, grant.len(), answer.len(), windows) {
         return TOO_SHORT;
     }
-    answers::place_up(grant, p, answer)
+    answers::place_up(grant, windows, p, answer)
 }
 
 // The place of position p, and the symbol there.
 #[no_mangle]
-pub extern "C" fn nbiot_forward_ack(grant: &[u64], p: u64, answer: &mut [u64]) -> u64
-    ensures { λ r. ⌜ (r ≡ calls.forwardAck (now (grant .entry)) p (now (answer .entry)) .number) × (now (answer .exit) ≡ calls.forwardAck (now (grant .entry)) p (now (answer .entry)) .answer) ⌝ }
+pub extern "C" fn nbiot_forward_ack(
+    grant: &[u64],
+    windows: &[u64],
+    p: u64,
+    answer: &mut [u64],
+) -> u64
+    ensures { λ r. ⌜ (r ≡ calls.forwardAck (now (grant .entry)) (now (windows .entry)) p (now (answer .entry)) .number) × (now (answer .exit) ≡ calls.forwardAck (now (grant .entry)) (now (windows .entry)) p (now (answer .entry)) .answer) ⌝ }
 {
-    if buffers::short2(4, 5, grant.len(), answer.len()) {
+    if buffers::short_up(4, 5, grant.len(), answer.len(), windows) {
         return TOO_SHORT;
     }
-    answers::place_ack(grant, p, answer)
+    answers::place_ack(grant, windows, p, answer)
 }
 
 // The place of position p, and the symbol there.
@@ -191,17 +202,18 @@ pub extern "C" fn nbiot_forward_control(
 #[no_mangle]
 pub extern "C" fn nbiot_backward_up(
     grant: &[u64],
+    windows: &[u64],
     slot: u64,
     l: u64,
     k: u64,
     answer: &mut [u64],
 ) -> u64
-    ensures { λ r. ⌜ (r ≡ calls.backwardUp (now (grant .entry)) slot l k (now (answer .entry)) .number) × (now (answer .exit) ≡ calls.backwardUp (now (grant .entry)) slot l k (now (answer .entry)) .answer) ⌝ }
+    ensures { λ r. ⌜ (r ≡ calls.backwardUp (now (grant .entry)) (now (windows .entry)) slot l k (now (answer .entry)) .number) × (now (answer .exit) ≡ calls.backwardUp (now (grant .entry)) (now (windows .entry)) slot l k (now (answer .entry)) .answer) ⌝ }
 {
-    if buffers::short2(7, 5, grant.len(), answer.len()) {
+    if buffers::short_up(7, 5, grant.len(), answer.len(), windows) {
         return TOO_SHORT;
     }
-    let a = nbiot::backward_up(buffers::up_grant_of(grant), slot, l, k);
+    let a = asked::up_back(grant, windows, slot, l, k);
     buffers::put5(answer, a.no, a.ours, a.symbol, a.position, a.kind)
 }
 
@@ -209,17 +221,18 @@ pub extern "C" fn nbiot_backward_up(
 #[no_mangle]
 pub extern "C" fn nbiot_backward_ack(
     grant: &[u64],
+    windows: &[u64],
     slot: u64,
     l: u64,
     k: u64,
     answer: &mut [u64],
 ) -> u64
-    ensures { λ r. ⌜ (r ≡ calls.backwardAck (now (grant .entry)) slot l k (now (answer .entry)) .number) × (now (answer .exit) ≡ calls.backwardAck (now (grant .entry)) slot l k (now (answer .entry)) .answer) ⌝ }
+    ensures { λ r. ⌜ (r ≡ calls.backwardAck (now (grant .entry)) (now (windows .entry)) slot l k (now (answer .entry)) .number) × (now (answer .exit) ≡ calls.backwardAck (now (grant .entry)) (now (windows .entry)) slot l k (now (answer .entry)) .answer) ⌝ }
 {
-    if buffers::short2(4, 5, grant.len(), answer.len()) {
+    if buffers::short_up(4, 5, grant.len(), answer.len(), windows) {
         return TOO_SHORT;
     }
-    let a = nbiot::backward_ack(buffers::ack_grant_of(grant), slot, l, k);
+    let a = asked::ack_back(grant, windows, slot, l, k);
     buffers::put5(answer, a.no, a.ours, a.symbol, a.position, a.kind)
 }
 
@@ -307,33 +320,33 @@ pub extern "C" fn nbiot_backward_control(
 
 // One step of a walk: the answer at its position, which moves on.
 #[no_mangle]
-pub extern "C" fn nbiot_step_up(walk: &mut [u64], answer: &mut [u64]) -> u64
-    ensures { λ r. ⌜ (r ≡ calls.stepUp (now (walk .entry)) (now (answer .entry)) .number) × (now (walk .exit) ≡ calls.stepUp (now (walk .entry)) (now (answer .entry)) .walk) × (now (answer .exit) ≡ calls.stepUp (now (walk .entry)) (now (answer .entry)) .answer) ⌝ }
+pub extern "C" fn nbiot_step_up(walk: &mut [u64], windows: &[u64], answer: &mut [u64]) -> u64
+    ensures { λ r. ⌜ (r ≡ calls.stepUp (now (walk .entry)) (now (windows .entry)) (now (answer .entry)) .number) × (now (walk .exit) ≡ calls.stepUp (now (walk .entry)) (now (windows .entry)) (now (answer .entry)) .walk) × (now (answer .exit) ≡ calls.stepUp (now (walk .entry)) (now (windows .entry)) (now (answer .entry)) .answer) ⌝ }
 {
-    if buffers::short2(8, 7, walk.len(), answer.len()) {
+    if buffers::short_up(8, 7, walk.len(), answer.len(), windows) {
         return TOO_SHORT;
     }
-    let no = answers::walked_up(walk, answer);
+    let no = answers::walked_up(walk, windows, answer);
     if no == 0 {
         return answers::moved(walk);
     }
-    let end = answers::ended_up(walk, answer);
+    let end = answers::ended_up(walk, windows, answer);
     answers::stopped(no, end, answer)
 }
 
 // One step of a walk: the answer at its position, which moves on.
 #[no_mangle]
-pub extern "C" fn nbiot_step_ack(walk: &mut [u64], answer: &mut [u64]) -> u64
-    ensures { λ r. ⌜ (r ≡ calls.stepAck (now (walk .entry)) (now (answer .entry)) .number) × (now (walk .exit) ≡ calls.stepAck (now (walk .entry)) (now (answer .entry)) .walk) × (now (answer .exit) ≡ calls.stepAck (now (walk .entry)) (now (answer .entry)) .answer) ⌝ }
+pub extern "C" fn nbiot_step_ack(walk: &mut [u64], windows: &[u64], answer: &mut [u64]) -> u64
+    ensures { λ r. ⌜ (r ≡ calls.stepAck (now (walk .entry)) (now (windows .entry)) (now (answer .entry)) .number) × (now (walk .exit) ≡ calls.stepAck (now (walk .entry)) (now (windows .entry)) (now (answer .entry)) .walk) × (now (answer .exit) ≡ calls.stepAck (now (walk .entry)) (now (windows .entry)) (now (answer .entry)) .answer) ⌝ }
 {
-    if buffers::short2(5, 7, walk.len(), answer.len()) {
+    if buffers::short_up(5, 7, walk.len(), answer.len(), windows) {
         return TOO_SHORT;
     }
-    let no = answers::walked_ack(walk, answer);
+    let no = answers::walked_ack(walk, windows, answer);
     if no == 0 {
         return answers::moved(walk);
     }
-    let end = answers::ended_ack(walk, answer);
+    let end = answers::ended_ack(walk, windows, answer);
     answers::stopped(no, end, answer)
 }
 

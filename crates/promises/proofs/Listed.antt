@@ -22,6 +22,7 @@ use Rattle.subframes.specs.Answers.{burstPlan, burstForward, planAnswer, forwar
 use Rattle.downlink.specs.Refusals.{grantRefusal}
 use Rattle.downlink.specs.Questions.{planOf, forwardOf}
 use Rattle.uplink.proofs.Cases as uplink
+use Rattle.uplink.proofs.WindowCases.{window-cases}
 use Rattle.acknowledgement.proofs.Cases as ack
 use Rattle.promises.specs.Cases.{elementsOf, standalone, inBand, eightSubframes, sentIn, Cases}
 
@@ -120,4 +121,5 @@ cases = record {
   nothing-anchor = cell.cases .nothing-anchor;
   nothing-other = cell.cases .nothing-other;
   acknowledgements = ack.ack-cases;
+  windows = window-cases;
 }

@@ -1,4 +1,5 @@
 -- DEMAND 3 of every accepted uplink grant: each kind is a shape.
+use mathlib.Core.Bool.{true}
 use mathlib.Core.Path.{_≡_, refl, sym, ap, _∙_, subst}
 use mathlib.Core.Logic.{_⊎_, inl, inr, ⊎-elim}
 use Prim.Native.Nat.{ℕ, _-_, _*_, _/_, _%_, _≤_, _<_}
@@ -7,21 +8,30 @@ use native.Mathlib.Omega.{arith}
 use Rattle.counting.proofs.Facts.{order, div-mono}
 use Rattle.grid.specs.Grid.{uplinkSubcarriers, uplinkElementOf}
 use Rattle.grid.proofs.Numbering.{uplink-of-parts, uplink-symbol-of, uplink-subcarrier-of}
+use Rattle.bars.specs.declared.Bars.{Bars}
+use Rattle.bars.specs.Bars.{clear}
 use Rattle.slots.specs.declared.Shape.{Shape}
 use Rattle.slots.specs.Fits.{Fits}
+use Rattle.slots.specs.Timing.{groupAt}
 use Rattle.slots.specs.Elements.{slotData}
 use Rattle.slots.specs.Mapping.{sendingOf, places}
 use Rattle.slots.specs.Answers.{shapePlan, shapeForward, shapeBackward, planAnswer, forwardAnswer, backwardAnswer}
 use Rattle.slots.proofs.Joined.{forward-refused}
 use Rattle.slots.proofs.Judging.{plan-accepted, forward-accepted, backward-accepted, plan-no}
 use Rattle.slots.proofs.Lines.{slot-data, some-data}
-use Rattle.slots.proofs.Lawfulness.{shape-sound, forward-place, backward-content, place-symbol, place-subcarrier}
+use Rattle.slots.proofs.Lawfulness.{shape-sound, forward-place, backward-content, place-symbol, place-subcarrier, place-clear}
+use Rattle.windows.specs.declared.Windows.{Windows}
+use Rattle.windows.specs.Windows.{isClear, barsOf, windowsRefusal, keepsClear}
+use Rattle.windows.proofs.Closing.{clear-is}
+use Rattle.windows.proofs.Spaced.{accepted-windows, ms-within}
 use Rattle.uplink.specs.declared.UplinkGrant.{UplinkGrant}
-use Rattle.uplink.specs.Refusals.{refusal}
+use Rattle.uplink.specs.Fields.{firstTone}
+use Rattle.uplink.specs.Refusals.{lastSubframe, refusal}
 use Rattle.uplink.specs.Shaping.{grantTones, shapeOf}
 use Rattle.uplink.specs.Questions.{planOf, forwardOf, backwardOf}
-use Rattle.uplink.proofs.Acceptance.{fits}
+use Rattle.uplink.proofs.Acceptance.{accepted, fits}
 use Rattle.acknowledgement.specs.declared.AckGrant.{AckGrant}
+use Rattle.acknowledgement.specs.Fields.{toneOf}
 use Rattle.acknowledgement.specs.Refusals as ack-refusals
 use Rattle.acknowledgement.specs.Shaping as ack-shaping
 use Rattle.acknowledgement.specs.Questions as ack
@@ -92,6 +102,18 @@ module _ (refusal : ℕ) (s : Shape) (fit : refusal ≡ 0 → Fits s) (copies sy
       (demand (uplinkGrid (s .subcarriers)) (uplink-numbered (s .subcarriers) (some-tones s f)) granted (shapeAnswers s)
       (shape-read s f) (s .codeword) (s .copies) (shape-sound s f) R (N e))
 
+  -- no place is in a group that its windows close
+  module _ (ms a n : ℕ) (ws : Windows) (from : 1 ≤ ms) (to : ms ≤ 2) (hb : s .bars ≡ barsOf ms a n ws) (accepted : refusal ≡ 0 → windowsRefusal ms a n ws ≡ 0) where
+    pub question-clear : planAnswer refusal s .no ≡ 0 → (p : ℕ) → p < planAnswer refusal s .places
+        → isClear ms a n ws (groupAt s (forwardAnswer refusal s p .slot)) ≡ true
+    unfolding shapePlan
+    question-clear h p l =
+        let e : refusal ≡ 0 = sym (plan-no refusal s) ∙ h in
+        let b : p < places s = rw (← plan-accepted refusal s e) at l in
+        rw (← forward-accepted refusal s e p)
+        (sym (clear-is ms from to a n ws (accepted-windows ms a n ws (accepted e) .0) (groupAt s (shapeForward s p .slot)))
+        ∙ ap (λ (x : Bars). clear x (groupAt s (shapeForward s p .slot))) (sym hb) ∙ place-clear s (fit e) p b)
+
 -- ---- NPUSCH
 
 -- six data symbols on each tone
@@ -117,3 +139,20 @@ pub ack-demand : (g : AckGrant) → ack.planOf g .no ≡ 0
 unfolding ack-shaping.shapeOf ack.planOf ack.forwardOf ack.backwardOf
 ack-demand g =
     question-demand (ack-refusals.refusal g) (ack-shaping.shapeOf g) (ack-accepting.fits g) _ _ refl (λ e. ap (λ (w : ℕ). 4 * w) (four-each g e))
+
+-- ---- clear of the windows
+
+pub uplink-clear : (g : UplinkGrant) → planOf g .no ≡ 0 → (p : ℕ) → p < planOf g .places
+    → keepsClear (g .spacing) (firstTone (g .spacing) (g .subcarrier)) (grantTones g) (g .windows) (forwardOf g p .slot) ≡ true
+unfolding shapeOf planOf forwardOf
+uplink-clear g =
+    let w = ms-within (g .spacing) in
+    question-clear (refusal g) (shapeOf g) (fits g) 0 0 _ _ _ (g .windows) (w .0) (w .1) refl (λ e. accepted lastSubframe g e .windows)
+
+pub ack-clear : (g : AckGrant) → ack.planOf g .no ≡ 0 → (p : ℕ) → p < ack.planOf g .places
+    → keepsClear (g .spacing) (toneOf (g .spacing) (g .field)) 1 (g .windows) (ack.forwardOf g p .slot) ≡ true
+unfolding ack-shaping.shapeOf ack.planOf ack.forwardOf
+ack-clear g =
+    let w = ms-within (g .spacing) in
+    question-clear (ack-refusals.refusal g) (ack-shaping.shapeOf g) (ack-accepting.fits g) 0 0 _ _ _ (g .windows) (w .0) (w .1) refl
+    (λ e. ack-accepting.accepted g e .windows)

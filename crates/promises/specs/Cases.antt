@@ -1,4 +1,4 @@
--- The cases P1 to P11 of 01, P10 and P11 as 02 L2 has them, and those of 02 L1, as one list. Each starts from the fields that 01 prints and speaks of the answers that the contracts cite.
+-- The cases P1 to P11 of 01, P10 and P11 as 02 L2 has them, and those of 02 L1 and L4, as one list. Each starts from the fields that 01 prints and speaks of the answers that the contracts cite.
 -- What a case leaves free is any number that is accepted; where it is typed in, a comment says so.
 use mathlib.Core.List.{List, [], _∷_, map}
 use mathlib.Core.Bool.{true}
@@ -12,7 +12,7 @@ use Rattle.elements.specs.Elements.{countOf}
 use Rattle.subframes.specs.declared.DownlinkPlan.{DownlinkPlan}
 use Rattle.subframes.specs.declared.DownlinkPlace.{DownlinkPlace}
 use Rattle.subframes.specs.Cells.{layoutOf}
-use Rattle.uplink.specs.Cases.{UplinkCases}
+use Rattle.uplink.specs.Cases.{UplinkCases, WindowCases}
 use Rattle.acknowledgement.specs.Cases.{AckCases}
 use Rattle.downlink.specs.declared.DownlinkGrant.{DownlinkGrant}
 use Rattle.downlink.specs.Questions.{planOf, forwardOf}
@@ -110,3 +110,5 @@ pub record Cases : Type 0 where
   pub nothing-other : judgeOf (withBitmap 1 0 10) [] nothing ≡ 8
   -- L1
   pub acknowledgements : AckCases
+  -- L4
+  pub windows : WindowCases

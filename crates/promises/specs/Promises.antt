@@ -1,4 +1,4 @@
--- DEMAND 3 of every accepted grant, on every cell and any buffers; and the cause that backward hands on, 02 L2.
+-- DEMAND 3 of every accepted grant, on every cell and any buffers; the cause that backward hands on, 02 L2; and clear of the windows, 02 L4.
 use mathlib.Core.Bool.{Bool, true, false}
 use mathlib.Core.List.{List}
 use mathlib.Core.Path.{_≡_}
@@ -16,15 +16,17 @@ use Rattle.elements.specs.Elements.{reference, controlRegion, eligible, countOf
 use Rattle.slots.specs.Mapping as slots
 use Rattle.sending.specs.Sending as sending
 use Rattle.sending.specs.Answer.{backOf}
+use Rattle.windows.specs.Windows.{keepsClear}
 use Rattle.subframes.specs.declared.DownlinkPlan.{DownlinkPlan}
 use Rattle.subframes.specs.declared.DownlinkBack.{DownlinkBack}
 use Rattle.subframes.specs.Cells.{layoutOf, elementCountOf}
 use Rattle.subframes.specs.Mapping as subframes
 use Rattle.uplink.specs.declared.UplinkGrant.{UplinkGrant}
-use Rattle.uplink.specs.Fields.{unitSlots}
+use Rattle.uplink.specs.Fields.{firstTone, unitSlots}
 use Rattle.uplink.specs.Shaping.{shapeOf, grantTones}
 use Rattle.uplink.specs.Questions as npusch
 use Rattle.acknowledgement.specs.declared.AckGrant.{AckGrant}
+use Rattle.acknowledgement.specs.Fields.{toneOf}
 use Rattle.acknowledgement.specs.Shaping as ack-shaping
 use Rattle.acknowledgement.specs.Questions as ack
 use Rattle.downlink.specs.declared.DownlinkGrant.{DownlinkGrant}
@@ -144,6 +146,11 @@ pub record Promises : Type 0 where
   pub acknowledgement : (g : AckGrant) → ack.planOf g .no ≡ 0
       → Demand (uplinkGrid (uplinkSubcarriers (g .spacing))) (ackGranted g)
       (uplinkAnswers (ack.planOf g) (ack.forwardOf g) (ack.backwardOf g))
+  -- no place of either is in a group that overlaps a random access window in time and tone: 02 L4
+  pub uplinkClear : (g : UplinkGrant) → npusch.planOf g .no ≡ 0 → (p : ℕ) → p < npusch.planOf g .places
+      → keepsClear (g .spacing) (firstTone (g .spacing) (g .subcarrier)) (grantTones g) (g .windows) (npusch.forwardOf g p .slot) ≡ true
+  pub ackClear : (g : AckGrant) → ack.planOf g .no ≡ 0 → (p : ℕ) → p < ack.planOf g .places
+      → keepsClear (g .spacing) (toneOf (g .spacing) (g .field)) 1 (g .windows) (ack.forwardOf g p .slot) ≡ true
   -- NPDSCH
   pub downlink : (c : Cell) (anchor other : List ℕ) (g : DownlinkGrant) → npdsch.planOf c anchor other g .no ≡ 0
       → DownlinkDemand c (bitmapOf c anchor other) (downlinkGranted c (bitmapOf c anchor other) g)

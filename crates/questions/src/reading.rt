@@ -6,8 +6,10 @@ use crate::values::NAMES;
 use crate::values::OTHER;
 use crate::values::ROOM;
 use crate::values::Values;
+use crate::values::keep_window;
 use bytes::scan::find;
 use text::Number;
+use windows::Window;
 ghost use Prim.Native.Nat.{_≤_, _<_};
 ghost use lib.ListN.{length};
 
@@ -88,10 +90,12 @@ pub enum Line {
     Asked(Question, usize),
 }
 
-// What a value word gives: a number to a name's row; a buffer, by its name's row and the start of its hex digits; a fault.
+// What a value word gives: a number to a name's row; a buffer, by its name's row and the start of its hex digits; a window to a name's
+// row; a fault.
 enum Word {
     Number(usize, u64),
     Buffer(usize, usize),
+    Window(usize, Window),
     Wrong(Fault),
 }
 
@@ -172,6 +176,52 @@ fn read_buffer(name: usize, s: &[u8], start: usize) -> Word {
     Word::Buffer(name, start)
 }
 
+// A part of a line; an empty one where it starts past its end.
+fn part(line: &[u8], start: usize, end: usize) -> &[u8]
+    requires { ⌜ end ≤ length (now line) ⌝ }
+{
+    if start <= end {
+        return &line[start..end];
+    }
+    &line[end..end]
+}
+
+// The end of the part of a text that starts at a place: the next comma, or the text's end.
+fn part_end(s: &[u8], start: usize) -> usize
+    ensures { λ r. ⌜ r ≤ length (now (s .entry)) ⌝ }
+{
+    if start > s.len() {
+        return s.len();
+    }
+    find(s, start, s.len(), b',')
+}
+
+// Four numbers with commas between them. A part that is not there is no number.
+fn read_window(name: usize, s: &[u8]) -> Word {
+    let a = part_end(s, 0);
+    let b = part_end(s, a + 1);
+    let c = part_end(s, b + 1);
+    let Number::Value(period) = text::decimal(part(s, 0, a)) else {
+        return Word::Wrong(Fault::Number);
+    };
+    let Number::Value(start) = text::decimal(part(s, a + 1, b)) else {
+        return Word::Wrong(Fault::Number);
+    };
+    let Number::Value(length) = text::decimal(part(s, b + 1, c)) else {
+        return Word::Wrong(Fault::Number);
+    };
+    let Number::Value(tone) = text::decimal(part(s, c + 1, s.len())) else {
+        return Word::Wrong(Fault::Number);
+    };
+    let w = Window {
+        period,
+        start,
+        length,
+        tone,
+    };
+    Word::Window(name, w)
+}
+
 // A tab or a carriage return stands in the word.
 fn is_odd(line: &[u8], start: usize, end: usize) -> bool
     requires { ⌜ (start ≤ end) × (end ≤ length (now line)) ⌝ }
@@ -198,10 +248,13 @@ fn read_word(line: &[u8], start: usize, end: usize) -> Word
     if name == LEVEL {
         return read_level(value);
     }
-    if name > DATA {
+    if name <= DATA {
+        return read_buffer(name, value, from);
+    }
+    if name >= NAMES.len() {
         return Word::Wrong(Fault::Name);
     }
-    read_buffer(name, value, from)
+    read_window(name, value)
 }
 
 // The end of the word after the space at a place.
@@ -290,7 +343,7 @@ pub fn read_line(line: &[u8]) -> Line {
 }
 
 fn keep_number(v: &mut Values, name: usize, x: u64) {
-    if name < 32 {
+    if name <= DATA {
         v[name] = x;
     }
 }
@@ -314,16 +367,6 @@ fn keep_buffer(
     }
 }
 
-// A part of a line; an empty one where it starts past its end.
-fn part(line: &[u8], start: usize, end: usize) -> &[u8]
-    requires { ⌜ end ≤ length (now line) ⌝ }
-{
-    if start <= end {
-        return &line[start..end];
-    }
-    &line[end..end]
-}
-
 fn keep_word(
     line: &[u8],
     start: usize,
@@ -341,6 +384,7 @@ fn keep_word(
         Word::Buffer(name, from) => {
             keep_buffer(name, part(line, from, end), v, anchor, other, data)
         }
+        Word::Window(name, w) => keep_window(name, w, v),
     }
 }
 

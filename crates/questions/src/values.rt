@@ -1,4 +1,4 @@
-// The values kept from line to line: numbers by the row of their name, and the counts of the three buffers' bytes.
+// The values kept from line to line: numbers by the row of their name, the counts of the three buffers' bytes, and the windows' numbers.
 use crate::reading::Kind;
 use acknowledgement::AckGrant;
 use cell::Cell;
@@ -7,9 +7,12 @@ use downlink::DownlinkGrant;
 use uplink::UplinkGrant;
 use walk::Grant;
 use walk::Walk;
+use windows::Window;
+use windows::Windows;
+ghost use Prim.Native.Nat.{_+_, _≤_};
 
-// The numbers' names; then the level, a number too, and the buffers.
-pub const NAMES: [[u8; 10]; 32] = [
+// The numbers' names; then the level, a number too, the buffers and the windows.
+pub const NAMES: [[u8; 10]; 37] = [
     *b"mode      ",
     *b"carrier   ",
     *b"identity  ",
@@ -31,6 +34,7 @@ pub const NAMES: [[u8; 10]; 32] = [
     *b"units     ",
     *b"mcs       ",
     *b"field     ",
+    *b"windows   ",
     *b"p         ",
     *b"t         ",
     *b"slot      ",
@@ -42,6 +46,10 @@ pub const NAMES: [[u8; 10]; 32] = [
     *b"anchor    ",
     *b"other     ",
     *b"data      ",
+    *b"w1        ",
+    *b"w2        ",
+    *b"w3        ",
+    *b"w4        ",
 ];
 
 const MODE: usize = 0;
@@ -86,34 +94,40 @@ const MCS: usize = 19;
 
 const FIELD: usize = 20;
 
-pub const P: usize = 21;
+const WINDOWS: usize = 21;
 
-pub const T: usize = 22;
+pub const P: usize = 22;
 
-pub const SLOT: usize = 23;
+pub const T: usize = 23;
 
-pub const L: usize = 24;
+pub const SLOT: usize = 24;
 
-pub const K: usize = 25;
+pub const L: usize = 25;
 
-pub const I: usize = 26;
+pub const K: usize = 26;
 
-pub const ROOM: usize = 27;
+pub const I: usize = 27;
 
-pub const LEVEL: usize = 28;
+pub const ROOM: usize = 28;
 
-pub const ANCHOR: usize = 29;
+pub const LEVEL: usize = 29;
 
-pub const OTHER: usize = 30;
+pub const ANCHOR: usize = 30;
 
-pub const DATA: usize = 31;
+pub const OTHER: usize = 31;
 
-// At a buffer's row stands the count of its bytes.
-pub type Values = [u64; 32];
+pub const DATA: usize = 32;
+
+const W1: usize = 33;
+
+const W4: usize = 36;
+
+// At a buffer's row stands the count of its bytes; from the first window's row on stand four numbers of each window.
+pub type Values = [u64; 49];
 
 // All 0, but the room.
 pub fn start() -> Values {
-    let mut v = [0u64; 32];
+    let mut v = [0u64; 49];
     v[ROOM] = 336;
     v
 }
@@ -150,6 +164,55 @@ pub fn control_grant(v: &Values) -> ControlGrant {
     }
 }
 
+// The place of a window's first number, by the row of its name.
+fn first_of(name: usize) -> usize
+    requires { ⌜ (33 ≤ name) × (name ≤ 36) ⌝ }
+    ensures { λ r. ⌜ r + 4 ≤ 49 ⌝ }
+{
+    W1 + 4 * (name - W1)
+}
+
+fn window_of(name: usize, v: &Values) -> Window
+    requires { ⌜ (33 ≤ name) × (name ≤ 36) ⌝ }
+{
+    let at = first_of(name);
+    Window {
+        period: v[at],
+        start: v[at + 1],
+        length: v[at + 2],
+        tone: v[at + 3],
+    }
+}
+
+// Keeps a window at the row of its name.
+pub fn keep_window(name: usize, w: Window, v: &mut Values) {
+    if name < W1 {
+        return;
+    }
+    if name > W4 {
+        return;
+    }
+    let at = first_of(name);
+    v[at] = w.period;
+    v[at + 1] = w.start;
+    v[at + 2] = w.length;
+    v[at + 3] = w.tone;
+}
+
+fn windows_of(v: &Values) -> Windows {
+    let w1 = window_of(W1, v);
+    let w2 = window_of(W1 + 1, v);
+    let w3 = window_of(W1 + 2, v);
+    let w4 = window_of(W4, v);
+    Windows {
+        count: v[WINDOWS],
+        w1,
+        w2,
+        w3,
+        w4,
+    }
+}
+
 pub fn uplink_grant(v: &Values) -> UplinkGrant {
     UplinkGrant {
         n: v[N],
@@ -159,6 +222,7 @@ pub fn uplink_grant(v: &Values) -> UplinkGrant {
         copies: v[COPIES],
         delay: v[DELAY],
         mcs: v[MCS],
+        windows: windows_of(v),
     }
 }
 
@@ -168,6 +232,7 @@ pub fn ack_grant(v: &Values) -> AckGrant {
         spacing: v[SPACING],
         field: v[FIELD],
         copies: v[COPIES],
+        windows: windows_of(v),
     }
 }
 

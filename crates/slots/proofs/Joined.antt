@@ -4,12 +4,13 @@ use mathlib.Core.Path.{_≡_, refl, sym, ap, ap₂, _∙_}
 use Prim.Native.Nat.{ℕ, _+_, _-_, _*_, _^_, _≤_, _<_}
 use native.Mathlib.Nat.{mul-le-mul}
 use native.Mathlib.Omega.{arith}
-use lib.Dec.{ltb}
+use lib.Dec.{leb, ltb}
 use mir.Val.{boolByte}
-use borrow.Author.Tests.{le-leb, lt-leb, lt-ltb, le-ltb}
+use borrow.Author.Tests.{le-leb, lt-leb, lt-ltb, le-ltb, leb-true}
 use Rattle.counting.specs.Counting.{rank}
 use Rattle.counting.proofs.Facts.{both-parts}
 use Rattle.counting.proofs.Select.{among-from-zero}
+use Rattle.bars.specs.Bars.{clear}
 use Rattle.grid.specs.Grid.{symbols, uplinkElementOf}
 use Rattle.sending.specs.CopyOrder.{carried}
 use Rattle.sending.specs.Sending.{ours, other}
@@ -18,7 +19,7 @@ use Rattle.slots.specs.declared.Shape.{Shape}
 use Rattle.slots.specs.declared.Split.{Split}
 use Rattle.slots.specs.declared.UplinkPlace.{UplinkPlace}
 use Rattle.slots.specs.Fits.{Fits}
-use Rattle.slots.specs.Timing.{active, sentSlots, slotAt, isSent, indexOf}
+use Rattle.slots.specs.Timing.{inBlock, groupAt, active, sentSlots, slotAt, isSent, indexOf}
 use Rattle.slots.specs.Elements.{carriesData, carriesReference, slotData, numberOf}
 use Rattle.slots.specs.Mapping.{places}
 use Rattle.slots.specs.Quick.{splitOf}
@@ -45,6 +46,15 @@ sent-is s slot a n K h ha hn hK =
 pub sent-active : (s : Shape) (slot : ℕ) → s .first ≤ slot → isSent s slot ≡ true → active s (slot - s .first) ≡ true
 sent-active s slot h e =
     both-parts (active s (slot - s .first)) _ (sent-is s slot _ _ _ h refl refl refl ∙ e) .0
+
+-- its group is clear
+pub sent-clear : (s : Shape) (slot : ℕ) → isSent s slot ≡ true → clear (s .bars) (groupAt s slot) ≡ true
+unfolding isSent active
+sent-clear s slot e =
+    let h : s .first ≤ slot = leb-true (s .first) slot (both-parts (leb (s .first) slot) _ e .0) in
+    let a = both-parts (inBlock s (slot - s .first)) (clear (s .bars) (groupAt s (s .first + (slot - s .first)))) (sent-active s slot h e) in
+    let x : s .first + (slot - s .first) ≡ slot = omega arith in
+    ap (λ (y : ℕ). clear (s .bars) (groupAt s y)) (sym x) ∙ a .1
 
 -- ---- forward
 

@@ -5,6 +5,7 @@ use Prim.Native.Nat.{ℕ, _/_, _%_, _<_}
 use native.Mathlib.Nat.{mod-lt, div-lt-iff-lt-mul}
 use native.Mathlib.Omega.{arith}
 use borrow.Author.Tests.{lt-ltb}
+use Rattle.bars.specs.Bars.{clear}
 use Rattle.grid.specs.Grid.{symbols, uplinkElementOf}
 use Rattle.sending.specs.Sending.{spotAt, contentAt}
 use Rattle.sending.specs.Answer.{backOf}
@@ -13,18 +14,19 @@ use Rattle.sending.proofs.CopyOrder.{copied, carried-below}
 use Rattle.sending.proofs.Demand.{sound}
 use Rattle.slots.specs.declared.Shape.{Shape}
 use Rattle.slots.specs.Fits.{Fits}
-use Rattle.slots.specs.Timing.{isSent}
+use Rattle.slots.specs.Timing.{groupAt, isSent}
 use Rattle.slots.specs.Elements.{isReference, isGranted, carriesData, slotData, elementAt}
 use Rattle.slots.specs.Mapping.{sendingOf, places}
 use Rattle.slots.specs.Answers.{placeOf, shapeForward, shapeBackward}
 use Rattle.slots.proofs.Rounds.{slots-listed}
+use Rattle.slots.proofs.Joined.{sent-clear}
 use Rattle.slots.proofs.Lines.{some-data, elements-listed, data-parts, data-symbol-parts}
 
 module _ (s : Shape) (f : Fits s) where
   pub lawful : Lawful (sendingOf s) (s .codeword) (s .copies)
   lawful = record {
     some = some-data s f;
-    units = slots-listed s (f .block);
+    units = slots-listed s f;
     elements = elements-listed s f;
     whole = refl;
     known = λ i h. carried-below (s .row) (s .group) (s .codeword) i (f .row) (f .group) (f .groups) (f .codeword);
@@ -49,7 +51,10 @@ module _ (s : Shape) (f : Fits s) where
 
   pub place-sent : (p : ℕ) → p < places s → isSent s (shapeForward s p .slot) ≡ true
   place-sent p h =
-      rw (forward-place p h) (slots-listed s (f .block) .passes (p / slotData s) (div-lt-iff-lt-mul (some-data s f) .1 h))
+      rw (forward-place p h) (slots-listed s f .passes (p / slotData s) (div-lt-iff-lt-mul (some-data s f) .1 h))
+
+  pub place-clear : (p : ℕ) → p < places s → clear (s .bars) (groupAt s (shapeForward s p .slot)) ≡ true
+  place-clear p h = sent-clear s _ (place-sent p h)
 
   place-data : (p : ℕ) → carriesData s (elementAt s (p % slotData s)) ≡ true
   place-data p = elements-listed s f .passes (p % slotData s) (mod-lt p (some-data s f))

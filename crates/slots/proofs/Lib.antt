@@ -1,5 +1,7 @@
 pub mod Spacing
 pub mod Rounds
+pub mod Grouped
+pub mod Leaving
 pub mod Lines
 pub mod Joined
 pub mod Splitting

@@ -1,57 +1,58 @@
--- The slots that may be sent, in closed form: blocks of sending with a gap after each.
-use mathlib.Core.Bool.{false}
-use mathlib.Core.Path.{_≡_, sym, ap, ap₂, _∙_}
+-- The slots of 256 ms of sending, in closed form: blocks with a gap after each; and where no window closes anything, they are all that may be sent.
+use mathlib.Core.Bool.{Bool, true, false, _&&_}
+use mathlib.Core.Path.{_≡_, refl, sym, ap, ap₂, _∙_}
 use Prim.Native.Nat.{ℕ, _+_, _-_, _*_, _/_, _%_, _≤_, _<_}
-use native.Mathlib.Nat.{zero-add, mod-lt, mod-le, mod-eq-of-lt, add-mod-right, div-add-mod', mul-add, mul-comm, mul-le-mul-left}
+use native.Mathlib.Nat.{zero-add, mod-lt, mod-le, mod-eq-of-lt, zero-mod, add-mod, add-mod-right, add-mul-div-right, div-add-mod', mul-add, mul-comm, mul-assoc, mul-le-mul-left}
 use native.Mathlib.Omega.{arith}
 use lib.Dec.{ltb}
 use lib.Arith.{digits-div, digits-mod}
 use borrow.Author.Tests.{lt-ltb, le-ltb}
 use Rattle.counting.specs.Counting.{rank, select, Lists}
-use Rattle.counting.proofs.Rank.{rank-zero, rank-none}
+use Rattle.counting.proofs.Rank.{rank-zero, rank-none, rank-same}
 use Rattle.counting.proofs.Range.{rank-all}
 use Rattle.counting.proofs.Select.{nth-of, lists-moved}
-use Rattle.counting.proofs.Period.{rank-split, is-select, lists-from-zero}
+use Rattle.counting.proofs.Period.{rank-split, repeats-times, is-select, lists-from-zero}
+use Rattle.bars.specs.Bars.{clear}
+use Rattle.bars.specs.Quick.{closesNothing}
+use Rattle.bars.proofs.Running.{idle-clear}
 use Rattle.slots.specs.declared.Shape.{Shape}
-use Rattle.slots.specs.Timing.{round, active, period, sentSlots, slotAt, isSent, indexOf}
+use Rattle.slots.specs.Fits.{Fits}
+use Rattle.slots.specs.Timing.{round, rounds, inBlock, groupAt, active, period, sentSlots, slotAt, isSent, indexOf}
 
 module _ (s : Shape) (some : 0 < s .block) where
-  repeats : (x : ℕ) → active s (x + period s) ≡ active s x
-  unfolding active
-  repeats x = ap (λ (y : ℕ). ltb y (s .block)) (add-mod-right x (round s))
+  pub rounds-repeat : (x : ℕ) → inBlock s (x + round s) ≡ inBlock s x
+  unfolding inBlock
+  rounds-repeat x = ap (λ (y : ℕ). ltb y (s .block)) (add-mod-right x (round s))
 
   -- a round: first its block, then its gap
-  in-block : (r : ℕ) → r ≤ s .block → rank (active s) r ≡ r
-  unfolding active
+  in-block : (r : ℕ) → r ≤ s .block → rank (inBlock s) r ≡ r
+  unfolding inBlock
   in-block r h =
       omega (
         arith,
-        rank-zero (active s),
-        ap (rank (active s)) (zero-add r),
-        rank-all (active s) 0 r (λ i p q. lt-ltb (i % round s) (s .block) (omega (arith, mod-le i (round s)))),
+        rank-zero (inBlock s),
+        ap (rank (inBlock s)) (zero-add r),
+        rank-all (inBlock s) 0 r (λ i p q. lt-ltb (i % round s) (s .block) (omega (arith, mod-le i (round s)))),
       )
 
-  in-gap : (r : ℕ) → s .block ≤ r → r ≤ round s → rank (active s) r ≡ s .block
-  unfolding active
+  in-gap : (r : ℕ) → s .block ≤ r → r ≤ round s → rank (inBlock s) r ≡ s .block
+  unfolding inBlock
   in-gap r h k =
       let e : s .block + (r - s .block) ≡ r = omega arith in
-      let none : (i : ℕ) → s .block ≤ i → i < s .block + (r - s .block) → active s i ≡ false =
+      let none : (i : ℕ) → s .block ≤ i → i < s .block + (r - s .block) → inBlock s i ≡ false =
       λ i p q. le-ltb (i % round s) (s .block) (omega (arith, mod-eq-of-lt {n = i} {m = round s} (omega arith))) in
-      sym (ap (rank (active s)) e) ∙ rank-none (active s) (s .block) (r - s .block) none ∙ in-block (s .block) (omega arith)
+      sym (ap (rank (inBlock s)) e) ∙ rank-none (inBlock s) (s .block) (r - s .block) none ∙ in-block (s .block) (omega arith)
 
-  whole-round : rank (active s) (round s) ≡ s .block
+  whole-round : rank (inBlock s) (round s) ≡ s .block
   whole-round = in-gap (round s) (omega arith) (omega arith)
 
-  some-active : 0 < rank (active s) (period s)
-  some-active = omega (arith, whole-round)
-
   -- how many before x, by whole rounds
-  by-rounds : (x : ℕ) → rank (active s) x ≡ x / round s * s .block + rank (active s) (x % round s)
+  by-rounds : (x : ℕ) → rank (inBlock s) x ≡ x / round s * s .block + rank (inBlock s) (x % round s)
   by-rounds x =
-      rank-split (active s) (round s) repeats x
-      ∙ ap (λ (n : ℕ). x / round s * n + rank (active s) (x % round s)) whole-round
+      rank-split (inBlock s) (round s) rounds-repeat x
+      ∙ ap (λ (n : ℕ). x / round s * n + rank (inBlock s) (x % round s)) whole-round
 
-  pub before-in-block : (x : ℕ) → x % round s < s .block → x / round s * s .block + x % round s ≡ rank (active s) x
+  pub before-in-block : (x : ℕ) → x % round s < s .block → x / round s * s .block + x % round s ≡ rank (inBlock s) x
   before-in-block x h = omega (arith, by-rounds x, in-block (x % round s) (omega arith))
 
   -- blocks before x are no more than x
@@ -61,9 +62,9 @@ module _ (s : Shape) (some : 0 < s .block) where
       omega (arith, div-add-mod' x (round s), mul-le-mul-left (x / round s) b)
 
   -- the i-th, by whole blocks
-  pub at-index : (i : ℕ) → i + s .gap * (i / s .block) ≡ select (active s) (period s) 0 i
-  unfolding active
-  at-index i =
+  pub at-block : (i : ℕ) → (inBlock s (i + s .gap * (i / s .block)) ≡ true) × (rank (inBlock s) (i + s .gap * (i / s .block)) ≡ i)
+  unfolding inBlock
+  at-block i =
       let q : ℕ = i / s .block in
       let r : ℕ = i % s .block in
       let l : r < s .block = mod-lt i some in
@@ -73,14 +74,65 @@ module _ (s : Shape) (some : 0 < s .block) where
       omega (arith, div-add-mod' i (s .block), mul-add q (s .block) (s .gap), mul-comm (s .gap) q) in
       let d : t / round s ≡ q = digits-div q l' in
       let m : t % round s ≡ r = digits-mod q l' in
-      let n : rank (active s) t ≡ i =
-      by-rounds t ∙ ap₂ (λ (a b : ℕ). a * s .block + rank (active s) b) d m
+      let n : rank (inBlock s) t ≡ i =
+      by-rounds t ∙ ap₂ (λ (a b : ℕ). a * s .block + rank (inBlock s) b) d m
       ∙ omega (arith, in-block r (omega arith), div-add-mod' i (s .block)) in
-      e
-      ∙ is-select (active s) (period s) repeats some-active 0 i t
-      (nth-of (active s) 0 i t (lt-ltb (t % round s) (s .block) (omega arith)) (omega (arith, rank-zero (active s))))
+      (ap (inBlock s) e ∙ lt-ltb (t % round s) (s .block) (omega arith), ap (rank (inBlock s)) e ∙ n)
 
-  -- the slots that are sent, listed
+-- what may be sent repeats, where rounds are of whole groups and what the windows leave repeats
+module _ (s : Shape) (group : 0 < s .group) (block : 0 < s .block) (whole : round s / s .group * s .group ≡ round s)
+    (again : (u : ℕ) → clear (s .bars) (u + rounds * (round s / s .group)) ≡ clear (s .bars) u) where
+  group-on : (x : ℕ) → groupAt s (s .first + (x + period s)) ≡ groupAt s (s .first + x) + rounds * (round s / s .group)
+  group-on x =
+      let e : s .first + (x + period s) ≡ s .first + x + rounds * (round s / s .group) * s .group =
+      omega (arith, mul-assoc rounds (round s / s .group) (s .group), ap (λ (y : ℕ). rounds * y) whole) in
+      ap (λ (y : ℕ). y / s .group) e ∙ add-mul-div-right (s .first + x) (rounds * (round s / s .group)) group
+
+  pub active-repeats : (x : ℕ) → active s (x + period s) ≡ active s x
+  unfolding active
+  active-repeats x =
+      ap₂ _&&_ (repeats-times (inBlock s) (round s) (rounds-repeat s block) rounds x)
+      (ap (clear (s .bars)) (group-on x) ∙ again (groupAt s (s .first + x)))
+
+module _ (s : Shape) (f : Fits s) where
+  -- ---- groups: each number of slots is one of whole groups
+
+  pub whole : (n : ℕ) → n % s .group ≡ 0 → n / s .group * s .group ≡ n
+  whole n h = omega (arith, div-add-mod' n (s .group))
+
+  pub whole-round-groups : round s / s .group * s .group ≡ round s
+  whole-round-groups = whole (round s) (add-mod (s .block) (s .gap) (s .group) ∙ ap₂ (λ (a b : ℕ). (a + b) % s .group) (f .wholeBlock) (f .wholeGap) ∙ zero-mod (s .group))
+
+  -- ---- the slots that are sent, listed
+
+  pub repeats : (x : ℕ) → active s (x + period s) ≡ active s x
+  repeats = active-repeats s (f .group) (f .block) whole-round-groups (f .again)
+
   pub slots-listed : Lists (sentSlots s) (slotAt s) (isSent s) (indexOf s)
   unfolding slotAt isSent indexOf
-  slots-listed = lists-moved (s .first) (sentSlots s) _ _ _ (lists-from-zero (active s) (period s) repeats some-active (sentSlots s))
+  slots-listed = lists-moved (s .first) (sentSlots s) _ _ _ (lists-from-zero (active s) (period s) repeats (f .some) (sentSlots s))
+
+  -- ---- where no window closes anything
+
+  module _ (h : closesNothing (s .bars) ≡ true) where
+    pub plain : (x : ℕ) → active s x ≡ inBlock s x
+    unfolding active
+    plain x = ap (λ (b : Bool). inBlock s x && b) (idle-clear (s .bars) h (groupAt s (s .first + x))) ∙ and-true (inBlock s x)
+      where
+        and-true : (b : Bool) → (b && true) ≡ b
+        and-true true = refl
+        and-true false = refl
+
+    pub plain-rank : (x : ℕ) → rank (active s) x ≡ rank (inBlock s) x
+    plain-rank x = rank-same (active s) (inBlock s) x (λ i l. plain i)
+
+    pub at-index : (i : ℕ) → i + s .gap * (i / s .block) ≡ select (active s) (period s) 0 i
+    at-index i =
+        let t : ℕ = i + s .gap * (i / s .block) in
+        let b = at-block s (f .block) i in
+        is-select (active s) (period s) repeats (f .some) 0 i t
+        (nth-of (active s) 0 i t (plain t ∙ b .0) (omega (arith, rank-zero (active s), plain-rank t, b .1)))
+
+    pub slot-plain : (i : ℕ) → slotAt s i ≡ s .first + (i + s .gap * (i / s .block))
+    unfolding slotAt
+    slot-plain i = ap (λ (x : ℕ). s .first + x) (sym (at-index i))

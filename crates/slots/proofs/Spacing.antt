@@ -54,3 +54,7 @@ block-is false = refl
 pub gap-is : (b : Bool) → cond b 20 80 ≡ 2 * 40 / cond b 4 1
 gap-is true = refl
 gap-is false = refl
+
+pub group-ms-is : (b : Bool) → cond b 2 1 ≡ cond b 1 2 * cond b 4 1 / 2
+group-ms-is true = refl
+group-ms-is false = refl

@@ -11,15 +11,17 @@ use mir.Val.{boolByte}
 use borrow.Author.Tests.{lt-ltb, le-ltb, ltb-true}
 use Rattle.counting.specs.Counting.{rank}
 use Rattle.counting.proofs.Facts.{order}
+use Rattle.bars.specs.Quick.{closesNothing}
 use Rattle.grid.specs.Grid.{symbols, uplinkSymbolOf, uplinkSubcarrierOf}
 use Rattle.slots.specs.declared.Shape.{Shape}
 use Rattle.slots.specs.declared.Split.{Split}
+use Rattle.slots.specs.declared.Turn.{Turn}
 use Rattle.slots.specs.Fits.{Fits}
-use Rattle.slots.specs.Timing.{round, active, sentSlots, isSent, indexOf}
+use Rattle.slots.specs.Timing.{round, inBlock, active, sentSlots, isSent, indexOf}
 use Rattle.slots.specs.Elements.{slotData, elementAt}
-use Rattle.slots.specs.Quick.{symbolOfLine, splitOf, Located}
+use Rattle.slots.specs.Quick.{symbolOfLine, splitOf, amongSent, Located, TurnOf}
 use Rattle.slots.proofs.Lines.{slot-data, some-data, symbol-first, symbol-second, subcarrier-is}
-use Rattle.slots.proofs.Rounds.{before-in-block, blocks-below}
+use Rattle.slots.proofs.Rounds.{before-in-block, blocks-below, plain, plain-rank}
 use Rattle.slots.proofs.Joined.{unsent-before, sent-is, sent-active}
 
 module _ (s : Shape) (f : Fits s) (p : ℕ) where
@@ -94,7 +96,7 @@ module _ (s : Shape) (f : Fits s) (p : ℕ) where
           k = (ap (λ (x : ℕ). s .tone + x) tone-rest ∙ subcarrier-of) j;
         }
 
--- ---- a slot found
+-- ---- a slot found by whole rounds, where no window closes anything
 
 module _ (s : Shape) (f : Fits s) (x whole : ℕ) (by : whole ≡ x / round s) where
   pub rounds-fit : whole * round s ≤ x
@@ -109,13 +111,22 @@ module _ (s : Shape) (f : Fits s) (x whole : ℕ) (by : whole ≡ x / round s) w
   pub index-fits : whole * s .block + (x - whole * round s) ≤ x
   index-fits = omega (arith, by-whole, blocks-below s (f .block) x)
 
-  active-is : ltb (x - whole * round s) (s .block) ≡ active s x
-  unfolding active
-  active-is = ap (λ (y : ℕ). ltb y (s .block)) round-rest
+  block-is : ltb (x - whole * round s) (s .block) ≡ inBlock s x
+  unfolding inBlock
+  block-is = ap (λ (y : ℕ). ltb y (s .block)) round-rest
 
-  index-is : active s x ≡ true → whole * s .block + (x - whole * round s) ≡ rank (active s) x
-  unfolding active
-  index-is h = by-whole ∙ before-in-block s (f .block) x (ltb-true (x % round s) (s .block) h)
+  block-index : inBlock s x ≡ true → whole * s .block + (x - whole * round s) ≡ rank (inBlock s) x
+  unfolding inBlock
+  block-index h = by-whole ∙ before-in-block s (f .block) x (ltb-true (x % round s) (s .block) h)
+
+  pub turn-plain : closesNothing (s .bars) ≡ true
+      → TurnOf s x (record { sent = ltb (x - whole * round s) (s .block); i = whole * s .block + (x - whole * round s) })
+  turn-plain h = record {
+    says = block-is ∙ sym (plain s f h x);
+    index = λ e. block-index (sym (plain s f h x) ∙ e) ∙ sym (plain-rank s f h x);
+  }
+
+-- ---- whether it is one of those that are sent
 
 pub unlocated : (s : Shape) (slot : ℕ) → slot < s .first → Located s slot (record { sent = false; i = 0 })
 unlocated s slot h = record {
@@ -123,23 +134,20 @@ unlocated s slot h = record {
   index = λ e. absurd (omega (arith, ap boolByte (unsent-before s slot h ∙ e)));
 }
 
-module _ (s : Shape) (f : Fits s) (slot whole many : ℕ) (h : s .first ≤ slot) (by : whole ≡ (slot - s .first) / round s) (hm : many ≡ sentSlots s) where
+module _ (s : Shape) (slot : ℕ) (at : Turn) (h : s .first ≤ slot) (turn : TurnOf s (slot - s .first) at) where
   abbrev x : ℕ
   x = slot - s .first
 
-  abbrev i : ℕ
-  i = whole * s .block + (x - whole * round s)
-
-  sent-says : (b : Bool) → active s x ≡ b → (ltb (x - whole * round s) (s .block) && ltb i many) ≡ isSent s slot
-  sent-says true e = sent-is s slot _ i many h (active-is s f x whole by) (index-is s f x whole by e) hm
+  sent-says : (b : Bool) → active s x ≡ b → (at .sent && ltb (at .i) (sentSlots s)) ≡ isSent s slot
+  sent-says true e = sent-is s slot _ (at .i) (sentSlots s) h (turn .says) (turn .index e) refl
   sent-says false e =
-      ap (λ (b : Bool). b && ltb i many) (active-is s f x whole by ∙ e)
-      ∙ ap (λ (b : Bool). b && ltb (rank (active s) x) many) (sym e)
-      ∙ sent-is s slot (active s x) (rank (active s) x) many h refl refl hm
+      ap (λ (b : Bool). b && ltb (at .i) (sentSlots s)) (turn .says ∙ e)
+      ∙ ap (λ (b : Bool). b && ltb (rank (active s) x) (sentSlots s)) (sym e)
+      ∙ sent-is s slot (active s x) (rank (active s) x) (sentSlots s) h refl refl refl
 
-  pub locates : Located s slot (record { sent = ltb (x - whole * round s) (s .block) && ltb i many; i = i })
+  pub locates : Located s slot (amongSent s at)
   unfolding indexOf
   locates = record {
     says = sent-says (active s x) refl;
-    index = λ e. index-is s f x whole by (sent-active s slot h e);
+    index = λ e. turn .index (sent-active s slot h e);
   }

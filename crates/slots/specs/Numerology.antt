@@ -27,3 +27,11 @@ firstAfter spacing t = next (beginsAfter spacing t) (2 * (t + 1) + 1) 0
 -- slots in a group, which go out together (TS 36.211 clause 10.1.3.6)
 abbrev pub groupOf : ℕ → ℕ
 groupOf spacing = bySpacing spacing 1 2
+
+-- how many ms a group lasts
+abbrev pub groupMs : ℕ → ℕ
+groupMs spacing = groupOf spacing * slotHalves spacing / 2
+
+-- how many tones at 3.75 kHz a tone covers
+abbrev pub narrowTones : ℕ → ℕ
+narrowTones spacing = bySpacing spacing 1 4

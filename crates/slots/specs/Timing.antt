@@ -1,21 +1,33 @@
--- When an uplink grant sends: TS 36.211 clause 10.1.3.6; 01 "Uplink grants".
+-- When an uplink grant sends: TS 36.211 clause 10.1.3.6; 01 "Uplink grants", 02 L4.
 use mathlib.Core.Bool.{Bool, _&&_}
-use Prim.Native.Nat.{ℕ, _+_, _-_, _*_, _%_}
+use Prim.Native.Nat.{ℕ, _+_, _-_, _*_, _/_, _%_}
 use lib.Dec.{leb, ltb}
 use Rattle.counting.specs.Counting.{rank, select, amongFirst}
+use Rattle.bars.specs.Bars.{clear}
 use Rattle.slots.specs.declared.Shape.{Shape}
 
--- 256 ms of sending and the 40 ms that are left empty after them, in slots
+-- 256 ms of sending or postponing and the 40 ms that are left empty after them, in slots
 abbrev pub round : Shape → ℕ
 round s = s .block + s .gap
 
--- slot number x, counted from the slot that the grant first names, may be sent: it lies in 256 ms of sending
-unfoldable pub active : Shape → ℕ → Bool
-active s x = ltb (x % round s) (s .block)
+-- slot number x, counted from the slot that the grant first names, lies in 256 ms of sending or postponing
+unfoldable pub inBlock : Shape → ℕ → Bool
+inBlock s x = ltb (x % round s) (s .block)
 
--- after so many slots the same ones may be sent again
+-- the group that a slot is in, counted from time 0
+abbrev pub groupAt : Shape → ℕ → ℕ
+groupAt s slot = slot / s .group
+
+-- it may be sent: the 256 ms run on while slots are postponed, and no random access window closes its group
+unfoldable pub active : Shape → ℕ → Bool
+active s x = inBlock s x && clear (s .bars) (groupAt s (s .first + x))
+
+-- after so many slots the same ones may be sent again: 320 rounds of 296 ms are 37 times 2,560 ms, and each window's period divides that
+abbrev pub rounds : ℕ
+rounds = 320
+
 abbrev pub period : Shape → ℕ
-period s = round s
+period s = rounds * round s
 
 -- how many slots are sent: the codeword's slots, once for each copy
 abbrev pub sentSlots : Shape → ℕ

@@ -1,12 +1,15 @@
 // Uplink questions on a shape: the numbers that place a grant's codeword on uplink slots, whatever kind of grant they are made from.
+ghost use mathlib.Core.Bool.{true};
 ghost use mathlib.Core.Path.{_≡_};
-ghost use Prim.Native.Nat.{_+_, _*_, _^_, _<_};
+ghost use Prim.Native.Nat.{_+_, _-_, _*_, _^_, _<_};
 ghost use Rattle.sending.specs.CopyOrder.{carried};
+ghost use Rattle.bars.specs.Quick.{closesNothing};
 ghost use Rattle.slots.specs.Fits.{Fits};
 ghost use Rattle.slots.specs.Timing.{sentSlots, slotAt};
 ghost use Rattle.slots.specs.Mapping.{places};
-ghost use Rattle.slots.specs.Quick.{splitOf, Located};
+ghost use Rattle.slots.specs.Quick.{splitOf, amongSent, Located};
 ghost use Rattle.slots.specs.Answers.{refusedPlan, refusedPlace, shapePlan, shapeForward, shapeBackward};
+use bars::Bars;
 use grid::UplinkGrid;
 use sending::Back;
 
@@ -20,10 +23,12 @@ pub use numerology::by_spacing;
 pub use numerology::first_after;
 pub use numerology::gap;
 pub use numerology::group;
+pub use numerology::group_ms;
+pub use numerology::narrow_tones;
 
 // Slots from `first` on, in blocks of sending with a gap after each; `tones` of the grid's `subcarriers` from `tone` on; `codeword` slots,
 // sent `copies` times, each group of `group` slots `row` times in a row; `references` reference symbols from `reference` on; the transport
-// block's size and the modulation order.
+// block's size and the modulation order; the groups that random access windows close, by the group's number.
 pub struct Shape {
     pub first: u64,
     pub subcarriers: u64,
@@ -39,6 +44,7 @@ pub struct Shape {
     pub references: u64,
     pub size: u64,
     pub order: u64,
+    pub bars: Bars,
 }
 
 // Plan's answer: the refusal number; the first and last slot, the copies, the places, the transport block's size and the modulation order.
@@ -111,13 +117,40 @@ fn sent_slots(s: Shape) -> u64
     copies * codeword
 }
 
-// Transmitted slot i.
-fn slot_at(s: Shape, i: u64) -> u64
-    requires { ⌜ Fits s × (i < 2 ^ 32) ⌝ }
-    ensures { λ r. ⌜ r ≡ slotAt s i ⌝ }
+// Transmitted slot i, where there is one.
+pub fn slot_at(s: Shape, i: u64) -> u64
+    requires { ⌜ Fits s ⌝ }
+    ensures { λ r. ⌜ (i < sentSlots s → r ≡ slotAt s i) ⌝ }
+{
+    if i >= sent_slots(s) {
+        return 0;
+    }
+    timing::slot_around(s, i)
+}
+
+// The same, where no window closes anything.
+pub fn plain_slot_at(s: Shape, i: u64) -> u64
+    requires { ⌜ Fits s × (closesNothing (s .bars) ≡ true) ⌝ }
+    ensures { λ r. ⌜ (i < sentSlots s → r ≡ slotAt s i) ⌝ }
 {
     let first = s.first;
+    if i >= sent_slots(s) {
+        return 0;
+    }
     first + timing::active_at(s, i)
+}
+
+// A slot's turn, if it is one of those that are sent.
+fn among_sent(s: Shape, turn: Turn) -> Turn
+    requires { ⌜ Fits s ⌝ }
+    ensures { λ r. ⌜ r ≡ amongSent s turn ⌝ }
+{
+    let i = turn.i;
+    let many = sent_slots(s);
+    Turn {
+        sent: turn.sent & (i < many),
+        i,
+    }
 }
 
 // Whether a slot is sent, and which one it is.
@@ -126,21 +159,22 @@ pub fn locate(s: Shape, slot: u64) -> Turn
     ensures { λ r. ⌜ Located s slot r ⌝ }
 {
     let first = s.first;
-    let block = s.block;
-    let gap = s.gap;
     if slot < first {
         return Turn { sent: false, i: 0 };
     }
-    let x = slot - first;
-    let round = block + gap;
-    let whole = timing::over_round(round, x);
-    let rest = x - whole * round;
-    let i = whole * block + rest;
-    let many = sent_slots(s);
-    Turn {
-        sent: (rest < block) & (i < many),
-        i,
+    among_sent(s, timing::turn_around(s, slot - first))
+}
+
+// The same, where no window closes anything.
+pub fn plain_locate(s: Shape, slot: u64) -> Turn
+    requires { ⌜ Fits s × (closesNothing (s .bars) ≡ true) ⌝ }
+    ensures { λ r. ⌜ Located s slot r ⌝ }
+{
+    let first = s.first;
+    if slot < first {
+        return Turn { sent: false, i: 0 };
     }
+    among_sent(s, timing::turn_plain(s, slot - first))
 }
 
 // The codeword slot that transmitted slot i carries.
@@ -168,12 +202,10 @@ fn item(a: u64, w: u64, e: u64) -> u64
 }
 
 // First and last slot, copies, places, size and order.
-pub fn plan(s: Shape) -> UplinkPlan
-    requires { ⌜ Fits s ⌝ }
+fn planned(s: Shape, first: u64, last: u64) -> UplinkPlan
+    requires { ⌜ Fits s × (first ≡ slotAt s 0) × (last ≡ slotAt s (sentSlots s - 1)) ⌝ }
     ensures { λ r. ⌜ r ≡ shapePlan s ⌝ }
 {
-    let first = slot_at(s, 0);
-    let last = slot_at(s, sent_slots(s) - 1);
     UplinkPlan {
         no: 0,
         first,
@@ -185,17 +217,33 @@ pub fn plan(s: Shape) -> UplinkPlan
     }
 }
 
-// The place of position p, which `at` is taken apart, and the symbol there. Whoever asks takes it apart: one function of both would be too long for
-// the compiler to put into either kind of grant's.
-pub fn forward(s: Shape, p: u64, at: Split) -> UplinkPlace
-    requires { ⌜ Fits s × (at ≡ splitOf s p) ⌝ }
+pub fn plan(s: Shape) -> UplinkPlan
+    requires { ⌜ Fits s ⌝ }
+    ensures { λ r. ⌜ r ≡ shapePlan s ⌝ }
+{
+    let last = sent_slots(s) - 1;
+    planned(s, slot_at(s, 0), slot_at(s, last))
+}
+
+// The same, where no window closes anything.
+pub fn plain_plan(s: Shape) -> UplinkPlan
+    requires { ⌜ Fits s × (closesNothing (s .bars) ≡ true) ⌝ }
+    ensures { λ r. ⌜ r ≡ shapePlan s ⌝ }
+{
+    let last = sent_slots(s) - 1;
+    planned(s, plain_slot_at(s, 0), plain_slot_at(s, last))
+}
+
+// The place of position p, which `at` is taken apart and which is in `slot`, and the symbol there. Whoever asks takes it apart and finds the slot: one
+// function of all would be too long for the compiler to put into either kind of grant's.
+pub fn forward(s: Shape, p: u64, at: Split, slot: u64) -> UplinkPlace
+    requires { ⌜ Fits s × (at ≡ splitOf s p) × (at .i < sentSlots s → slot ≡ slotAt s (at .i)) ⌝ }
     ensures { λ r. ⌜ r ≡ shapeForward s p ⌝ }
 {
     if at.i >= sent_slots(s) {
         return refused_place(14);
     }
     let w = data::slot_data(s);
-    let slot = slot_at(s, at.i);
     let unit = carried_by(s, at.i);
     UplinkPlace {
         no: 0,

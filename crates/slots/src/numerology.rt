@@ -1,7 +1,7 @@
 // Uplink slots by subcarrier spacing.
 ghost use mathlib.Core.Path.{_≡_};
 ghost use Prim.Native.Nat.{_^_, _<_};
-ghost use Rattle.slots.specs.Numerology.{bySpacing, slotsIn, firstAfter, groupOf};
+ghost use Rattle.slots.specs.Numerology.{bySpacing, slotsIn, firstAfter, groupOf, groupMs, narrowTones};
 
 // One number at 3.75 kHz, another at 15 kHz.
 pub fn by_spacing(spacing: u64, narrow: u64, wide: u64) -> u64
@@ -42,4 +42,18 @@ pub fn group(spacing: u64) -> u64
     ensures { λ r. ⌜ r ≡ groupOf spacing ⌝ }
 {
     by_spacing(spacing, 1, 2)
+}
+
+// The milliseconds that a group lasts.
+pub fn group_ms(spacing: u64) -> u64
+    ensures { λ r. ⌜ r ≡ groupMs spacing ⌝ }
+{
+    by_spacing(spacing, 2, 1)
+}
+
+// The tones at 3.75 kHz that a tone covers.
+pub fn narrow_tones(spacing: u64) -> u64
+    ensures { λ r. ⌜ r ≡ narrowTones spacing ⌝ }
+{
+    by_spacing(spacing, 1, 4)
 }

@@ -1,26 +1,31 @@
 -- Cases P2 to P6 hold: the numbers that a case leaves open are rewritten away, and the rest computes.
 use mathlib.Core.List.{List, [], _∷_, _++_, map}
-use mathlib.Core.Path.{_≡_, refl, sym, ap, ap₂}
+use mathlib.Core.Path.{_≡_, refl, sym, ap, ap₂, _∙_}
 use mathlib.Core.Logic.{_⊎_, inl, inr}
-use Prim.Native.Nat.{ℕ, _-_, _*_, _/_, _≤_}
+use Prim.Native.Nat.{ℕ, _+_, _-_, _*_, _/_, _≤_, _<_}
 use native.Mathlib.Omega.{arith}
 use borrow.Author.Tests.{le-ltb, lt-ltb, le-leb}
 use Rattle.counting.specs.Counting.{rank, next, select}
 use Rattle.grid.specs.Grid.{uplinkSubcarriers}
 use Rattle.grid.specs.Tables.{entry, uplinkCopies}
+use Rattle.bars.specs.Bars.{shut, leaves, clear}
 use Rattle.slots.specs.declared.UplinkPlace.{UplinkPlace}
-use Rattle.slots.specs.Timing.{active, sentSlots, slotAt}
+use Rattle.slots.specs.Timing.{inBlock, active, sentSlots, slotAt}
 use Rattle.slots.specs.Elements.{carriesData, slotData}
 use Rattle.slots.specs.Mapping.{codewordSymbols}
 use Rattle.slots.specs.Answers.{refusedPlan, shapePlan, shapeForward}
+use Rattle.windows.specs.Windows.{none, barOf, barsOf}
+use Rattle.windows.proofs.Closing.{none-refused}
+use Rattle.windows.proofs.Spaced.{ms-within}
 use Rattle.uplink.specs.declared.UplinkGrant.{UplinkGrant}
-use Rattle.slots.specs.Numerology.{firstAfter}
+use Rattle.slots.specs.Numerology.{firstAfter, groupMs}
 use Rattle.uplink.specs.Fields.{toneFields, tonesOf, firstTone, unitSlots, rowOf}
-use Rattle.uplink.specs.Refusals.{lastSubframe, refusalWithin, refusal}
+use Rattle.uplink.specs.Refusals.{lastSubframe, fieldsRefusal, refusalWithin, refusal}
 use Rattle.uplink.specs.Shaping.{shapeOf}
 use Rattle.uplink.specs.Questions.{planOf, forwardOf}
 use Rattle.uplink.specs.Cases.{grant, Sends, upTo, carriedSlots, firstPass, UplinkCases}
-use Rattle.uplink.proofs.Acceptance.{accepts}
+use Rattle.uplink.proofs.Acceptance.{accepts, fits}
+use Rattle.slots.proofs.Rounds.{slot-plain}
 use Rattle.slots.proofs.Judging.{plan-accepted, forward-accepted, refused-plan-is}
 
 sends : (g : UplinkGrant) (a b : ℕ) → refusal g ≡ 0 → shapePlan (shapeOf g) .first ≡ a → shapePlan (shapeOf g) .last ≡ b → Sends g a b
@@ -29,19 +34,30 @@ sends g a b e x y =
     let q = plan-accepted (refusal g) (shapeOf g) e in
     record { no = rw (← q) refl; first = rw (← q) x; last = rw (← q) y }
 
+-- a grant with no window whose numbers are in range is accepted
+plain : (n spacing subcarrier units copies delay mcs : ℕ) → n ≤ lastSubframe → spacing ≤ 1 → subcarrier ≤ 63 → subcarrier < toneFields spacing → units ≤ 7
+    → copies ≤ 7 → delay ≤ 3 → mcs ≤ 4 → refusal (grant n spacing subcarrier units copies delay mcs) ≡ 0
+plain n spacing subcarrier units copies delay mcs a b c d e f h k =
+    let w = ms-within spacing in
+    accepts lastSubframe (grant n spacing subcarrier units copies delay mcs)
+    (record {
+      range = record { early = a; spacing = b; subcarrier = c; tones = d; units = e; copies = f; delay = h; mcs = k };
+      windows = none-refused (groupMs spacing) _ _ none refl (w .0) (w .1);
+    })
+
 case2 : (mcs : ℕ) → mcs ≤ 4 → Sends (grant 100 1 18 0 3 0 mcs) 218 233 × (codewordSymbols (shapeOf (grant 100 1 18 0 3 0 mcs)) ≡ 144)
-unfolding shapePlan shapeOf slotAt select next active firstAfter tonesOf firstTone unitSlots slotData rank carriesData
-case2 mcs h = (sends (grant 100 1 18 0 3 0 mcs) 218 233 (accepts lastSubframe (grant 100 1 18 0 3 0 mcs) (omega arith)) refl refl, refl)
+unfolding shapePlan shapeOf slotAt select next active inBlock clear leaves shut barsOf barOf firstAfter tonesOf firstTone unitSlots slotData rank carriesData
+case2 mcs h = (sends (grant 100 1 18 0 3 0 mcs) 218 233 (plain 100 1 18 0 3 0 mcs (omega arith) (omega arith) (omega arith) (omega arith) (omega arith) (omega arith) (omega arith) h) refl refl, refl)
 
 case3 : (n mcs : ℕ) → (n ≡ 100) ⊎ (n ≡ 101) → mcs ≤ 4 → Sends (grant n 0 47 0 0 0 mcs) 55 70
-unfolding shapePlan shapeOf slotAt select next active firstAfter tonesOf unitSlots
-case3 n mcs (inl e) h = rw e (sends (grant 100 0 47 0 0 0 mcs) 55 70 (accepts lastSubframe (grant 100 0 47 0 0 0 mcs) (omega arith)) refl refl)
-case3 n mcs (inr e) h = rw e (sends (grant 101 0 47 0 0 0 mcs) 55 70 (accepts lastSubframe (grant 101 0 47 0 0 0 mcs) (omega arith)) refl refl)
+unfolding shapePlan shapeOf slotAt select next active inBlock clear leaves shut barsOf barOf firstAfter tonesOf unitSlots
+case3 n mcs (inl e) h = rw e (sends (grant 100 0 47 0 0 0 mcs) 55 70 (plain 100 0 47 0 0 0 mcs (omega arith) (omega arith) (omega arith) (omega arith) (omega arith) (omega arith) (omega arith) h) refl refl)
+case3 n mcs (inr e) h = rw e (sends (grant 101 0 47 0 0 0 mcs) 55 70 (plain 101 0 47 0 0 0 mcs (omega arith) (omega arith) (omega arith) (omega arith) (omega arith) (omega arith) (omega arith) h) refl refl)
 
 -- the chain passes 9 and 10, and stops at 11
 case4 : (n spacing subcarrier units copies delay mcs : ℕ) → n ≤ lastSubframe → spacing ≤ 1 → toneFields spacing ≤ subcarrier → subcarrier ≤ 63
     → units ≤ 7 → copies ≤ 7 → delay ≤ 3 → mcs ≤ 15 → planOf (grant n spacing subcarrier units copies delay mcs) ≡ refusedPlan 11
-unfolding planOf refusalWithin
+unfolding planOf refusalWithin fieldsRefusal
 case4 n spacing subcarrier units copies delay mcs a b c d e f g h =
     let x : UplinkGrant = grant n spacing subcarrier units copies delay mcs in
     sym (refused-plan-is (refusal x) 11 (shapeOf x)
@@ -64,7 +80,7 @@ case5 : (n delay mcs : ℕ) → n ≤ lastSubframe → delay ≤ 3 → mcs ≤ 4
 unfolding forwardOf shapeForward shapeOf tonesOf firstTone unitSlots rowOf slotData rank carriesData
 case5 n delay mcs a b c =
     let g : UplinkGrant = grant n 1 12 0 2 delay mcs in
-    let e : refusal g ≡ 0 = accepts lastSubframe g (omega arith) in
+    let e : refusal g ≡ 0 = plain n 1 12 0 2 delay mcs a (omega arith) (omega arith) (omega arith) (omega arith) (omega arith) b c in
     map-same _ (λ i. shapeForward (shapeOf g) (i * 18) .symbol / 18)
     (λ i. ap (λ (x : UplinkPlace). x .symbol / 18) (sym (forward-accepted (refusal g) (shapeOf g) e (i * 18)))) (upTo 32)
 
@@ -77,14 +93,24 @@ module _ (n tone copies delay mcs : ℕ) (a : n ≤ lastSubframe) (b : tone ≤ 
   unfolding shapeOf tonesOf unitSlots
   one-tone-sent = rw (lt-ltb tone (uplinkSubcarriers 0) (omega arith)) refl
 
-  case6 : (planOf one-tone .first ≡ slotAt (shapeOf one-tone) 0) × (planOf one-tone .last ≡ slotAt (shapeOf one-tone) (entry uplinkCopies copies * 16 - 1))
+  accepted-one : refusal one-tone ≡ 0
+  accepted-one = plain n 0 tone 0 copies delay mcs a (omega arith) (omega arith) (omega arith) (omega arith) c d f
+
+  -- transmitted slot i: 20 slots are left empty after each 128
+  one-tone-slot : (i : ℕ) → slotAt (shapeOf one-tone) i ≡ shapeOf one-tone .first + (i + 20 * (i / 128))
+  unfolding shapeOf barsOf barOf
+  one-tone-slot i = slot-plain (shapeOf one-tone) (fits one-tone accepted-one) refl i
+
+  case6 : (last : ℕ) → entry uplinkCopies copies * 16 - 1 + 20 * ((entry uplinkCopies copies * 16 - 1) / 128) ≡ last
+      → planOf one-tone .last ≡ planOf one-tone .first + last
   unfolding planOf shapePlan
-  case6 =
-      let q = plan-accepted (refusal one-tone) (shapeOf one-tone) (accepts lastSubframe one-tone (omega arith)) in
-      (rw (← q) refl, rw (← q) (ap (λ (k : ℕ). slotAt (shapeOf one-tone) (k - 1)) one-tone-sent))
+  case6 last e =
+      let q = plan-accepted (refusal one-tone) (shapeOf one-tone) accepted-one in
+      rw (← q)
+      (ap (λ (k : ℕ). slotAt (shapeOf one-tone) (k - 1)) one-tone-sent
+      ∙ omega (arith, one-tone-slot 0, one-tone-slot (entry uplinkCopies copies * 16 - 1)))
 
 pub uplink-cases : UplinkCases
-unfolding shapeOf slotAt select next active
 uplink-cases = record {
   p2 = case2;
   p3 = λ mcs h. (case3 100 mcs (inl refl) h, case3 101 mcs (inr refl) h);
@@ -93,8 +119,5 @@ uplink-cases = record {
     case4 n 1 19 units copies delay mcs a (omega arith) (omega arith) (omega arith) b c d e,
   );
   p5 = case5;
-  p6 = λ n tone delay mcs a b c d.
-      let x = case6 n tone 3 delay mcs a b (omega arith) c d in
-      let y = case6 n tone 4 delay mcs a b (omega arith) c d in
-      (rw (x .0, x .1) (omega arith), rw (y .0, y .1) (omega arith));
+  p6 = λ n tone delay mcs a b c d. (case6 n tone 3 delay mcs a b (omega arith) c d 127 refl, case6 n tone 4 delay mcs a b (omega arith) c d 275 refl);
 }

@@ -3,14 +3,18 @@ use mathlib.Core.Path.{_≡_, ap, ap₂, _∙_}
 use Prim.Native.Nat.{ℕ, _+_, _*_}
 use Rattle.grid.specs.Grid.{uplinkSubcarriers}
 use Rattle.grid.specs.Tables.{entry, lengths, uplinkDelays}
+use Rattle.bars.specs.declared.Bars.{Bars}
 use Rattle.slots.specs.declared.Shape.{Shape}
 use Rattle.uplink.specs.declared.UplinkGrant.{UplinkGrant}
-use Rattle.slots.specs.Quick.{sized}
+use Rattle.uplink.specs.declared.UplinkFields.{UplinkFields}
+use Rattle.uplink.specs.declared.Sizes.{Sizes}
+use Rattle.uplink.specs.Quick.{unwindowed, sizesOf}
+use Rattle.slots.specs.Quick.{sized, barred}
 use Rattle.slots.specs.Numerology.{slotsIn, firstAfter, groupOf}
-use Rattle.uplink.specs.Fields.{firstTone, unitSlots, rowOf, referenceOf, blockSize, orderOf}
+use Rattle.uplink.specs.Fields.{firstTone, unitSlots, rowOf, referenceOf}
 use Rattle.uplink.specs.Shaping.{grantTones, grantCopies, shapeOf}
 
-pub shape-is : (g : UplinkGrant) (first subcarriers block gap tone tones codeword copies row group reference size order : ℕ)
+pub shape-is : (g : UplinkGrant) (first subcarriers block gap tone tones codeword copies row group reference size order : ℕ) (bars : Bars)
     → tones ≡ grantTones g → copies ≡ grantCopies g → first ≡ firstAfter (g .spacing) (g .n + entry uplinkDelays (g .delay))
     → subcarriers ≡ uplinkSubcarriers (g .spacing) → block ≡ slotsIn (g .spacing) 256 → gap ≡ slotsIn (g .spacing) 40
     → tone ≡ firstTone (g .spacing) (g .subcarrier) → codeword ≡ entry lengths (g .units) * unitSlots tones → row ≡ rowOf tones copies
@@ -31,10 +35,11 @@ pub shape-is : (g : UplinkGrant) (first subcarriers block gap tone tones codewor
       references = 1;
       size = size;
       order = order;
+      bars = bars;
     })
-    (sized (shapeOf g) size order)
+    (barred (sized (shapeOf g) size order) bars)
 unfolding shapeOf
-shape-is g _ _ _ _ _ _ _ _ _ _ _ size order ht hc hf hs hb hg hk hw hr hq hl =
+shape-is g _ _ _ _ _ _ _ _ _ _ _ size order bars ht hc hf hs hb hg hk hw hr hq hl =
     λ i. record {
       first = hf i;
       subcarriers = hs i;
@@ -50,11 +55,10 @@ shape-is g _ _ _ _ _ _ _ _ _ _ _ size order ht hc hf hs hb hg hk hw hr hq hl =
       references = 1;
       size = size;
       order = order;
+      bars = bars;
     }
 
 -- with its own size and order it is the grant's
-pub sized-own : (g : UplinkGrant) (tones size order : ℕ) → tones ≡ grantTones g → size ≡ blockSize tones (g .mcs) (g .units)
-    → order ≡ orderOf tones (g .mcs) → sized (shapeOf g) size order ≡ shapeOf g
+pub sized-own : (f : UplinkFields) (own : Sizes) → own ≡ sizesOf f → sized (shapeOf (unwindowed f)) (own .size) (own .order) ≡ shapeOf (unwindowed f)
 unfolding shapeOf
-sized-own g tones size order ht hz ho =
-    ap₂ (sized (shapeOf g)) (hz ∙ ap (λ (n : ℕ). blockSize n (g .mcs) (g .units)) ht) (ho ∙ ap (λ (n : ℕ). orderOf n (g .mcs)) ht)
+sized-own f own e = ap (λ (x : Sizes). sized (shapeOf (unwindowed f)) (x .size) (x .order)) e

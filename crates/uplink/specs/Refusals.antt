@@ -1,9 +1,10 @@
--- When an uplink grant is refused, and with which number: 01 "Numbers a caller may get back". Each test is asked where those before it passed.
+-- When an uplink grant is refused, and with which number: 01 "Numbers a caller may get back", 02 L4. Each test is asked where those before it passed.
 use mathlib.Core.Bool.{Bool, cond, _||_}
 use Prim.Native.Nat.{ℕ, _-_, _^_}
-use lib.Dec.{ltb, leb}
+use lib.Dec.{eqb, ltb, leb}
+use Rattle.windows.specs.Windows.{refusalOn}
 use Rattle.uplink.specs.declared.UplinkGrant.{UplinkGrant}
-use Rattle.uplink.specs.Fields.{toneFields}
+use Rattle.uplink.specs.Fields.{toneFields, tonesOf, firstTone}
 
 -- the last subframe in which a grant may end
 abbrev pub lastSubframe : ℕ
@@ -23,14 +24,22 @@ namesNoTone g = leb (toneFields (g .spacing)) (g .subcarrier)
 abbrev pub aboveMcs : UplinkGrant → Bool
 aboveMcs g = ltb 4 (g .mcs)
 
--- the number, or 0; limit is the last subframe in which a grant may end
-unfoldable pub refusalWithin : ℕ → UplinkGrant → ℕ
-refusalWithin limit g =
+-- the random access windows' refusal on the grant's tones, 19 or 20, or 0
+abbrev pub windowed : UplinkGrant → ℕ
+windowed g = refusalOn (g .spacing) (firstTone (g .spacing) (g .subcarrier)) (tonesOf (g .spacing) (g .subcarrier)) (g .windows)
+
+-- the number of the fields, or 0; limit is the last subframe in which a grant may end
+unfoldable pub fieldsRefusal : ℕ → UplinkGrant → ℕ
+fieldsRefusal limit g =
     cond (ltb limit (g .n)) 9
     (cond (aboveLargest g) 10
     (cond (namesNoTone g) 11
     (cond (aboveMcs g) 13
     0)))
+
+-- the number, or 0: the windows' after those of the fields
+unfoldable pub refusalWithin : ℕ → UplinkGrant → ℕ
+refusalWithin limit g = cond (eqb (fieldsRefusal limit g) 0) (windowed g) (fieldsRefusal limit g)
 
 abbrev pub refusal : UplinkGrant → ℕ
 refusal g = refusalWithin lastSubframe g

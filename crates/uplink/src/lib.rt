@@ -1,19 +1,34 @@
 // NPUSCH format 1: an uplink grant's refusals, its shape, and the questions on it.
 ghost use mathlib.Core.Path.{_≡_};
-ghost use Rattle.slots.specs.Quick.{sized};
-ghost use Rattle.uplink.specs.Refusals.{aboveLargest, refusalWithin, refusal};
+ghost use Rattle.slots.specs.Quick.{sized, barred};
+ghost use Rattle.uplink.specs.Quick.{fieldsOf, unwindowed, sizesOf};
+ghost use Rattle.uplink.specs.Refusals.{lastSubframe, aboveLargest, fieldsRefusal, refusalWithin, refusal};
 ghost use Rattle.uplink.specs.Shaping.{shapeOf};
 ghost use Rattle.uplink.specs.Questions.{planOf, forwardOf, backwardOf};
+use bars::Bars;
 use grid::UplinkGrid;
 use sending::Back;
 use slots::Shape;
 use slots::UplinkPlace;
 use slots::UplinkPlan;
+use windows::Windows;
 
 mod fields;
 
-// The grant ends in subframe n; the rest are fields.
+// The grant ends in subframe n; the rest are fields, and the random access windows that it has to keep clear of.
 pub struct UplinkGrant {
+    pub n: u64,
+    pub spacing: u64,
+    pub subcarrier: u64,
+    pub units: u64,
+    pub copies: u64,
+    pub delay: u64,
+    pub mcs: u64,
+    pub windows: Windows,
+}
+
+// The fields alone: a grant with no window.
+pub struct UplinkFields {
     pub n: u64,
     pub spacing: u64,
     pub subcarrier: u64,
@@ -26,34 +41,48 @@ pub struct UplinkGrant {
 // The last subframe in which a grant may end.
 const LAST_SUBFRAME: u64 = 1_073_741_823;
 
-// A field is above its largest number.
-fn above_largest(g: UplinkGrant) -> bool
-    ensures { λ r. ⌜ r ≡ aboveLargest g ⌝ }
+fn fields_of(g: UplinkGrant) -> UplinkFields
+    ensures { λ r. ⌜ r ≡ fieldsOf g ⌝ }
 {
-    let spacing = g.spacing;
-    let subcarrier = g.subcarrier;
-    let units = g.units;
-    let copies = g.copies;
-    let delay = g.delay;
-    let mcs = g.mcs;
+    UplinkFields {
+        n: g.n,
+        spacing: g.spacing,
+        subcarrier: g.subcarrier,
+        units: g.units,
+        copies: g.copies,
+        delay: g.delay,
+        mcs: g.mcs,
+    }
+}
+
+// A field is above its largest number.
+fn above_largest(f: UplinkFields) -> bool
+    ensures { λ r. ⌜ r ≡ aboveLargest (unwindowed f) ⌝ }
+{
+    let spacing = f.spacing;
+    let subcarrier = f.subcarrier;
+    let units = f.units;
+    let copies = f.copies;
+    let delay = f.delay;
+    let mcs = f.mcs;
     (spacing > 1)
         | ((subcarrier > 63) | ((units > 7) | ((copies > 7) | ((delay > 3) | (mcs > 15)))))
 }
 
-// The number with which a grant is refused, or 0.
-fn judge(limit: u64, g: UplinkGrant) -> u64
-    ensures { λ r. ⌜ r ≡ refusalWithin limit g ⌝ }
+// The number with which the fields are refused, or 0.
+fn judge_fields(limit: u64, f: UplinkFields) -> u64
+    ensures { λ r. ⌜ r ≡ fieldsRefusal limit (unwindowed f) ⌝ }
 {
-    let n = g.n;
-    let subcarrier = g.subcarrier;
-    let mcs = g.mcs;
+    let n = f.n;
+    let subcarrier = f.subcarrier;
+    let mcs = f.mcs;
     if n > limit {
         return 9;
     }
-    if above_largest(g) {
+    if above_largest(f) {
         return 10;
     }
-    if subcarrier >= fields::tone_fields(g.spacing) {
+    if subcarrier >= fields::tone_fields(f.spacing) {
         return 11;
     }
     if mcs > 4 {
@@ -62,21 +91,48 @@ fn judge(limit: u64, g: UplinkGrant) -> u64
     0
 }
 
-// The shape of an accepted grant, with a size and an order: only a plan asks for the grant's own.
-fn shape(g: UplinkGrant, size: u64, order: u64) -> Shape
-    requires { ⌜ refusal g ≡ 0 ⌝ }
-    ensures { λ r. ⌜ r ≡ sized (shapeOf g) size order ⌝ }
+// The number with which a grant is refused, or 0.
+fn judge(g: UplinkGrant) -> u64
+    ensures { λ r. ⌜ r ≡ refusal g ⌝ }
 {
     let spacing = g.spacing;
-    let units = g.units;
-    let tones = fields::tones(spacing, g.subcarrier);
-    let copies = grid::uplink_copies(g.copies);
+    let subcarrier = g.subcarrier;
+    let no = judge_fields(LAST_SUBFRAME, fields_of(g));
+    if no != 0 {
+        return no;
+    }
+    let tone = fields::first_tone(spacing, subcarrier);
+    let tones = fields::tones(spacing, subcarrier);
+    windows::refusal(spacing, tone, tones, g.windows)
+}
+
+// The groups that the windows of an accepted grant close.
+fn closed(g: UplinkGrant) -> Bars
+    requires { ⌜ refusal g ≡ 0 ⌝ }
+    ensures { λ r. ⌜ r ≡ shapeOf g .bars ⌝ }
+{
+    let spacing = g.spacing;
+    let subcarrier = g.subcarrier;
+    let tone = fields::first_tone(spacing, subcarrier);
+    let tones = fields::tones(spacing, subcarrier);
+    windows::bars(spacing, tone, tones, g.windows)
+}
+
+// The shape of accepted fields, with a size and an order: only a plan asks for the grant's own.
+fn shape(f: UplinkFields, size: u64, order: u64, bars: Bars) -> Shape
+    requires { ⌜ fieldsRefusal lastSubframe (unwindowed f) ≡ 0 ⌝ }
+    ensures { λ r. ⌜ r ≡ barred (sized (shapeOf (unwindowed f)) size order) bars ⌝ }
+{
+    let spacing = f.spacing;
+    let units = f.units;
+    let tones = fields::tones(spacing, f.subcarrier);
+    let copies = grid::uplink_copies(f.copies);
     Shape {
-        first: fields::start(spacing, g.n, g.delay),
+        first: fields::start(spacing, f.n, f.delay),
         subcarriers: UplinkGrid::subcarriers(spacing),
         block: slots::block(spacing),
         gap: slots::gap(spacing),
-        tone: fields::first_tone(spacing, g.subcarrier),
+        tone: fields::first_tone(spacing, f.subcarrier),
         tones,
         codeword: fields::codeword(tones, units),
         copies,
@@ -86,43 +142,95 @@ fn shape(g: UplinkGrant, size: u64, order: u64) -> Shape
         references: 1,
         size,
         order,
+        bars,
     }
+}
+
+// The size of the transport block, and the modulation order.
+struct Sizes {
+    size: u64,
+    order: u64,
+}
+
+// Those of accepted fields.
+fn sizes_of(f: UplinkFields) -> Sizes
+    requires { ⌜ fieldsRefusal lastSubframe (unwindowed f) ≡ 0 ⌝ }
+    ensures { λ r. ⌜ r ≡ sizesOf f ⌝ }
+{
+    let tones = fields::tones(f.spacing, f.subcarrier);
+    let size = fields::block_size(tones, f.mcs, f.units);
+    let order = fields::order(tones, f.mcs);
+    Sizes { size, order }
 }
 
 // First and last slot, copies, places, size and order.
 pub fn plan(g: UplinkGrant) -> UplinkPlan
     ensures { λ r. ⌜ r ≡ planOf g ⌝ }
 {
-    let no = judge(LAST_SUBFRAME, g);
+    let no = judge(g);
     if no != 0 {
         return slots::refused_plan(no);
     }
-    let tones = fields::tones(g.spacing, g.subcarrier);
-    let size = fields::block_size(tones, g.mcs, g.units);
-    let order = fields::order(tones, g.mcs);
-    slots::plan(shape(g, size, order))
+    let f = fields_of(g);
+    let own = sizes_of(f);
+    slots::plan(shape(f, own.size, own.order, closed(g)))
+}
+
+pub fn plain_plan(f: UplinkFields) -> UplinkPlan
+    ensures { λ r. ⌜ r ≡ planOf (unwindowed f) ⌝ }
+{
+    let no = judge_fields(LAST_SUBFRAME, f);
+    if no != 0 {
+        return slots::refused_plan(no);
+    }
+    let own = sizes_of(f);
+    slots::plain_plan(shape(f, own.size, own.order, bars::none()))
 }
 
 // The place of position p, and the symbol there.
 pub fn forward(g: UplinkGrant, p: u64) -> UplinkPlace
     ensures { λ r. ⌜ r ≡ forwardOf g p ⌝ }
 {
-    let no = judge(LAST_SUBFRAME, g);
+    let no = judge(g);
     if no != 0 {
         return slots::refused_place(no);
     }
-    let s = shape(g, 0, 0);
-    slots::forward(s, p, slots::taken_apart(s, p))
+    let s = shape(fields_of(g), 0, 0, closed(g));
+    let at = slots::taken_apart(s, p);
+    slots::forward(s, p, at, slots::slot_at(s, at.i))
+}
+
+pub fn plain_forward(f: UplinkFields, p: u64) -> UplinkPlace
+    ensures { λ r. ⌜ r ≡ forwardOf (unwindowed f) p ⌝ }
+{
+    let no = judge_fields(LAST_SUBFRAME, f);
+    if no != 0 {
+        return slots::refused_place(no);
+    }
+    let s = shape(f, 0, 0, bars::none());
+    let at = slots::taken_apart(s, p);
+    slots::forward(s, p, at, slots::plain_slot_at(s, at.i))
 }
 
 // What stands at symbol l and subcarrier k of a slot.
 pub fn backward(g: UplinkGrant, slot: u64, l: u64, k: u64) -> Back
     ensures { λ r. ⌜ r ≡ backwardOf g slot l k ⌝ }
 {
-    let no = judge(LAST_SUBFRAME, g);
+    let no = judge(g);
     if no != 0 {
         return sending::refused(no);
     }
-    let s = shape(g, 0, 0);
+    let s = shape(fields_of(g), 0, 0, closed(g));
     slots::backward(s, slot, slots::locate(s, slot), l, k)
+}
+
+pub fn plain_backward(f: UplinkFields, slot: u64, l: u64, k: u64) -> Back
+    ensures { λ r. ⌜ r ≡ backwardOf (unwindowed f) slot l k ⌝ }
+{
+    let no = judge_fields(LAST_SUBFRAME, f);
+    if no != 0 {
+        return sending::refused(no);
+    }
+    let s = shape(f, 0, 0, bars::none());
+    slots::backward(s, slot, slots::plain_locate(s, slot), l, k)
 }

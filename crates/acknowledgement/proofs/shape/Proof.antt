@@ -1,6 +1,7 @@
 use native.Mathlib.Omega.{arith}
+use Rattle.acknowledgement.specs.Quick.{unwindowed}
 use Rattle.acknowledgement.specs.Shaping.{shapeOf}
-use Rattle.acknowledgement.proofs.Accepting.{accepted}
+use Rattle.acknowledgement.proofs.Accepting.{ranged}
 use Rattle.acknowledgement.proofs.shape.Statement.{statement}
 use Rattle.acknowledgement.proofs.shape.Tie as tie
 
@@ -24,6 +25,7 @@ returns c =
       references = 3;
       size = 1;
       order = 1;
+      bars = s .before .args .bars;
     }
 
 pub shape-spec : {M : Type 1} → statement M
@@ -37,7 +39,7 @@ shape-spec =
     (λ c κs. tt)
     (λ c κs.
     let s = c .before .before .before .before .before in
-    omega (arith, accepted (s .args .g) (s .pre) .copies))
+    omega (arith, ranged (unwindowed (s .args .f)) (s .pre) .copies))
     (λ c κs. tt)
     (λ c κs. tt)
     returns)

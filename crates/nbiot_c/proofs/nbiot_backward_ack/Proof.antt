@@ -8,24 +8,24 @@ use Rattle.nbiot_c.proofs.nbiot_backward_ack.Tie as tie
 
 returns : tie.Need-returns
 unfolding calls.backwardAck
-returns c = unread _ _ (c .before .short2 .ensures .says) (c .if1 .taken)
+returns c = unread _ _ (c .before .short-up .ensures .says) (c .if1 .taken)
 
-grant-fits : tie.Need-ack-grant-of-requires
-grant-fits c κs = c .before .short2 .ensures .first (c .if1 .left)
+grant-fits : tie.Need-ack-back-requires
+grant-fits c κs = c .before .short-up .ensures .first (c .if1 .left)
 
 answer-fits : tie.Need-put5-requires
 answer-fits c κs =
-    let e = c .before .before .before in
-    e .before .short2 .ensures .last (e .if1 .left)
+    let e = c .before .before in
+    e .before .short-up .ensures .last (e .if1 .left)
 
 returns-2 : tie.Need-returns-2
 unfolding calls.backwardAck
 returns-2 c =
     let put = c .before .before in
     let asked = put .before .before in
-    let e = asked .before .before in
-    replied _ (e .before .short2 .ensures .says) (e .if1 .left)
-    (ap backNumbers (asked .backward-ack .ensures ∙ cc))
+    let e = asked .before in
+    replied _ (e .before .short-up .ensures .says) (e .if1 .left)
+    (ap backNumbers (asked .ack-back .ensures ∙ cc))
     (put .put5 .ensures .0)
     (put .put5 .ensures .1)
 
@@ -36,7 +36,6 @@ nbiot-backward-ack-spec =
     (λ c κs. search needs)
     returns
     grant-fits
-    (λ c κs. search needs)
     answer-fits
     (λ c. search needs)
     returns-2)

@@ -46,7 +46,7 @@ module _ (c : tie.Else2) where
         arith,
         index,
         sent-small (start .args .s) (start .pre .0),
-        slots-listed (start .args .s) (start .pre .0 .block) .below (start .args .slot) sent,
+        slots-listed (start .args .s) (start .pre .0) .below (start .args .slot) sent,
       )
 
 -- on a granted tone, and there on a data element

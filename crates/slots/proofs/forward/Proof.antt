@@ -7,7 +7,7 @@ use Rattle.slots.specs.declared.Split.{Split}
 use Rattle.slots.specs.Timing.{sentSlots}
 use Rattle.slots.specs.Mapping.{places}
 use Rattle.slots.proofs.Lines.{some-data}
-use Rattle.slots.proofs.Joined.{sent-small, forward-refused, forward-is}
+use Rattle.slots.proofs.Joined.{forward-refused, forward-is}
 use Rattle.slots.proofs.forward.Statement.{statement}
 use Rattle.slots.proofs.forward.Tie as tie
 
@@ -47,13 +47,12 @@ forward-spec =
     (le-div-iff-mul-le (some-data (b .args .s) (b .pre .0)) .0
     (omega (arith, c .before .if1 .taken, a .sent-slots .ensures .0, ap (λ (x : Split). x .i) (b .pre .1)))))
     (λ c κs. c .before .before .before .pre .0)
-    (λ c κs. (start c .pre .0, omega (arith, unit c, sent-small (start c .args .s) (start c .pre .0))))
-    (λ c κs. start (c .before) .pre .0)
+    (λ c κs. start c .pre .0)
     (λ c κs.
-    let w = c .before .before in
+    let w = c .before in
     (omega (arith, c .carried-by .ensures .1), w .slot-data .ensures .2, rest w))
     (λ c.
-    let w = c .before .before .before in
+    let w = c .before .before in
     let a = start w in
     forward-is (a .args .s) (a .args .p) _ _ _ _ _ (held w) (w .slot-data .ensures .0) (a .pre .1)
-    (c .before .before .slot-at .ensures) (c .before .carried-by .ensures .0) (c .item .ensures)))
+    (a .pre .2 (unit w)) (c .before .carried-by .ensures .0) (c .item .ensures)))

@@ -1,5 +1,8 @@
-use native.Mathlib.Omega.{arith}
-use Rattle.slots.proofs.Splitting.{rounds-fit, index-fits, unlocated, locates}
+use mathlib.Core.Path.{sym, subst}
+use borrow.Author.Needs.{needs}
+use Rattle.slots.specs.declared.Turn.{Turn}
+use Rattle.slots.specs.Quick.{Located}
+use Rattle.slots.proofs.Splitting.{unlocated, locates}
 use Rattle.slots.proofs.locate.Statement.{statement}
 use Rattle.slots.proofs.locate.Tie as tie
 
@@ -8,22 +11,10 @@ locate-spec =
     tie.close
     (tie.spec
     (λ c. unlocated (c .before .args .s) (c .before .args .slot) (c .if1 .taken))
-    (λ c. omega (arith, c .before .pre .blockSmall, c .before .pre .gapSmall))
-    (λ c κs. omega (arith, c .before .pre .block))
+    (λ c κs. search needs)
+    (λ c κs. search needs)
     (λ c.
-    let a = c .before .before in
-    omega (arith, a .fits .slot, rounds-fit (a .args .s) (a .pre) _ _ (c .over-round .ensures)))
-    (λ c.
-    let a = c .before .before in
-    rounds-fit (a .args .s) (a .pre) _ _ (c .over-round .ensures))
-    (λ c.
-    let a = c .before .before in
-    omega (arith, a .fits .slot, index-fits (a .args .s) (a .pre) _ _ (c .over-round .ensures)))
-    (λ c.
-    let a = c .before .before in
-    omega (arith, a .fits .slot, index-fits (a .args .s) (a .pre) _ _ (c .over-round .ensures)))
-    (λ c κs. c .before .before .pre)
-    (λ c.
-    let o = c .before in
-    let a = o .before .before in
-    locates (a .args .s) (a .pre) (a .args .slot) _ _ (o .before .if1 .left) (o .over-round .ensures) (c .sent-slots .ensures .0)))
+    let t = c .before in
+    let a = t .before .before .args in
+    subst (λ (r : Turn). Located (a .s) (a .slot) r) (sym (c .among-sent .ensures))
+    (locates (a .s) (a .slot) _ (t .before .if1 .left) (t .turn-around .ensures))))

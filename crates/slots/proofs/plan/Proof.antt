@@ -1,22 +1,23 @@
-use borrow.Author.Needs.{needs}
-use Rattle.slots.specs.Answers.{shapePlan}
+use mathlib.Core.Path.{_≡_, ap, _∙_}
+use Prim.Native.Nat.{ℕ, _-_}
+use native.Mathlib.Omega.{arith}
+use Rattle.slots.specs.Timing.{slotAt}
 use Rattle.slots.proofs.plan.Statement.{statement}
 use Rattle.slots.proofs.plan.Tie as tie
 
 pub plan-spec : {M : Type 1} → statement M
-unfolding shapePlan
 plan-spec =
     tie.close
     (tie.spec
-    (λ c κs. search needs)
-    (λ c κs. search needs)
-    (λ c. search needs)
-    (λ c κs. search needs)
-    (λ c κs. search needs)
-    (λ c.
-    simp (
-      c .before .before .before .slot-at .ensures,
-      c .before .slot-at2 .ensures,
-      c .before .before .sent-slots .ensures .0,
-      c .places .ensures,
-    )))
+    (λ c κs. c .pre)
+    (λ c. omega (arith, c .sent-slots .ensures .1))
+    (λ c κs. c .before .pre)
+    (λ c κs. c .before .before .pre)
+    (λ c κs.
+    let n = c .before .before in
+    let s = n .before in (
+      s .pre,
+      c .before .slot-at .ensures (omega (arith, n .sent-slots .ensures .0, n .sent-slots .ensures .1)),
+      c .slot-at2 .ensures (omega (arith, n .sent-slots .ensures .0, n .sent-slots .ensures .1)) ∙ ap (λ (x : ℕ). slotAt (s .args .s) (x - 1)) (n .sent-slots .ensures .0),
+    ))
+    (λ c. c .planned .ensures))

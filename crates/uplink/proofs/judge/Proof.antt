@@ -1,41 +1,45 @@
-use mathlib.Core.Path.{sym, _∙_}
-use borrow.Author.Tests.{lt-ltb, le-ltb, le-leb, lt-leb}
-use Rattle.uplink.specs.Refusals.{refusalWithin}
+use mathlib.Core.Path.{_≡_, sym, ap, ap₂, _∙_}
+use Prim.Native.Nat.{ℕ}
+use native.Mathlib.Omega.{arith}
+use borrow.Author.Tests.{eq-eqb, ne-eqb}
+use Rattle.windows.specs.Windows.{refusalOn}
+use Rattle.uplink.specs.declared.UplinkGrant.{UplinkGrant}
+use Rattle.uplink.specs.declared.UplinkFields.{UplinkFields}
+use Rattle.uplink.specs.Quick.{unwindowed}
+use Rattle.uplink.specs.Refusals.{lastSubframe, fieldsRefusal, refusalWithin}
+use Rattle.uplink.proofs.Acceptance.{InRange, ranged, same-fields}
+use Rattle.uplink.proofs.Fielded.{tone-field}
 use Rattle.uplink.proofs.judge.Statement.{statement}
 use Rattle.uplink.proofs.judge.Tie as tie
+
+-- the fields' number is the grant's
+module _ (c : tie.After-judge-fields) where
+  abbrev g : UplinkGrant
+  g = c .before .before .args .g
+
+  number : c .judge-fields .result ≡ fieldsRefusal lastSubframe g
+  number = c .judge-fields .ensures ∙ ap (λ (f : UplinkFields). fieldsRefusal lastSubframe (unwindowed f)) (c .before .fields-of .ensures) ∙ same-fields g
+
+in-range : (c : tie.Else1) → InRange lastSubframe (g (c .before))
+in-range c = ranged lastSubframe (g (c .before)) (sym (number (c .before)) ∙ c .if1 .left)
 
 pub judge-spec : {M : Type 1} → statement M
 unfolding refusalWithin
 judge-spec =
     tie.close
     (tie.spec
-    (λ c. simp (lt-ltb _ _ (c .if1 .taken)))
     (λ c κs. tt)
-    (λ c. simp (le-ltb _ _ (c .before .before .if1 .left), sym (c .before .above-largest .ensures) ∙ c .if2 .taken))
     (λ c κs. tt)
+    (λ c. rw (ne-eqb (fieldsRefusal lastSubframe (g (c .before))) 0 (λ e. c .if1 .taken (number (c .before) ∙ e))) (number (c .before)))
+    (λ c κs. (in-range c .spacing, in-range c .tones))
+    (λ c κs. tt)
+    (λ c κs.
+    let e = c .before .before in
+    let x = g (e .before) in
+    omega (arith, c .before .first-tone .ensures, c .tones .ensures, tone-field (x .spacing) (x .subcarrier) (in-range e .spacing) (in-range e .tones) .inside))
     (λ c.
-    let b = c .before .before in
-    simp (
-      le-ltb _ _ (b .before .before .if1 .left),
-      sym (b .before .above-largest .ensures) ∙ b .if2 .left,
-      ← c .before .tone-fields .ensures,
-      le-leb _ _ (c .if3 .taken),
-    ))
-    (λ c.
-    let b = c .before .before .before in
-    simp (
-      le-ltb _ _ (b .before .before .if1 .left),
-      sym (b .before .above-largest .ensures) ∙ b .if2 .left,
-      ← c .before .before .tone-fields .ensures,
-      lt-leb _ _ (c .before .if3 .left),
-      lt-ltb _ _ (c .if4 .taken),
-    ))
-    (λ c.
-    let b = c .before .before .before in
-    simp (
-      le-ltb _ _ (b .before .before .if1 .left),
-      sym (b .before .above-largest .ensures) ∙ b .if2 .left,
-      ← c .before .before .tone-fields .ensures,
-      lt-leb _ _ (c .before .if3 .left),
-      le-ltb _ _ (c .if4 .left),
-    )))
+    let e = c .before .before .before in
+    let x = g (e .before) in
+    rw (eq-eqb (fieldsRefusal lastSubframe x) 0 (sym (number (e .before)) ∙ e .if1 .left))
+    (c .refusal .ensures
+    ∙ ap₂ (λ (a n : ℕ). refusalOn (x .spacing) a n (x .windows)) (c .before .before .first-tone .ensures) (c .before .tones .ensures))))

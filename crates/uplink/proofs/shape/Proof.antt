@@ -1,13 +1,14 @@
 use native.Mathlib.Omega.{arith}
 use Rattle.grid.proofs.Rules.{uplink-copies-bounds}
+use Rattle.uplink.specs.Quick.{unwindowed}
 use Rattle.uplink.specs.Refusals.{lastSubframe}
-use Rattle.uplink.proofs.Acceptance.{Accepted, accepted}
+use Rattle.uplink.proofs.Acceptance.{InRange, ranged}
 use Rattle.uplink.proofs.Shaped.{shape-is}
 use Rattle.uplink.proofs.shape.Statement.{statement}
 use Rattle.uplink.proofs.shape.Tie as tie
 
-in-range : (c : tie.Start) → Accepted lastSubframe (c .args .g)
-in-range c = accepted lastSubframe (c .args .g) (c .pre)
+in-range : (c : tie.Start) → InRange lastSubframe (unwindowed (c .args .f))
+in-range c = ranged lastSubframe (unwindowed (c .args .f)) (c .pre)
 
 pub shape-spec : {M : Type 1} → statement M
 shape-spec =
@@ -28,13 +29,13 @@ shape-spec =
     omega (
       arith,
       n .uplink-copies .ensures,
-      uplink-copies-bounds (n .before .before .args .g .copies) (omega (arith, in-range (n .before .before) .copies)) .1,
+      uplink-copies-bounds (n .before .before .args .f .copies) (omega (arith, in-range (n .before .before) .copies)) .1,
     ))
     (λ c κs. tt)
     (λ c κs. tt)
     (λ c.
     let k = c .before .before .before .before in
     let n = k .before .before .before .before .before in
-    shape-is (n .before .before .args .g) _ _ _ _ _ _ _ _ _ _ _ _ _ (n .before .tones .ensures) (n .uplink-copies .ensures)
+    shape-is (unwindowed (n .before .before .args .f)) _ _ _ _ _ _ _ _ _ _ _ _ _ _ (n .before .tones .ensures) (n .uplink-copies .ensures)
     (k .before .before .before .before .start .ensures) (k .before .before .before .subcarriers .ensures .0) (k .before .before .block .ensures) (k .before .gap .ensures) (k .first-tone .ensures)
     (c .before .before .before .codeword .ensures) (c .before .before .row .ensures) (c .before .group .ensures) (c .reference .ensures)))

@@ -18,10 +18,10 @@ returns : tie.Need-returns
 unfolding asked
 returns c =
     let plan = c .before .before .before .before .before .before in
-    let x = plan .before .before .before .before .before .args in
+    let x = plan .before .before .before .before .before .before .args in
     let p : ℕ = getD (x .walk .now) 0 0 in (
       c .is-end .ensures ∙ ap (endIn p) (plan .plan-up .ensures .1)
-          ∙ ap (λ (a : UplinkPlan). eqb (a .no) 0 && eqb p (a .places)) (ap (λ (l : List ℕ). up.planOf (upGrantOf l)) (part-from 1 (x .walk .now))),
+          ∙ ap (λ (a : UplinkPlan). eqb (a .no) 0 && eqb p (a .places)) (ap (λ (l : List ℕ). up.planOf (upGrantOf l (x .windows .now))) (part-from 1 (x .walk .now))),
       ap (drop 7) (plan .plan-up .ensures .1),
     )
 

@@ -1,6 +1,4 @@
-use mathlib.Core.Path.{ap, _∙_}
 use borrow.Author.Needs.{needs}
-use Rattle.acknowledgement.specs.declared.AckGrant.{AckGrant}
 use Rattle.slots.specs.declared.UplinkPlace.{UplinkPlace}
 use Rattle.acknowledgement.specs.Questions as ack
 use Rattle.nbiot_c.specs.Buffers.{ackGrantOf, upPlaceNumbers}
@@ -12,18 +10,16 @@ returns : tie.Need-returns
 returns c =
     let put = c .before .before in
     let asked = put .before .before in
-    let grant = asked .before in
-    let x = grant .before .before .before .args in
-    put-is (λ (a : UplinkPlace). a .no) upPlaceNumbers (ack.forwardOf (ackGrantOf (x .grant .now)) (x .p)) (x .answer .now)
-    (asked .forward-ack .ensures ∙ ap (λ (g : AckGrant). ack.forwardOf g (x .p)) (grant .ack-grant-of .ensures))
+    let x = asked .before .before .before .before .args in
+    put-is (λ (a : UplinkPlace). a .no) upPlaceNumbers (ack.forwardOf (ackGrantOf (x .grant .now) (x .windows .now)) (x .p)) (x .answer .now)
+    (asked .ack-place .ensures)
     (put .put5 .ensures .0) (put .put5 .ensures .1)
 
 pub place-ack-spec : {M : Type 1} → statement M
 place-ack-spec =
     tie.close
     (tie.spec
-    (λ c κs. c .before .before .pre .0)
-    (λ c κs. tt)
+    (λ c κs. c .before .before .before .pre .0)
     (λ c κs. c .before .before .before .before .before .pre .1)
     (λ c. search needs)
     returns)

@@ -1,6 +1,4 @@
-use mathlib.Core.Path.{ap, _∙_}
 use borrow.Author.Needs.{needs}
-use Rattle.uplink.specs.declared.UplinkGrant.{UplinkGrant}
 use Rattle.slots.specs.declared.UplinkPlace.{UplinkPlace}
 use Rattle.uplink.specs.Questions as up
 use Rattle.nbiot_c.specs.Buffers.{upGrantOf, upPlaceNumbers}
@@ -12,18 +10,16 @@ returns : tie.Need-returns
 returns c =
     let put = c .before .before in
     let asked = put .before .before in
-    let grant = asked .before in
-    let x = grant .before .before .before .args in
-    put-is (λ (a : UplinkPlace). a .no) upPlaceNumbers (up.forwardOf (upGrantOf (x .grant .now)) (x .p)) (x .answer .now)
-    (asked .forward-up .ensures ∙ ap (λ (g : UplinkGrant). up.forwardOf g (x .p)) (grant .up-grant-of .ensures))
+    let x = asked .before .before .before .before .args in
+    put-is (λ (a : UplinkPlace). a .no) upPlaceNumbers (up.forwardOf (upGrantOf (x .grant .now) (x .windows .now)) (x .p)) (x .answer .now)
+    (asked .up-place .ensures)
     (put .put5 .ensures .0) (put .put5 .ensures .1)
 
 pub place-up-spec : {M : Type 1} → statement M
 place-up-spec =
     tie.close
     (tie.spec
-    (λ c κs. c .before .before .pre .0)
-    (λ c κs. tt)
+    (λ c κs. c .before .before .before .pre .0)
     (λ c κs. c .before .before .before .before .before .pre .1)
     (λ c. search needs)
     returns)

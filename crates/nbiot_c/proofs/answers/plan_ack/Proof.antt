@@ -1,6 +1,4 @@
-use mathlib.Core.Path.{ap, _∙_}
 use borrow.Author.Needs.{needs}
-use Rattle.acknowledgement.specs.declared.AckGrant.{AckGrant}
 use Rattle.slots.specs.declared.UplinkPlan.{UplinkPlan}
 use Rattle.acknowledgement.specs.Questions as ack
 use Rattle.nbiot_c.specs.Buffers.{ackGrantOf, upPlanNumbers}
@@ -12,18 +10,16 @@ returns : tie.Need-returns
 returns c =
     let put = c .before .before in
     let asked = put .before .before in
-    let grant = asked .before in
-    let x = grant .before .before .before .args in
-    put-is (λ (a : UplinkPlan). a .no) upPlanNumbers (ack.planOf (ackGrantOf (x .grant .now))) (x .answer .now)
-    (asked .plan-ack .ensures ∙ ap (λ (g : AckGrant). ack.planOf g) (grant .ack-grant-of .ensures))
+    let x = asked .before .before .before .before .args in
+    put-is (λ (a : UplinkPlan). a .no) upPlanNumbers (ack.planOf (ackGrantOf (x .grant .now) (x .windows .now))) (x .answer .now)
+    (asked .ack-plan .ensures)
     (put .put7 .ensures .0) (put .put7 .ensures .1)
 
 pub plan-ack-spec : {M : Type 1} → statement M
 plan-ack-spec =
     tie.close
     (tie.spec
-    (λ c κs. c .before .before .pre .0)
-    (λ c κs. tt)
+    (λ c κs. c .before .before .before .pre .0)
     (λ c κs. c .before .before .before .before .before .pre .1)
     (λ c. search needs)
     returns)

@@ -1,0 +1,290 @@
+-- Slots in groups: the slots that may be sent are those of the groups that no window and no gap closes.
+use mathlib.Core.Bool.{Bool, true, false, not, _&&_}
+use mathlib.Core.Path.{_≡_, refl, sym, ap, ap₂, subst, _∙_}
+use mathlib.Core.Logic.{⊎-elim}
+use Prim.Native.Nat.{ℕ, _+_, _-_, _*_, _/_, _%_, _^_, _≤_, _<_}
+use native.Mathlib.Nat.{zero-add, zero-mul, div-le-self, div-mul-le-self, mod-eq-sub-div-mul, one-mul, mul-zero, add-mul, mul-assoc, mod-lt, mod-eq-of-lt, mod-add-mod, add-mod-right, add-mul-mod-self-right, div-add-mod', mul-div-cancel, mul-le-mul, mul-le-mul-right}
+use native.Mathlib.Omega.{arith}
+use lib.Dec.{ltb}
+use lib.Arith.{digits-lt, digits-div, digits-mod, mod-mul}
+use mir.Val.{boolByte}
+use borrow.Author.Tests.{lt-ltb, le-ltb}
+use Rattle.counting.specs.Counting.{rank, next, select, Nth}
+use Rattle.counting.proofs.Facts.{order}
+use Rattle.counting.proofs.Rank.{rank-zero, rank-count, count-same, count-from-zero, rank-not, rank-mono}
+use Rattle.counting.proofs.Range.{rank-all}
+use Rattle.counting.proofs.Rows.{rank-rows}
+use Rattle.counting.proofs.Select.{nth-of, next-is}
+use Rattle.counting.proofs.Period.{rank-period, repeats-times, some-of, select-is, is-select, select-below, select-same}
+use Rattle.bars.specs.declared.Bar.{Bar}
+use Rattle.bars.specs.declared.Standing.{Standing}
+use Rattle.bars.specs.Bars.{shut, leaves, clear, isFree, Cyclic}
+use Rattle.bars.specs.Quick.{Usable, Stands, longestOf}
+use Rattle.slots.specs.declared.Shape.{Shape}
+use Rattle.slots.specs.Fits.{Fits}
+use Rattle.slots.specs.Timing.{round, rounds, inBlock, groupAt, active, period, slotAt}
+use Rattle.slots.specs.Quick.{gapBar, Again, TurnOf}
+use Rattle.slots.proofs.Rounds.{whole, whole-round-groups, repeats}
+
+and-true : (b : Bool) → (b && true) ≡ b
+and-true true = refl
+and-true false = refl
+
+rank-true : (n : ℕ) → rank (λ i. true) n ≡ n
+rank-true n = ap (rank (λ i. true)) (sym (zero-add n)) ∙ rank-all (λ i. true) 0 n (λ i a b. refl) ∙ omega (arith, rank-zero (λ i. true))
+
+-- counting from U on
+moved : (u : ℕ → Bool) (U y : ℕ) → rank u U + rank (λ i. u (U + i)) y ≡ rank u (U + y)
+moved u U y =
+    omega (
+      arith,
+      rank-count u y U,
+      count-from-zero (λ i. u (U + i)) y,
+      count-same u (λ i. u (U + i)) y U 0 (λ i l. ap (λ (x : ℕ). u (U + x)) (sym (zero-add i))),
+    )
+
+module _ (s : Shape) (f : Fits s) where
+  abbrev g : ℕ
+  g = s .group
+
+  abbrev R : ℕ
+  R = round s / g
+
+  abbrev U : ℕ
+  U = s .first / g
+
+  abbrev B : ℕ
+  B = s .block / g
+
+  abbrev G : ℕ
+  G = s .gap / g
+
+  abbrev free : ℕ → Bool
+  free = isFree (gapBar s) (s .bars)
+
+  -- ---- whole groups
+
+  pub round-parts : R ≡ B + G
+  round-parts =
+      let e : round s ≡ (B + G) * g = omega (arith, whole s f (s .block) (f .wholeBlock), whole s f (s .gap) (f .wholeGap), add-mul B G g) in
+      ap (λ (x : ℕ). x / g) e ∙ mul-div-cancel (B + G) (f .group)
+
+  pub some-round : 0 < R
+  some-round = ⊎-elim (λ h. h) (λ h. absurd (none h)) (order 0 R)
+    where
+      none : R ≤ 0 → ⊥
+      none h =
+          let z : B ≡ 0 = omega (arith, round-parts) in
+          omega (arith, whole s f (s .block) (f .wholeBlock), ap (λ (x : ℕ). x * g) z, zero-mul g, f .block)
+
+  module _ (y k : ℕ) (h : k < g) where
+    group-of : groupAt s (s .first + (y * g + k)) ≡ U + y
+    group-of =
+        let e : s .first + (y * g + k) ≡ (U + y) * g + k = omega (arith, whole s f (s .first) (f .wholeFirst), add-mul U y g) in
+        ap (λ (x : ℕ). x / g) e ∙ digits-div (U + y) h
+
+    in-round : (y * g + k) % round s ≡ y % R * g + k
+    in-round =
+        ap (λ (x : ℕ). (y * g + k) % x) (sym (whole-round-groups s f)) ∙ mod-mul (y * g + k) some-round (f .group)
+        ∙ ap₂ (λ (a b : ℕ). a % R * g + b) (digits-div y h) (digits-mod y h)
+
+  -- ---- the gap is a bar
+
+  in-gap : (y : ℕ) → (U + y + gapBar s .phase) % R ≡ (y % R + G) % R
+  in-gap y =
+      let e : U + y + (G + (R - U % R)) ≡ y + G + (U / R + 1) * R =
+      omega (arith, div-add-mod' U R, mod-lt U some-round, add-mul (U / R) 1 R, one-mul R) in
+      ap (λ (x : ℕ). x % R) e ∙ add-mul-mod-self-right (y + G) (U / R + 1) R ∙ sym (mod-add-mod y R G)
+
+  gap-leaves : (y k : ℕ) → k < g → inBlock s (y * g + k) ≡ leaves (gapBar s) (U + y)
+  unfolding inBlock leaves shut
+  gap-leaves y k h = ⊎-elim before after (order (y % R) B)
+    where
+      below : y % R < R
+      below = mod-lt y some-round
+
+      before : y % R < B → ltb ((y * g + k) % round s) (s .block) ≡ not (ltb ((U + y + gapBar s .phase) % R) G)
+      before l =
+          let a : (y * g + k) % round s < s .block = omega (arith, in-round y k h, digits-lt l h, whole s f (s .block) (f .wholeBlock)) in
+          let b : G ≤ (U + y + gapBar s .phase) % R = omega (arith, in-gap y, mod-eq-of-lt {n = y % R + G} {m = R} (omega (arith, round-parts))) in
+          rw (lt-ltb ((y * g + k) % round s) (s .block) a, le-ltb ((U + y + gapBar s .phase) % R) G b) refl
+
+      after : B ≤ y % R → ltb ((y * g + k) % round s) (s .block) ≡ not (ltb ((U + y + gapBar s .phase) % R) G)
+      after l =
+          let a : s .block ≤ (y * g + k) % round s =
+          omega (arith, in-round y k h, mul-le-mul-right g l, whole s f (s .block) (f .wholeBlock)) in
+          let e : y % R + G ≡ y % R - B + R = omega (arith, round-parts) in
+          let m : (y % R + G) % R ≡ y % R - B =
+          ap (λ (x : ℕ). x % R) e ∙ add-mod-right (y % R - B) R ∙ mod-eq-of-lt {n = y % R - B} {m = R} (omega (arith, below)) in
+          let b : (U + y + gapBar s .phase) % R < G = omega (arith, in-gap y, m, below, round-parts) in
+          rw (le-ltb ((y * g + k) % round s) (s .block) a, lt-ltb ((U + y + gapBar s .phase) % R) G b) refl
+
+  -- ---- slots by their groups
+
+  pub by-group : (y k : ℕ) → k < g → active s (y * g + k) ≡ free (U + y)
+  unfolding active isFree
+  by-group y k h = ap₂ _&&_ (gap-leaves y k h) (ap (clear (s .bars)) (group-of y k h))
+
+  rank-groups : (y k : ℕ) → k ≤ g → rank (active s) (y * g + k) ≡ rank (λ i. free (U + i)) y * g + boolByte (free (U + y)) * k
+  rank-groups y k h =
+      rank-rows g (active s) (λ i. free (U + i)) (λ i. true) (λ l i p. by-group l i p ∙ sym (and-true (free (U + l)))) y k h
+      ∙ ap₂ (λ (a b : ℕ). rank (λ i. free (U + i)) y * a + boolByte (free (U + y)) * b) (rank-true g) (rank-true k)
+
+  pub again : (t : ℕ) → free (t + rounds * R) ≡ free t
+  unfolding isFree leaves shut
+  again t =
+      let e : t + rounds * R + gapBar s .phase ≡ t + gapBar s .phase + rounds * R = omega arith in
+      ap₂ _&&_
+      (ap (λ (x : ℕ). not (ltb x G)) (ap (λ (x : ℕ). x % R) e ∙ add-mul-mod-self-right (t + gapBar s .phase) rounds R))
+      (f .again t)
+
+  pub cyclic : Cyclic free (rounds * R)
+  cyclic = record { again = again; some = ⊎-elim (λ h. h) (λ h. absurd (none h)) (order 0 (rank free (rounds * R))) }
+    where
+      none : rank free (rounds * R) ≤ 0 → ⊥
+      none h =
+          let z : rank (λ i. free (U + i)) (rounds * R) ≡ 0 = omega (arith, moved free U (rounds * R), rank-period free (rounds * R) again U) in
+          let e : rounds * R * g + 0 ≡ period s = omega (arith, mul-assoc rounds R g, ap (λ (x : ℕ). rounds * x) (whole-round-groups s f)) in
+          omega (
+            arith,
+            f .some,
+            ap (rank (active s)) e,
+            rank-groups (rounds * R) 0 (omega arith),
+            ap (λ (x : ℕ). x * g) z,
+            zero-mul g,
+            mul-zero (boolByte (free (U + rounds * R))),
+          )
+
+  -- ---- transmitted slot i: the slot at k in group j of those that are free
+
+  pub slot-is : (i j k at : ℕ) → i ≡ j * g + k → k < g → at ≡ select free (rounds * R) U j → at * g + k ≡ slotAt s i
+  unfolding slotAt
+  slot-is i j k at hi hk ha =
+      let n : Nth free U j at = subst (λ x. Nth free U j x) (sym ha) (select-is free (rounds * R) again (cyclic .some) U j) in
+      let y : ℕ = at - U in
+      let e : U + y ≡ at = omega (arith, n .late) in
+      let p : free (U + y) ≡ true = ap free e ∙ n .passes in
+      let q : rank (λ i. free (U + i)) y ≡ j = omega (arith, moved free U y, ap (rank free) e, n .before) in
+      let x : ℕ = y * g + k in
+      let c : rank (active s) x ≡ i =
+      rank-groups y k (omega arith)
+      ∙ ap₂ (λ (a b : ℕ). a * g + b * k) q (ap boolByte p) ∙ omega (arith, one-mul k) in
+      let d : x ≡ select (active s) (period s) 0 i =
+      is-select (active s) (period s) (repeats s f) (f .some) 0 i x
+      (nth-of (active s) 0 i x (by-group y k hk ∙ p) (omega (arith, c, rank-zero (active s)))) in
+      omega (arith, d, ap (λ (z : ℕ). z * g) (sym e), add-mul U y g, whole s f (s .first) (f .wholeFirst))
+
+  pub slot-small : (i : ℕ) → i < 2 ^ 32 → slotAt s i < 2 ^ 60
+  unfolding slotAt
+  slot-small i h =
+      let a : i + 1 ≤ 2 ^ 32 = omega arith in
+      let b : period s ≤ 2 ^ 26 = omega (arith, f .blockSmall, f .gapSmall) in
+      omega (arith, select-below (active s) (period s) (repeats s f) (f .some) 0 i, mul-le-mul a b, f .firstSmall)
+
+  -- ---- the slot at k in the group y past the first
+
+  module _ (x y k : ℕ) (r : Standing) (e : x ≡ y * g + k) (h : k < g) (st : Stands free U y r) where
+    pub turn-fits : r .index * g + k ≤ x
+    turn-fits =
+        let a : r .index ≤ y =
+        omega (arith, st .index, rank-not free U, rank-not free (U + y), rank-mono (λ i. not (free i)) U (U + y) (omega arith)) in
+        omega (arith, mul-le-mul-right g a)
+
+    pub turn-is : TurnOf s x (record { sent = r .free; i = r .index * g + k })
+    turn-is = record {
+      says = st .says ∙ sym (ap (active s) e ∙ by-group y k h);
+      index = λ a.
+          let p : free (U + y) ≡ true = sym (ap (active s) e ∙ by-group y k h) ∙ a in
+          let q : rank (λ i. free (U + i)) y ≡ r .index = omega (arith, moved free U y, st .index) in
+          sym (
+          ap (rank (active s)) e ∙ rank-groups y k (omega arith)
+          ∙ ap₂ (λ (a b : ℕ). a * g + b * k) q (ap boolByte p) ∙ omega (arith, one-mul k)
+          );
+    }
+
+  -- ---- the gap's bar can be worked with
+
+  pub gap-usable : Usable (gapBar s)
+  gap-usable = record {
+    some = some-round;
+    periodSmall = omega (arith, small);
+    phaseSmall = omega (arith, small, round-parts);
+    closedSmall = omega (arith, small, round-parts);
+  }
+    where
+      small : R < 2 ^ 17
+      small = omega (arith, div-le-self (round s) g, f .blockSmall, f .gapSmall)
+
+-- ---- cycles
+
+module _ (s : Shape) (f : Fits s) where
+  abbrev left : ℕ → Bool
+  left = isFree (gapBar s) (s .bars)
+
+  -- whole rounds after which what the windows leave repeats
+  again-by : (n : ℕ) → n % (round s / s .group) ≡ 0 → ((t : ℕ) → clear (s .bars) (t + n) ≡ clear (s .bars) t) → (t : ℕ) → left (t + n) ≡ left t
+  unfolding isFree leaves shut
+  again-by n h c t =
+      let q : ℕ = n / (round s / s .group) in
+      let e : t + n + gapBar s .phase ≡ t + gapBar s .phase + q * (round s / s .group) = omega (arith, div-add-mod' n (round s / s .group)) in
+      ap₂ _&&_
+      (ap (λ (x : ℕ). not (ltb x (s .gap / s .group)))
+      (ap (λ (x : ℕ). x % (round s / s .group)) e ∙ add-mul-mod-self-right (t + gapBar s .phase) q (round s / s .group)))
+      (c t)
+
+  pub short-again : (n : ℕ) → n ≡ longestOf (s .bars) → 0 < 37 * n → 37 * n % (round s / s .group) ≡ 0 → Again s (37 * n)
+  short-again n e p h = record {
+    again = again-by (37 * n) h (λ t. ap (λ (x : ℕ). clear (s .bars) (t + 37 * x)) e ∙ repeats-times (clear (s .bars)) (longestOf (s .bars)) (f .short) 37 t);
+    some = p;
+    small = omega (arith, f .shortSmall);
+  }
+
+  pub long-again : Again s (rounds * (round s / s .group))
+  long-again = record {
+    again = again s f;
+    some = omega (arith, some-round s f);
+    small = omega (arith, div-le-self (round s) (s .group), f .blockSmall, f .gapSmall);
+  }
+
+  module _ (n : ℕ) (a : Again s n) where
+    -- a group that is free
+    found : Nth left 0 0 (next left (rounds * (round s / s .group)) 0)
+    found = next-is left (rounds * (round s / s .group)) 0 (omega (arith, cyclic s f .some, rank-zero left, ap (rank left) (zero-add (rounds * (round s / s .group)))))
+
+    pub some-in : 0 < rank left n
+    some-in = some-of left n (a .again) (next left (rounds * (round s / s .group)) 0) (a .some) (found .passes)
+
+    pub same-select : (j : ℕ) → select left n (s .first / s .group) j ≡ select left (rounds * (round s / s .group)) (s .first / s .group) j
+    same-select j = select-same left n (rounds * (round s / s .group)) (a .again) (again s f) some-in (cyclic s f .some) (s .first / s .group) j
+
+-- ---- with the gap's bar and the cycle as the code has worked them out
+
+module _ (s : Shape) (f : Fits s) (bar : Bar) (cycle : ℕ) (eb : bar ≡ gapBar s) (ec : Again s cycle) where
+  pub usable : Usable bar
+  usable = subst Usable (sym eb) (gap-usable s f)
+
+  pub cycles : Cyclic (isFree bar (s .bars)) cycle
+  cycles = subst (λ (b : Bar). Cyclic (isFree b (s .bars)) cycle) (sym eb) (record { again = ec .again; some = some-in s f cycle ec })
+
+  pub first-group-small : s .first / s .group < 2 ^ 40
+  first-group-small = omega (arith, div-le-self (s .first) (s .group), f .firstSmall)
+
+  pub slot-found : (i at : ℕ) → at ≡ select (isFree bar (s .bars)) cycle (s .first / s .group) (i / s .group)
+      → at * s .group + (i - i / s .group * s .group) ≡ slotAt s i
+  slot-found i at e =
+      slot-is s f i (i / s .group) (i - i / s .group * s .group) at (omega (arith, div-mul-le-self i (s .group)))
+      (omega (arith, mod-eq-sub-div-mul i (s .group), mod-lt i (f .group)))
+      (e ∙ ap (λ (b : Bar). select (isFree b (s .bars)) cycle (s .first / s .group) (i / s .group)) eb ∙ same-select s f cycle ec (i / s .group))
+
+  module _ (x : ℕ) (r : Standing) (st : Stands (isFree bar (s .bars)) (s .first / s .group) (x / s .group) r) where
+    st' : Stands (isFree (gapBar s) (s .bars)) (s .first / s .group) (x / s .group) r
+    st' = subst (λ (b : Bar). Stands (isFree b (s .bars)) (s .first / s .group) (x / s .group) r) eb st
+
+    parts : (x ≡ x / s .group * s .group + (x - x / s .group * s .group)) × (x - x / s .group * s .group < s .group)
+    parts = (omega (arith, div-mul-le-self x (s .group)), omega (arith, mod-eq-sub-div-mul x (s .group), mod-lt x (f .group)))
+
+    pub turn-found-fits : r .index * s .group + (x - x / s .group * s .group) ≤ x
+    turn-found-fits = turn-fits s f x (x / s .group) (x - x / s .group * s .group) r (parts .0) (parts .1) st'
+
+    pub turn-found : TurnOf s x (record { sent = r .free; i = r .index * s .group + (x - x / s .group * s .group) })
+    turn-found = turn-is s f x (x / s .group) (x - x / s .group * s .group) r (parts .0) (parts .1) st'

@@ -1,0 +1,243 @@
+-- The bars of windows: they close exactly the groups that overlap a window, and repeat after 2,560 ms.
+use mathlib.Core.Bool.{Bool, true, false, cond, not, _&&_}
+use mathlib.Core.Path.{_≡_, refl, sym, ap, ap₂, _∙_}
+use mathlib.Core.Logic.{_⊎_, inl, inr, ⊎-elim}
+use Prim.Native.Nat.{ℕ, _+_, _-_, _*_, _/_, _%_, max, _^_, _≤_, _<_}
+use native.Mathlib.Nat.{zero-add, div-add-mod', add-mul-mod-self-right, mod-one, div-one}
+use native.Mathlib.Omega.{arith}
+use lib.Arith.{mod-mul}
+use lib.Dec.{ltb, lit<}
+use borrow.Author.Tests.{lt-ltb, le-ltb, lt-leb}
+use Rattle.counting.specs.Counting.{rank}
+use Rattle.counting.proofs.Facts.{order, both-parts}
+use Rattle.counting.proofs.Rank.{rank-same}
+use Rattle.counting.proofs.Range.{rank-all}
+use Rattle.bars.specs.declared.Bar.{Bar}
+use Rattle.bars.specs.Bars.{shut, leaves, clear, isFree, idle, noBars}
+use Rattle.bars.specs.Quick.{Usable, AllUsable, longestOf}
+use Rattle.bars.proofs.Running.{idle-leaves}
+use Rattle.windows.specs.declared.Window.{Window}
+use Rattle.windows.specs.declared.Windows.{Windows}
+use Rattle.windows.specs.Windows.{isOneOf, unitsOfMs, allPeriods, isListed, isRead, areListed, sharesTone, sinceBegin, overlaps, meets, isClear, barOf, barsOf, windowsRefusal}
+use Rattle.windows.proofs.Listing.{steps, step-divides, step-most, step-small, Numbers, numbers, listed-1, listed-2, listed-3, listed-4}
+
+-- the bar of a window that concerns the tones
+abbrev closing : ℕ → Window → Bar
+closing ms w = record {
+  period = w .period / ms;
+  phase = (allPeriods - w .start) / ms;
+  closed = (w .length + (unitsOfMs * ms - 1)) / (unitsOfMs * ms);
+}
+
+-- ---- a group is closed exactly if it overlaps the window
+
+-- two tests of one number
+same-test : (a b c d : ℕ) → (a < b → c < d) → (c < d → a < b) → ltb a b ≡ ltb c d
+same-test a b c d f g =
+    ⊎-elim (λ h. lt-ltb a b h ∙ sym (lt-ltb c d (f h)))
+    (λ h. le-ltb a b h ∙ sym (le-ltb c d (⊎-elim (λ k. absurd (omega (arith, g k))) (λ k. k) (order c d)))) (order a b)
+
+module _ (w : Window) (n : Numbers w) (u : ℕ) where
+  closes-one : shut (closing 1 w) u ≡ overlaps 1 w u
+  unfolding shut overlaps
+  closes-one =
+      let r : ℕ = (u + (allPeriods - w .start)) % w .period in
+      let a : (u + (allPeriods - w .start) / 1) % (w .period / 1) ≡ r =
+      ap₂ (λ (x y : ℕ). (u + x) % y) (div-one (allPeriods - w .start)) (div-one (w .period)) in
+      let e : 1 * u + 1 + allPeriods - 1 - w .start ≡ u + (allPeriods - w .start) = omega (arith, n .startTo) in
+      let b : sinceBegin w (1 * u + 1) ≡ r + 1 = ap (λ (x : ℕ). x % w .period + 1) e in
+      same-test ((u + (allPeriods - w .start) / 1) % (w .period / 1)) ((w .length + (unitsOfMs * 1 - 1)) / (unitsOfMs * 1))
+      (unitsOfMs * sinceBegin w (1 * u + 1)) (w .length + unitsOfMs * 1) (λ h. omega (arith, a, b)) (λ h. omega (arith, a, b))
+
+  closes-two : shut (closing 2 w) u ≡ overlaps 2 w u
+  unfolding shut overlaps
+  closes-two =
+      let x : ℕ = u + (allPeriods - w .start) / 2 in
+      let p : ℕ = w .period / 2 in
+      let ep : w .period ≡ p * 2 = omega (arith, n .evenPeriod) in
+      let e : 2 * u + 2 + allPeriods - 1 - w .start ≡ 2 * x + 1 = omega (arith, n .startTo, n .evenStart) in
+      let hp : 0 < p = omega (arith, n .periodFrom) in
+      let d : (2 * x + 1) / 2 ≡ x = omega arith in
+      let m : (2 * x + 1) % 2 ≡ 1 = omega arith in
+      let b : sinceBegin w (2 * u + 2) ≡ x % p * 2 + 1 + 1 =
+      ap₂ (λ (y z : ℕ). y % z + 1) e ep
+      ∙ ap (λ (y : ℕ). y + 1) (mod-mul (2 * x + 1) hp (lit< tt) ∙ ap₂ (λ (y z : ℕ). y % p * 2 + z) d m) in
+      same-test (x % p) ((w .length + (unitsOfMs * 2 - 1)) / (unitsOfMs * 2))
+      (unitsOfMs * sinceBegin w (2 * u + 2)) (w .length + unitsOfMs * 2) (λ h. omega (arith, b)) (λ h. omega (arith, b))
+
+module _ (ms : ℕ) (from : 1 ≤ ms) (to : ms ≤ 2) where
+  one-or-two : (ms ≡ 1) ⊎ (ms ≡ 2)
+  one-or-two = ⊎-elim (λ h. inl (omega arith)) (λ h. inr (omega arith)) (order ms 2)
+
+  closes : (w : Window) → Numbers w → (u : ℕ) → shut (closing ms w) u ≡ overlaps ms w u
+  closes w n u =
+      ⊎-elim (λ e. rw e (closes-one w n u)) (λ e. rw e (closes-two w n u)) one-or-two
+
+  module _ (a n : ℕ) (read : Bool) (w : Window) (l : read ≡ true → isListed w ≡ true) where
+    concerned : (read && sharesTone a n w) ≡ true → Numbers w
+    concerned e = numbers w (l (both-parts read (sharesTone a n w) e .0))
+
+    -- what holds of a bar that closes nothing and of a listed window's holds of every bar
+    bar-by : (P : Bar → Type 0) → P idle → (Numbers w → P (closing ms w)) → P (barOf ms a n read w)
+    unfolding barOf
+    bar-by P i c = by (read && sharesTone a n w) refl
+      where
+        by : (b : Bool) → (read && sharesTone a n w) ≡ b → P (cond b (closing ms w) idle)
+        by true e = c (concerned e)
+        by false e = i
+
+    pub bar-usable : Usable (barOf ms a n read w)
+    bar-usable =
+        bar-by Usable (record { some = lit< tt; periodSmall = lit< tt; phaseSmall = lit< tt; closedSmall = lit< tt })
+        (λ m. ⊎-elim (λ e. rw e (usable-one m)) (λ e. rw e (usable-two m)) one-or-two)
+      where
+        usable-one : Numbers w → Usable (closing 1 w)
+        usable-one m = record {
+          some = omega (arith, m .periodFrom);
+          periodSmall = omega (arith, m .periodTo);
+          phaseSmall = omega arith;
+          closedSmall = omega (arith, m .lengthTo);
+        }
+
+        usable-two : Numbers w → Usable (closing 2 w)
+        usable-two m = record {
+          some = omega (arith, m .periodFrom);
+          periodSmall = omega (arith, m .periodTo);
+          phaseSmall = omega arith;
+          closedSmall = omega (arith, m .lengthTo);
+        }
+
+    pub bar-divides : allPeriods / ms % barOf ms a n read w .period ≡ 0
+    bar-divides =
+        bar-by (λ b. allPeriods / ms % b .period ≡ 0) (mod-one (allPeriods / ms))
+        (λ m. ⊎-elim (λ e. rw e (ap (λ (x : ℕ). 2560 % x) (div-one (w .period)) ∙ m .periodAll)) (λ e. rw e (m .periodHalf)) one-or-two)
+
+    pub bar-step : isOneOf steps (barOf ms a n read w .period) ≡ true
+    bar-step =
+        bar-by (λ b. isOneOf steps (b .period) ≡ true) refl
+        (λ m. ⊎-elim (λ e. rw e (m .whole)) (λ e. rw e (m .half)) one-or-two)
+
+    pub bar-leaves : (u : ℕ) → leaves (barOf ms a n read w) u ≡ not (meets ms a n read w u)
+    unfolding barOf leaves
+    bar-leaves u = by (read && sharesTone a n w) refl
+      where
+        by : (b : Bool) → (read && sharesTone a n w) ≡ b → not (shut (cond b (closing ms w) idle) u) ≡ not (b && overlaps ms w u)
+        by true e = ap not (closes w (concerned e) u)
+        by false e = idle-leaves idle refl u
+
+  -- ---- all four
+
+  module _ (a n : ℕ) (ws : Windows) (l : areListed ws ≡ true) where
+    pub clear-is : (u : ℕ) → clear (barsOf ms a n ws) u ≡ isClear ms a n ws u
+    unfolding clear barsOf isClear
+    clear-is u =
+        ap₂ _&&_
+        (ap₂ _&&_ (bar-leaves a n (isRead ws 1) (ws .w1) (listed-1 ws l) u) (bar-leaves a n (isRead ws 2) (ws .w2) (listed-2 ws l) u))
+        (ap₂ _&&_ (bar-leaves a n (isRead ws 3) (ws .w3) (listed-3 ws l) u) (bar-leaves a n (isRead ws 4) (ws .w4) (listed-4 ws l) u))
+
+    pub bars-usable : AllUsable (barsOf ms a n ws)
+    unfolding barsOf
+    bars-usable = record {
+      u1 = bar-usable a n (isRead ws 1) (ws .w1) (listed-1 ws l);
+      u2 = bar-usable a n (isRead ws 2) (ws .w2) (listed-2 ws l);
+      u3 = bar-usable a n (isRead ws 3) (ws .w3) (listed-3 ws l);
+      u4 = bar-usable a n (isRead ws 4) (ws .w4) (listed-4 ws l);
+    }
+
+    leaves-again : (b : Bar) (W t : ℕ) → W % b .period ≡ 0 → leaves b (t + W) ≡ leaves b t
+    unfolding leaves shut
+    leaves-again b W t h =
+        let e : t + W + b .phase ≡ t + b .phase + W / b .period * b .period = omega (arith, div-add-mod' W (b .period)) in
+        ap (λ (x : ℕ). not (ltb x (b .closed)))
+        (ap (λ (x : ℕ). x % b .period) e ∙ add-mul-mod-self-right (t + b .phase) (W / b .period) (b .period))
+
+    pub clear-again : (u : ℕ) → clear (barsOf ms a n ws) (u + allPeriods / ms) ≡ clear (barsOf ms a n ws) u
+    unfolding clear barsOf
+    clear-again u =
+        ap₂ _&&_
+        (ap₂ _&&_ (leaves-again _ _ u (bar-divides a n (isRead ws 1) (ws .w1) (listed-1 ws l)))
+        (leaves-again _ _ u (bar-divides a n (isRead ws 2) (ws .w2) (listed-2 ws l))))
+        (ap₂ _&&_ (leaves-again _ _ u (bar-divides a n (isRead ws 3) (ws .w3) (listed-3 ws l)))
+        (leaves-again _ _ u (bar-divides a n (isRead ws 4) (ws .w4) (listed-4 ws l))))
+
+    -- the longest period is one for all four
+    abbrev p1 : ℕ
+    p1 = barOf ms a n (isRead ws 1) (ws .w1) .period
+
+    abbrev p2 : ℕ
+    p2 = barOf ms a n (isRead ws 2) (ws .w2) .period
+
+    abbrev p3 : ℕ
+    p3 = barOf ms a n (isRead ws 3) (ws .w3) .period
+
+    abbrev p4 : ℕ
+    p4 = barOf ms a n (isRead ws 4) (ws .w4) .period
+
+    abbrev top : ℕ
+    top = max (max p1 p2) (max p3 p4)
+
+    s1 : isOneOf steps p1 ≡ true
+    s1 = bar-step a n (isRead ws 1) (ws .w1) (listed-1 ws l)
+
+    s2 : isOneOf steps p2 ≡ true
+    s2 = bar-step a n (isRead ws 2) (ws .w2) (listed-2 ws l)
+
+    s3 : isOneOf steps p3 ≡ true
+    s3 = bar-step a n (isRead ws 3) (ws .w3) (listed-3 ws l)
+
+    s4 : isOneOf steps p4 ≡ true
+    s4 = bar-step a n (isRead ws 4) (ws .w4) (listed-4 ws l)
+
+    top-step : isOneOf steps top ≡ true
+    top-step = step-most (max p1 p2) (max p3 p4) (step-most p1 p2 s1 s2) (step-most p3 p4 s3 s4)
+
+    pub bars-short-small : longestOf (barsOf ms a n ws) < 2 ^ 16
+    unfolding barsOf
+    bars-short-small = omega (arith, step-small top top-step)
+
+    pub bars-short : (u : ℕ) → clear (barsOf ms a n ws) (u + longestOf (barsOf ms a n ws)) ≡ clear (barsOf ms a n ws) u
+    unfolding clear barsOf
+    bars-short u =
+        ap₂ _&&_
+        (ap₂ _&&_ (leaves-again _ top u (step-divides p1 top s1 top-step (omega arith))) (leaves-again _ top u (step-divides p2 top s2 top-step (omega arith))))
+        (ap₂ _&&_ (leaves-again _ top u (step-divides p3 top s3 top-step (omega arith))) (leaves-again _ top u (step-divides p4 top s4 top-step (omega arith))))
+
+    -- with a bar that closes nothing beside them
+    free-at : (i : ℕ) → isFree idle (barsOf ms a n ws) i ≡ isClear ms a n ws i
+    unfolding isFree
+    free-at i = ap (λ (b : Bool). b && clear (barsOf ms a n ws) i) (idle-leaves idle refl i) ∙ clear-is i
+
+    pub free-is : (k : ℕ) → rank (isFree idle (barsOf ms a n ws)) k ≡ rank (isClear ms a n ws) k
+    free-is k = rank-same _ _ k (λ i h. free-at i)
+
+-- ---- no window
+
+module _ (ms a n : ℕ) (ws : Windows) (z : ws .count ≡ 0) where
+  unread : (j : ℕ) → 0 < j → isRead ws j ≡ false
+  unread j h = lt-leb j (ws .count) (omega (arith, z))
+
+  pub none-listed : areListed ws ≡ true
+  unfolding areListed
+  none-listed = rw (unread 1 (lit< tt), unread 2 (lit< tt), unread 3 (lit< tt), unread 4 (lit< tt), z) refl
+
+  none-clear : (u : ℕ) → isClear ms a n ws u ≡ true
+  unfolding isClear
+  none-clear u = rw (unread 1 (lit< tt), unread 2 (lit< tt), unread 3 (lit< tt), unread 4 (lit< tt)) refl
+
+  pub none-refused : 1 ≤ ms → ms ≤ 2 → windowsRefusal ms a n ws ≡ 0
+  unfolding windowsRefusal
+  none-refused from to = rw (none-listed, lt-ltb 0 (rank (isClear ms a n ws) (allPeriods / ms)) some) refl
+    where
+      some : 0 < rank (isClear ms a n ws) (allPeriods / ms)
+      some =
+          let e : 0 + allPeriods / ms ≡ allPeriods / ms = zero-add (allPeriods / ms) in
+          let d : 1280 ≤ allPeriods / ms = ⊎-elim (λ e. rw e (omega arith)) (λ e. rw e (omega arith)) (one-or-two ms from to) in
+          omega (
+            arith,
+            rank-all (isClear ms a n ws) 0 (allPeriods / ms) (λ i p q. none-clear i),
+            ap (rank (isClear ms a n ws)) e,
+          )
+
+  pub none-bars : noBars ≡ barsOf ms a n ws
+  unfolding barsOf barOf
+  none-bars = rw (unread 1 (lit< tt), unread 2 (lit< tt), unread 3 (lit< tt), unread 4 (lit< tt)) refl

@@ -1,0 +1,133 @@
+-- Random access windows: 02 L4; TS 36.211 clauses 10.1.3.6 (uplink slots that overlap them are postponed) and 10.1.6 (the preamble).
+use mathlib.Core.Bool.{Bool, false, cond, not, _&&_, _||_}
+use mathlib.Core.List.{List, [], _∷_, _++_}
+use Prim.Native.Nat.{ℕ, _+_, _-_, _*_, _/_, _%_}
+use lib.Dec.{eqb, leb, ltb}
+use Rattle.counting.specs.Counting.{rank}
+use Rattle.bars.specs.declared.Bar.{Bar}
+use Rattle.bars.specs.declared.Bars.{Bars}
+use Rattle.bars.specs.Bars.{idle}
+use Rattle.slots.specs.Numerology.{groupOf, groupMs, narrowTones}
+use Rattle.windows.specs.declared.Window.{Window}
+use Rattle.windows.specs.declared.Windows.{Windows}
+
+-- no window
+abbrev pub blank : Window
+blank = record { period = 0; start = 0; length = 0; tone = 0 }
+
+abbrev pub none : Windows
+none = record { count = 0; w1 = blank; w2 = blank; w3 = blank; w4 = blank }
+
+-- ---- the numbers that are listed
+
+abbrev pub isOneOf : List ℕ → ℕ → Bool
+isOneOf [] x = false
+isOneOf (n ∷ list) x = eqb x n || isOneOf list x
+
+-- ms
+abbrev pub periods : List ℕ
+periods = 40 ∷ 80 ∷ 160 ∷ 320 ∷ 640 ∷ 1280 ∷ 2560 ∷ []
+
+abbrev pub starts : List ℕ
+starts = 8 ∷ 16 ∷ 32 ∷ 64 ∷ 128 ∷ 256 ∷ 512 ∷ 1024 ∷ []
+
+-- one repetition, or 2, 4, .. 64 of them
+abbrev pub repetitions : ℕ → List ℕ
+repetitions one = one ∷ 2 * one ∷ 4 * one ∷ 8 * one ∷ 16 * one ∷ 32 * one ∷ 64 * one ∷ []
+
+-- units of 1/30720 ms: repetitions of preamble format 0, and of format 1
+abbrev pub lengths : List ℕ
+lengths = repetitions 172032 ++ repetitions 196608
+
+abbrev pub unitsOfMs : ℕ
+unitsOfMs = 30720
+
+-- tones at 3.75 kHz: of a window, and of the carrier
+abbrev pub windowTones : ℕ
+windowTones = 12
+
+abbrev pub carrierTones : ℕ
+carrierTones = 48
+
+-- a multiple of every period, and above every start
+abbrev pub allPeriods : ℕ
+allPeriods = 2560
+
+unfoldable pub isListed : Window → Bool
+isListed w =
+    (isOneOf periods (w .period) && isOneOf starts (w .start))
+    && (isOneOf lengths (w .length) && leb (w .tone + windowTones) carrierTones)
+
+-- window number j is read: it is one of those counted
+abbrev pub isRead : Windows → ℕ → Bool
+isRead ws j = leb j (ws .count)
+
+-- at most four windows, and each that is read is listed
+unfoldable pub areListed : Windows → Bool
+areListed ws =
+    leb (ws .count) 4
+    && ((not (isRead ws 1) || isListed (ws .w1)) && (not (isRead ws 2) || isListed (ws .w2))
+    && ((not (isRead ws 3) || isListed (ws .w3)) && (not (isRead ws 4) || isListed (ws .w4))))
+
+-- ---- which groups a window closes to n tones from tone a on, counted at 3.75 kHz, where a group of slots lasts ms
+
+-- it has one of the tones
+abbrev pub sharesTone : ℕ → ℕ → Window → Bool
+sharesTone a n w = ltb a (w .tone + windowTones) && ltb (w .tone) (a + n)
+
+-- a group ends `e` ms after time 0: so many ms before that the last window began that begins before it; windows begin below 0 too
+abbrev pub sinceBegin : Window → ℕ → ℕ
+sinceBegin w e = (e + allPeriods - 1 - w .start) % w .period + 1
+
+-- group u, from ms * u to ms * u + ms, overlaps a window in time: that window's end is past the group's begin
+unfoldable pub overlaps : ℕ → Window → ℕ → Bool
+overlaps ms w u = ltb (unitsOfMs * sinceBegin w (ms * u + ms)) (w .length + unitsOfMs * ms)
+
+-- group u overlaps a window that is read, in time and tone
+abbrev pub meets : ℕ → ℕ → ℕ → Bool → Window → ℕ → Bool
+meets ms a n read w u = (read && sharesTone a n w) && overlaps ms w u
+
+unfoldable pub isClear : ℕ → ℕ → ℕ → Windows → ℕ → Bool
+isClear ms a n ws u =
+    (not (meets ms a n (isRead ws 1) (ws .w1) u) && not (meets ms a n (isRead ws 2) (ws .w2) u))
+    && (not (meets ms a n (isRead ws 3) (ws .w3) u) && not (meets ms a n (isRead ws 4) (ws .w4) u))
+
+-- the same as bars: a window begins where a group does, and closes each group that its length reaches into
+unfoldable pub barOf : ℕ → ℕ → ℕ → Bool → Window → Bar
+barOf ms a n read w =
+    cond (read && sharesTone a n w)
+    (record {
+      period = w .period / ms;
+      phase = (allPeriods - w .start) / ms;
+      closed = (w .length + (unitsOfMs * ms - 1)) / (unitsOfMs * ms);
+    })
+    idle
+
+unfoldable pub barsOf : ℕ → ℕ → ℕ → Windows → Bars
+barsOf ms a n ws = record {
+  b1 = barOf ms a n (isRead ws 1) (ws .w1);
+  b2 = barOf ms a n (isRead ws 2) (ws .w2);
+  b3 = barOf ms a n (isRead ws 3) (ws .w3);
+  b4 = barOf ms a n (isRead ws 4) (ws .w4);
+}
+
+-- ---- refusals: 19 a fifth window, a number that is not listed, or tones past 47; 20 no group is ever free on the granted tones
+
+unfoldable pub windowsRefusal : ℕ → ℕ → ℕ → Windows → ℕ
+windowsRefusal ms a n ws =
+    cond (areListed ws)
+    (cond (ltb 0 (rank (isClear ms a n ws) (allPeriods / ms))) 0 20)
+    19
+
+-- ---- on the tones of a grant, by its spacing
+
+abbrev pub barsOn : ℕ → ℕ → ℕ → Windows → Bars
+barsOn spacing tone tones ws = barsOf (groupMs spacing) (narrowTones spacing * tone) (narrowTones spacing * tones) ws
+
+abbrev pub refusalOn : ℕ → ℕ → ℕ → Windows → ℕ
+refusalOn spacing tone tones ws = windowsRefusal (groupMs spacing) (narrowTones spacing * tone) (narrowTones spacing * tones) ws
+
+-- a slot that is sent keeps clear of them: its group overlaps none in time and tone
+abbrev pub keepsClear : ℕ → ℕ → ℕ → Windows → ℕ → Bool
+keepsClear spacing tone tones ws slot =
+    isClear (groupMs spacing) (narrowTones spacing * tone) (narrowTones spacing * tones) ws (slot / groupOf spacing)

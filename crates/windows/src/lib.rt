@@ -1,0 +1,186 @@
+// Random access windows, which push uplink slots aside: their refusals, and the groups of slots that they close.
+ghost use mathlib.Core.Bool.{Bool, true, not, _&&_, _||_};
+ghost use mathlib.Core.Path.{_≡_};
+ghost use Prim.Native.Nat.{_+_, _^_, _<_, _≤_};
+ghost use Rattle.bars.specs.Bars.{idle};
+ghost use Rattle.windows.specs.Windows.{isOneOf, periods, starts, repetitions, isListed, isRead, areListed, sharesTone, barOf, barsOf, windowsRefusal, barsOn, refusalOn};
+ghost use Rattle.grid.specs.Grid.{uplinkSubcarriers};
+use bars::Bar;
+use bars::Bars;
+
+// Windows begin at every t (in ms) equal to the start modulo the period; the length is in units of 1/30720 ms; twelve tones at 3.75 kHz from
+// `tone` on.
+pub struct Window {
+    pub period: u64,
+    pub start: u64,
+    pub length: u64,
+    pub tone: u64,
+}
+
+// How many windows there are, and the windows; those past the count are not read.
+pub struct Windows {
+    pub count: u64,
+    pub w1: Window,
+    pub w2: Window,
+    pub w3: Window,
+    pub w4: Window,
+}
+
+// A multiple of every period, and above every start.
+const ALL_PERIODS: u64 = 2560;
+
+const UNITS_OF_MS: u64 = 30_720;
+
+const TONES: u64 = 12;
+
+fn is_period(x: u64) -> bool
+    ensures { λ r. ⌜ r ≡ isOneOf periods x ⌝ }
+{
+    (x == 40)
+        | ((x == 80) | ((x == 160) | ((x == 320) | ((x == 640) | ((x == 1280) | (x == 2560))))))
+}
+
+fn is_start(x: u64) -> bool
+    ensures { λ r. ⌜ r ≡ isOneOf starts x ⌝ }
+{
+    (x == 8)
+        | ((x == 16)
+            | ((x == 32) | ((x == 64) | ((x == 128) | ((x == 256) | ((x == 512) | (x == 1024)))))))
+}
+
+// One repetition of a preamble format, or 2, 4, .. 64 of them.
+fn is_repeated(x: u64, one: u64) -> bool
+    requires { ⌜ one < 2 ^ 32 ⌝ }
+    ensures { λ r. ⌜ r ≡ isOneOf (repetitions one) x ⌝ }
+{
+    (x == one)
+        | ((x == 2 * one)
+            | ((x == 4 * one)
+                | ((x == 8 * one) | ((x == 16 * one) | ((x == 32 * one) | (x == 64 * one))))))
+}
+
+fn is_listed(w: Window) -> bool
+    ensures { λ r. ⌜ r ≡ isListed w ⌝ }
+{
+    let time = is_period(w.period) & is_start(w.start);
+    let length = is_repeated(w.length, 172_032) | is_repeated(w.length, 196_608);
+    time & (length & (w.tone <= 36))
+}
+
+// A window that is read is listed.
+fn is_sound(read: bool, w: Window) -> bool
+    ensures { λ r. ⌜ r ≡ (not read || isListed w) ⌝ }
+{
+    if read {
+        return is_listed(w);
+    }
+    true
+}
+
+// At most four windows, and each that is read is listed.
+fn are_listed(ws: Windows) -> bool
+    ensures { λ r. ⌜ r ≡ areListed ws ⌝ }
+{
+    let count = ws.count;
+    let front = is_sound(1 <= count, ws.w1) & is_sound(2 <= count, ws.w2);
+    let back = is_sound(3 <= count, ws.w3) & is_sound(4 <= count, ws.w4);
+    (count <= 4) & (front & back)
+}
+
+// A window that is read has one of `tones` tones from `tone` on.
+fn concerns(tone: u64, tones: u64, read: bool, w: Window) -> bool
+    requires { ⌜ (tone ≤ 48) × (tones ≤ 48) × (read ≡ true → isListed w ≡ true) ⌝ }
+    ensures { λ r. ⌜ r ≡ (read && sharesTone tone tones w) ⌝ }
+{
+    let from = w.tone;
+    if !read {
+        return false;
+    }
+    (tone < from + TONES) & (from < tone + tones)
+}
+
+// The groups, of ms milliseconds each, that a window closes to the tones.
+fn bar(ms: u64, tone: u64, tones: u64, read: bool, w: Window) -> Bar
+    requires { ⌜ (1 ≤ ms) × (ms ≤ 2) × (tone ≤ 48) × (tones ≤ 48) × (read ≡ true → isListed w ≡ true) ⌝ }
+    ensures { λ r. ⌜ r ≡ barOf ms tone tones read w ⌝ }
+{
+    if !concerns(tone, tones, read, w) {
+        return bars::idle();
+    }
+    let period = w.period;
+    let start = w.start;
+    let length = w.length;
+    let unit = UNITS_OF_MS * ms;
+    Bar {
+        period: period / ms,
+        phase: (ALL_PERIODS - start) / ms,
+        closed: (length + (unit - 1)) / unit,
+    }
+}
+
+// The groups that the windows close.
+fn bars_by(ms: u64, tone: u64, tones: u64, ws: Windows) -> Bars
+    requires { ⌜ (1 ≤ ms) × (ms ≤ 2) × (tone ≤ 48) × (tones ≤ 48) × (areListed ws ≡ true) ⌝ }
+    ensures { λ r. ⌜ r ≡ barsOf ms tone tones ws ⌝ }
+{
+    let count = ws.count;
+    Bars {
+        b1: bar(ms, tone, tones, 1 <= count, ws.w1),
+        b2: bar(ms, tone, tones, 2 <= count, ws.w2),
+        b3: bar(ms, tone, tones, 3 <= count, ws.w3),
+        b4: bar(ms, tone, tones, 4 <= count, ws.w4),
+    }
+}
+
+// 19, 20, or 0.
+fn refusal_by(ms: u64, tone: u64, tones: u64, ws: Windows) -> u64
+    requires { ⌜ (1 ≤ ms) × (ms ≤ 2) × (tone ≤ 48) × (tones ≤ 48) ⌝ }
+    ensures { λ r. ⌜ r ≡ windowsRefusal ms tone tones ws ⌝ }
+{
+    if !are_listed(ws) {
+        return 19;
+    }
+    let closed = bars_by(ms, tone, tones, ws);
+    if bars::is_some(bars::idle(), closed, ALL_PERIODS / ms) {
+        return 0;
+    }
+    20
+}
+
+// The groups that the windows close to a grant's tones, by its spacing.
+fn bars_on(spacing: u64, tone: u64, tones: u64, ws: Windows) -> Bars
+    requires { ⌜ (tone + tones ≤ uplinkSubcarriers spacing) × (areListed ws ≡ true) ⌝ }
+    ensures { λ r. ⌜ r ≡ barsOn spacing tone tones ws ⌝ }
+{
+    let scale = slots::narrow_tones(spacing);
+    bars_by(slots::group_ms(spacing), scale * tone, scale * tones, ws)
+}
+
+pub fn bars(spacing: u64, tone: u64, tones: u64, ws: Windows) -> Bars
+    requires { ⌜ (tone + tones ≤ uplinkSubcarriers spacing) × (areListed ws ≡ true) ⌝ }
+    ensures { λ r. ⌜ r ≡ barsOn spacing tone tones ws ⌝ }
+{
+    if ws.count == 0 {
+        return bars::none();
+    }
+    bars_on(spacing, tone, tones, ws)
+}
+
+// The windows' refusal of a grant, or 0.
+fn refusal_on(spacing: u64, tone: u64, tones: u64, ws: Windows) -> u64
+    requires { ⌜ tone + tones ≤ uplinkSubcarriers spacing ⌝ }
+    ensures { λ r. ⌜ r ≡ refusalOn spacing tone tones ws ⌝ }
+{
+    let scale = slots::narrow_tones(spacing);
+    refusal_by(slots::group_ms(spacing), scale * tone, scale * tones, ws)
+}
+
+pub fn refusal(spacing: u64, tone: u64, tones: u64, ws: Windows) -> u64
+    requires { ⌜ tone + tones ≤ uplinkSubcarriers spacing ⌝ }
+    ensures { λ r. ⌜ r ≡ refusalOn spacing tone tones ws ⌝ }
+{
+    if ws.count == 0 {
+        return 0;
+    }
+    refusal_on(spacing, tone, tones, ws)
+}
