@@ -36,8 +36,9 @@ pub struct AckFields {
 // The last subframe in which the NPDSCH may end.
 const LAST_SUBFRAME: u64 = 2_147_483_647;
 
-// The delays at 15 kHz, 13, 15, 17 and 18, by bytes.
-const WIDE_DELAYS: u64 = 0x1211_0f0d;
+const NARROW_DELAYS: [u64; 2] = [13, 21];
+
+const WIDE_DELAYS: [u64; 4] = [13, 15, 17, 18];
 
 fn fields_of(g: AckGrant) -> AckFields
     ensures { λ r. ⌜ r ≡ fieldsOf g ⌝ }
@@ -107,8 +108,8 @@ fn delay(spacing: u64, field: u64) -> u64
     requires { ⌜ field ≤ 15 ⌝ }
     ensures { λ r. ⌜ r ≡ delayOf spacing field ⌝ }
 {
-    let narrow = 13 + 8 * (field / 8);
-    let wide = (WIDE_DELAYS >> (8 * (field / 4))) % 256;
+    let narrow = NARROW_DELAYS[(field / 8) as usize];
+    let wide = WIDE_DELAYS[(field / 4) as usize];
     slots::by_spacing(spacing, narrow, wide)
 }
 

@@ -60,14 +60,6 @@ downlink-delay-bound rmax k h = by (ltb rmax 128)
     by true = between-is 0 1024 (entry shortDelays k) (row-at shortDelays 8 (between 0 1024) tt k h) .1
     by false = between-is 0 1024 (entry longDelays k) (row-at longDelays 8 (between 0 1024) tt k h) .1
 
--- ---- rows of powers of two
-
-pub copies-power : (k : ℕ) → k < 8 → 2 ^ k ≡ entry uplinkCopies k
-copies-power k h = eqb→eq (2 ^ k) (entry uplinkCopies k) (each-at 8 (λ k. eqb (2 ^ k) (entry uplinkCopies k)) tt k h)
-
-pub delay-power : (k : ℕ) → k < 4 → 8 * 2 ^ k ≡ entry uplinkDelays k
-delay-power k h = eqb→eq (8 * 2 ^ k) (entry uplinkDelays k) (each-at 4 (λ k. eqb (8 * 2 ^ k) (entry uplinkDelays k)) tt k h)
-
 -- ---- copies in a row divide the copies (for the copy order)
 
 pub downlink-row-splits : (k : ℕ) → k < 16 → entry downlinkCopies k % upToFour (entry downlinkCopies k) ≡ 0

@@ -28,6 +28,10 @@ const SHORT_DELAYS: [u8; 8] = [0, 4, 8, 12, 16, 32, 64, 128];
 
 const LONG_DELAYS: [u16; 8] = [0, 16, 32, 64, 128, 256, 512, 1024];
 
+const UPLINK_COPIES: [u8; 8] = [1, 2, 4, 8, 16, 32, 64, 128];
+
+const UPLINK_DELAYS: [u8; 4] = [8, 16, 32, 64];
+
 const SIZES: [[u16; 8]; 5] = [
     [16, 32, 56, 88, 120, 152, 208, 256],
     [24, 56, 88, 144, 176, 208, 256, 344],
@@ -79,20 +83,19 @@ pub fn downlink_delay(rmax: u64, field: u64) -> u64
     wide(LONG_DELAYS[field as usize])
 }
 
-// 1, 2, 4 and so on to 128.
 pub fn uplink_copies(field: u64) -> u64
     requires { ⌜ field < 8 ⌝ }
     ensures { λ r. ⌜ r ≡ entry uplinkCopies field ⌝ }
 {
-    counting::power_of_two(field)
+    byte(UPLINK_COPIES[field as usize])
 }
 
-// The delay in subframes: 8, 16, 32, 64.
+// The delay in subframes.
 pub fn uplink_delay(field: u64) -> u64
     requires { ⌜ field < 4 ⌝ }
     ensures { λ r. ⌜ r ≡ entry uplinkDelays field ⌝ }
 {
-    8 * counting::power_of_two(field)
+    byte(UPLINK_DELAYS[field as usize])
 }
 
 // The size of a transport block.
