@@ -1,7 +1,7 @@
 -- What acceptance says of an acknowledgement's numbers, and that its shape then fits.
 use mathlib.Core.Bool.{Bool, true, false, cond, _&&_}
-use mathlib.Core.Path.{_≡_, refl, ap₂, _∙_}
-use Prim.Native.Nat.{ℕ, zero, suc, _+_, _-_, _%_, _^_, _≤_, _<_}
+use mathlib.Core.Path.{_≡_, refl, sym, ap, _∙_}
+use Prim.Native.Nat.{ℕ, zero, suc, _+_, _-_, _%_, _≤_, _/_}
 use native.Mathlib.Nat.{mod-one}
 use native.Mathlib.Omega.{arith}
 use lib.Dec.{T, eqb, leb, ltb, leb→le, eqb→eq}
@@ -10,21 +10,22 @@ use Rattle.counting.proofs.Facts.{passed, after-first, first-alone, either-part
 use Rattle.grid.specs.Grid.{uplinkSubcarriers}
 use Rattle.grid.specs.Tables.{entry, uplinkCopies}
 use Rattle.grid.proofs.Rules.{parts, uplink-copies-bounds}
-use Rattle.bars.specs.declared.Bars.{Bars}
-use Rattle.bars.specs.Bars.{noBars}
-use Rattle.slots.specs.Fits.{Fits}
-use Rattle.slots.specs.Quick.{barred}
-use Rattle.slots.specs.Numerology.{groupMs}
-use Rattle.slots.proofs.Spacing.{first-bound, by-spacing-bounds, block-is, gap-is}
+use Rattle.slots.specs.Timing.{allOpen}
+use Rattle.slots.specs.Fits.{Fits, Leaves}
+use Rattle.slots.specs.Quick.{sized}
+use Rattle.slots.proofs.Spacing.{first-bound, by-spacing-bounds, spaced}
+use Rattle.windows.specs.declared.Verdict.{Verdict}
 use Rattle.windows.specs.Windows.{none}
-use Rattle.windows.proofs.Closing.{none-refused, none-bars}
-use Rattle.windows.proofs.Spaced.{left, ms-within}
+use Rattle.slots.specs.Numerology.{groupMs}
+use Rattle.windows.specs.Quick.{Judged}
+use Rattle.slots.specs.Quick.{Parted}
+use Rattle.windows.proofs.Spaced.{leaves, parted, none-refuses, none-closes}
 use Rattle.acknowledgement.specs.declared.AckFields.{AckFields}
 use Rattle.acknowledgement.specs.Quick.{fieldsOf, unwindowed}
 use Rattle.acknowledgement.specs.declared.AckGrant.{AckGrant}
 use Rattle.acknowledgement.specs.Fields.{toneOf, delayOf}
 use Rattle.acknowledgement.specs.Refusals.{lastSubframe, aboveLargest, windowed, fieldsRefusal, refusal}
-use Rattle.acknowledgement.specs.Shaping.{unitSlots, shapeOf}
+use Rattle.acknowledgement.specs.Shaping.{unitSlots, shapeOf, openOf}
 
 -- every number in its range
 pub record InRange (g : AckGrant) : Type 0 where
@@ -107,47 +108,51 @@ whole-groups : (b : Bool) → unitSlots % cond b 1 2 ≡ 0
 whole-groups true = refl
 whole-groups false = refl
 
-pub fits : (g : AckGrant) → refusal g ≡ 0 → Fits (shapeOf g)
+module _ (g : AckGrant) (e : refusal g ≡ 0) where
+  pub fits : Fits (shapeOf g)
+  unfolding shapeOf
+  fits =
+      let a = accepted g e .range in
+      let f = named (g .spacing) (g .field) (a .spacing) (a .field) in
+      let copies = uplink-copies-bounds (g .copies) (omega (arith, a .copies)) in
+      let reference = by-spacing-bounds (g .spacing) 0 2 in
+      let by = spaced (g .spacing) (g .n + delayOf (g .spacing) (g .field) - 1) in
+      record {
+        block = by .block;
+        tones = omega arith;
+        codeword = omega arith;
+        copies = copies .0;
+        row = omega arith;
+        group = by .group;
+        references = omega arith;
+        withinSymbols = omega (arith, reference .1);
+        withinTones = f .inside;
+        passes = mod-one (entry uplinkCopies (g .copies));
+        groups = whole-groups (eqb (g .spacing) 0);
+        wholeFirst = by .wholeFirst;
+        wholeBlock = by .wholeBlock;
+        wholeGap = by .wholeGap;
+        firstSmall = omega (arith, a .early, first-bound (g .spacing) (g .n + delayOf (g .spacing) (g .field) - 1), f .small);
+        blockSmall = by .blockSmall;
+        gapSmall = by .gapSmall;
+        subcarriersSmall = by .subcarriersSmall;
+        codewordSmall = omega arith;
+        copiesSmall = omega (arith, copies .1);
+        rowSmall = omega arith;
+        groupSmall = by .groupSmall;
+      }
+
+  -- what the windows leave
+  pub leaves-open : Leaves (shapeOf g) (openOf g)
+  unfolding shapeOf
+  leaves-open =
+      let a = accepted g e in
+      leaves (shapeOf g) (g .spacing) (toneOf (g .spacing) (g .field)) 1 (g .windows) (a .range .spacing) refl refl refl (a .windows)
+
+-- its rounds, in parts of 8 ms
+pub parted-of : (g : AckGrant) → Parted (shapeOf g) (8 / groupMs (g .spacing))
 unfolding shapeOf
-fits g e =
-    let a = accepted g e in
-    let f = named (g .spacing) (g .field) (a .range .spacing) (a .range .field) in
-    let copies = uplink-copies-bounds (g .copies) (omega (arith, a .range .copies)) in
-    let group = by-spacing-bounds (g .spacing) 1 2 in
-    let reference = by-spacing-bounds (g .spacing) 0 2 in
-    let block = by-spacing-bounds (g .spacing) 128 512 in
-    let gap = by-spacing-bounds (g .spacing) 20 80 in
-    let l = left (shapeOf g) (g .spacing) (g .n + delayOf (g .spacing) (g .field) - 1) (toneOf (g .spacing) (g .field)) 1 (g .windows) (a .range .spacing)
-    refl refl refl refl refl (a .windows) in
-    record {
-      block = omega (arith, block .0, block-is (eqb (g .spacing) 0));
-      tones = omega arith;
-      codeword = omega arith;
-      copies = copies .0;
-      row = omega arith;
-      group = omega (arith, group .0);
-      references = omega arith;
-      withinSymbols = omega (arith, reference .1);
-      withinTones = f .inside;
-      passes = mod-one (entry uplinkCopies (g .copies));
-      groups = whole-groups (eqb (g .spacing) 0);
-      wholeFirst = l .wholeFirst;
-      wholeBlock = l .wholeBlock;
-      wholeGap = l .wholeGap;
-      again = l .again;
-      some = l .some;
-      bars = l .bars;
-      short = l .short;
-      shortSmall = l .shortSmall;
-      firstSmall = omega (arith, a .range .early, first-bound (g .spacing) (g .n + delayOf (g .spacing) (g .field) - 1), f .small);
-      blockSmall = omega (arith, block .1, block-is (eqb (g .spacing) 0));
-      gapSmall = omega (arith, gap .1, gap-is (eqb (g .spacing) 0));
-      subcarriersSmall = omega (arith, by-spacing-bounds (g .spacing) (uplinkSubcarriers 0) (uplinkSubcarriers 1) .1);
-      codewordSmall = omega arith;
-      copiesSmall = omega (arith, copies .1);
-      rowSmall = omega arith;
-      groupSmall = omega (arith, group .1);
-    }
+parted-of g = parted (shapeOf g) (g .spacing) refl refl refl
 
 -- ---- a grant by its fields
 
@@ -156,27 +161,29 @@ module _ (g : AckGrant) where
   unfolding fieldsRefusal
   same-fields = refl
 
-  pub fields-pass : refusal g ≡ 0 → fieldsRefusal (unwindowed (fieldsOf g)) ≡ 0
-  fields-pass e = same-fields ∙ in-range-passes g (accepted g e .range)
-
-  -- its shape, by its fields and the groups that its windows close
-  pub same-shape : (f : AckFields) (b : Bars) → f ≡ fieldsOf g → b ≡ shapeOf g .bars → barred (shapeOf (unwindowed f)) b ≡ shapeOf g
+  -- its size and its order are 1
+  pub sized-own : sized (shapeOf g) 1 1 ≡ shapeOf g
   unfolding shapeOf
-  same-shape f b hf hb = ap₂ (λ (x : AckFields) (y : Bars). barred (shapeOf (unwindowed x)) y) hf hb
+  sized-own = refl
+
+  module _ (f : AckFields) (h : f ≡ fieldsOf g) where
+    -- its shape
+    pub same-shape : shapeOf (unwindowed f) ≡ sized (shapeOf g) 1 1
+    unfolding shapeOf
+    same-shape = ap (λ (x : AckFields). shapeOf (unwindowed x)) h
+
+    -- accepted by its verdict, so its fields are
+    pub fields-clear : (v : Verdict) → Judged (8 / groupMs (g .spacing)) (refusal g) (openOf g) v → v .no ≡ 0 → fieldsRefusal (unwindowed f) ≡ 0
+    fields-clear v j z =
+        ap (λ (x : AckFields). fieldsRefusal (unwindowed x)) h ∙ same-fields
+        ∙ in-range-passes g (accepted g (sym (j .number) ∙ z) .range)
 
 -- ---- fields with no window
 
 module _ (f : AckFields) where
-  plain-windowed : windowed (unwindowed f) ≡ 0
-  plain-windowed = let w = ms-within (f .spacing) in none-refused (groupMs (f .spacing)) _ _ none refl (w .0) (w .1)
-
   pub plain-refusal : fieldsRefusal (unwindowed f) ≡ refusal (unwindowed f)
   unfolding refusal
-  plain-refusal = first-alone (fieldsRefusal (unwindowed f)) (windowed (unwindowed f)) plain-windowed
+  plain-refusal = first-alone (fieldsRefusal (unwindowed f)) (windowed (unwindowed f)) (none-refuses (f .spacing) _ _ none refl)
 
-  plain-bars : noBars ≡ shapeOf (unwindowed f) .bars
-  unfolding shapeOf
-  plain-bars = none-bars (groupMs (f .spacing)) _ _ none refl
-
-  pub plain-shape : (b : Bars) → b ≡ noBars → barred (shapeOf (unwindowed f)) b ≡ shapeOf (unwindowed f)
-  plain-shape b e = same-shape (unwindowed f) f b refl (e ∙ plain-bars)
+  pub plain-open : (u : ℕ) → allOpen u ≡ openOf (unwindowed f) u
+  plain-open u = none-closes (f .spacing) _ _ none refl u

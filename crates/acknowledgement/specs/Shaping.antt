@@ -1,10 +1,11 @@
--- The shape of an acknowledgement on NPUSCH format 2: 02 L1, L4.
+-- The shape of an acknowledgement on NPUSCH format 2, and the groups that are open to it: 02 L1, L4.
+use mathlib.Core.Bool.{Bool}
 use Prim.Native.Nat.{ℕ, _+_, _-_}
 use Rattle.grid.specs.Grid.{uplinkSubcarriers}
 use Rattle.grid.specs.Tables.{entry, uplinkCopies}
 use Rattle.slots.specs.declared.Shape.{Shape}
 use Rattle.slots.specs.Numerology.{bySpacing, slotsIn, firstAfter, groupOf}
-use Rattle.windows.specs.Windows.{barsOn}
+use Rattle.windows.specs.Windows.{openTo}
 use Rattle.acknowledgement.specs.declared.AckGrant.{AckGrant}
 use Rattle.acknowledgement.specs.Fields.{toneOf, delayOf}
 
@@ -40,5 +41,8 @@ shapeOf g = record {
   references = references;
   size = 1;
   order = 1;
-  bars = barsOn (g .spacing) (toneOf (g .spacing) (g .field)) 1 (g .windows);
 }
+
+-- group u overlaps no random access window in time and tone
+abbrev pub openOf : AckGrant → ℕ → Bool
+openOf g = openTo (g .spacing) (toneOf (g .spacing) (g .field)) 1 (g .windows)

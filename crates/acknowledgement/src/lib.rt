@@ -1,18 +1,19 @@
 // Acknowledgements on NPUSCH format 2: the grant's refusals, its shape, and the questions on it.
 ghost use mathlib.Core.Path.{_≡_};
-ghost use Prim.Native.Nat.{_≤_};
+ghost use Prim.Native.Nat.{_≤_, _/_};
 ghost use Rattle.acknowledgement.specs.Fields.{toneOf, delayOf};
 ghost use Rattle.acknowledgement.specs.Quick.{fieldsOf, unwindowed};
 ghost use Rattle.acknowledgement.specs.Refusals.{aboveLargest, fieldsRefusal, refusal};
-ghost use Rattle.slots.specs.Quick.{barred};
-ghost use Rattle.acknowledgement.specs.Shaping.{startOf, referenceOf, shapeOf};
+ghost use Rattle.slots.specs.Numerology.{groupMs};
+ghost use Rattle.windows.specs.Quick.{Judged};
+ghost use Rattle.acknowledgement.specs.Shaping.{startOf, referenceOf, shapeOf, openOf};
 ghost use Rattle.acknowledgement.specs.Questions.{planOf, forwardOf, backwardOf};
-use bars::Bars;
 use grid::UplinkGrid;
 use sending::Back;
 use slots::Shape;
 use slots::UplinkPlace;
 use slots::UplinkPlan;
+use windows::Verdict;
 use windows::Windows;
 
 // The NPDSCH that is answered ends in subframe n; the rest are fields, one of them the 4-bit field of tone and delay,
@@ -75,25 +76,16 @@ fn judge_fields(f: AckFields) -> u64
     0
 }
 
-// The number with which a grant is refused, or 0.
-fn judge(g: AckGrant) -> u64
-    ensures { λ r. ⌜ r ≡ refusal g ⌝ }
+// The verdict on a grant: the fields' number, or the windows' verdict.
+fn judge(g: AckGrant) -> Verdict
+    ensures { λ r. ⌜ Judged (8 / groupMs (g .spacing)) (refusal g) (openOf g) r ⌝ }
 {
     let spacing = g.spacing;
     let no = judge_fields(fields_of(g));
     if no != 0 {
-        return no;
+        return windows::unbarred(no);
     }
-    windows::refusal(spacing, tone(spacing, g.field), 1, g.windows)
-}
-
-// The groups that the windows of an accepted grant close.
-fn closed(g: AckGrant) -> Bars
-    requires { ⌜ refusal g ≡ 0 ⌝ }
-    ensures { λ r. ⌜ r ≡ shapeOf g .bars ⌝ }
-{
-    let spacing = g.spacing;
-    windows::bars(spacing, tone(spacing, g.field), 1, g.windows)
+    windows::judge(spacing, tone(spacing, g.field), 1, g.windows)
 }
 
 // The tone that the field names.
@@ -131,9 +123,9 @@ fn reference(spacing: u64) -> u64
 }
 
 // The shape of accepted fields.
-fn shape(f: AckFields, bars: Bars) -> Shape
+fn shape(f: AckFields) -> Shape
     requires { ⌜ fieldsRefusal (unwindowed f) ≡ 0 ⌝ }
-    ensures { λ r. ⌜ r ≡ barred (shapeOf (unwindowed f)) bars ⌝ }
+    ensures { λ r. ⌜ r ≡ shapeOf (unwindowed f) ⌝ }
 {
     let spacing = f.spacing;
     Shape {
@@ -151,7 +143,6 @@ fn shape(f: AckFields, bars: Bars) -> Shape
         references: 3,
         size: 1,
         order: 1,
-        bars,
     }
 }
 
@@ -159,11 +150,11 @@ fn shape(f: AckFields, bars: Bars) -> Shape
 pub fn plan(g: AckGrant) -> UplinkPlan
     ensures { λ r. ⌜ r ≡ planOf g ⌝ }
 {
-    let no = judge(g);
-    if no != 0 {
-        return slots::refused_plan(no);
+    let v = judge(g);
+    if v.no != 0 {
+        return slots::refused_plan(v.no);
     }
-    slots::plan(shape(fields_of(g), closed(g)))
+    slots::plan(shape(fields_of(g)), v.levels)
 }
 
 pub fn plain_plan(f: AckFields) -> UplinkPlan
@@ -173,20 +164,20 @@ pub fn plain_plan(f: AckFields) -> UplinkPlan
     if no != 0 {
         return slots::refused_plan(no);
     }
-    slots::plain_plan(shape(f, bars::none()))
+    slots::plain_plan(shape(f))
 }
 
 // The place of position p, and the symbol there.
 pub fn forward(g: AckGrant, p: u64) -> UplinkPlace
     ensures { λ r. ⌜ r ≡ forwardOf g p ⌝ }
 {
-    let no = judge(g);
-    if no != 0 {
-        return slots::refused_place(no);
+    let v = judge(g);
+    if v.no != 0 {
+        return slots::refused_place(v.no);
     }
-    let s = shape(fields_of(g), closed(g));
+    let s = shape(fields_of(g));
     let at = slots::taken_apart(s, p);
-    slots::forward(s, p, at, slots::slot_at(s, at.i))
+    slots::forward(s, p, at, slots::slot_at(s, v.levels, at.i))
 }
 
 pub fn plain_forward(f: AckFields, p: u64) -> UplinkPlace
@@ -196,7 +187,7 @@ pub fn plain_forward(f: AckFields, p: u64) -> UplinkPlace
     if no != 0 {
         return slots::refused_place(no);
     }
-    let s = shape(f, bars::none());
+    let s = shape(f);
     let at = slots::taken_apart(s, p);
     slots::forward(s, p, at, slots::plain_slot_at(s, at.i))
 }
@@ -205,12 +196,12 @@ pub fn plain_forward(f: AckFields, p: u64) -> UplinkPlace
 pub fn backward(g: AckGrant, slot: u64, l: u64, k: u64) -> Back
     ensures { λ r. ⌜ r ≡ backwardOf g slot l k ⌝ }
 {
-    let no = judge(g);
-    if no != 0 {
-        return sending::refused(no);
+    let v = judge(g);
+    if v.no != 0 {
+        return sending::refused(v.no);
     }
-    let s = shape(fields_of(g), closed(g));
-    slots::backward(s, slot, slots::locate(s, slot), l, k)
+    let s = shape(fields_of(g));
+    slots::backward(s, slot, slots::locate(s, v.levels, slot), l, k)
 }
 
 pub fn plain_backward(f: AckFields, slot: u64, l: u64, k: u64) -> Back
@@ -220,6 +211,6 @@ pub fn plain_backward(f: AckFields, slot: u64, l: u64, k: u64) -> Back
     if no != 0 {
         return sending::refused(no);
     }
-    let s = shape(f, bars::none());
+    let s = shape(f);
     slots::backward(s, slot, slots::plain_locate(s, slot), l, k)
 }

@@ -1,21 +1,17 @@
 -- What a search among n numbers tells, and whole cycles by division.
 use mathlib.Core.Bool.{Bool, true, false, not}
 use mathlib.Core.Path.{_≡_, refl, sym, ap, _∙_}
-use mathlib.Core.Logic.{⊎-elim}
 use Prim.Native.Nat.{ℕ, _+_, _-_, _*_, _/_, _≤_, _<_}
-use native.Mathlib.Nat.{zero-add, zero-mul, div-mul-le-self, mod-lt, mod-eq-sub-div-mul, mul-le-mul-left}
+use native.Mathlib.Nat.{div-mul-le-self, mod-lt, mod-eq-sub-div-mul, mul-le-mul-left}
 use native.Mathlib.Omega.{arith}
-use lib.Dec.{ltb}
-use borrow.Author.Tests.{lt-ltb, le-ltb}
 use Rattle.counting.specs.Counting.{rank, select, Nth}
-use Rattle.counting.proofs.Facts.{order}
-use Rattle.counting.proofs.Rank.{rank-zero, rank-not, rank-mono, rank-strict}
+use Rattle.counting.proofs.Rank.{rank-le, rank-not, rank-mono, rank-strict}
 use Rattle.counting.proofs.Select.{nth-of}
 use Rattle.counting.proofs.Period.{rank-period, rank-periods, repeats-times, is-select}
 use Rattle.bars.specs.declared.Sight.{Sight}
 use Rattle.bars.specs.declared.Standing.{Standing}
-use Rattle.bars.specs.Bars.{Cyclic}
-use Rattle.bars.specs.Quick.{Scanned, Stands}
+use Rattle.bars.specs.declared.Cycle.{Cycle}
+use Rattle.bars.specs.Quick.{Repeats, Scanned, Stands}
 
 module _ (u : ℕ → Bool) where
   -- no more than all numbers pass
@@ -46,35 +42,25 @@ module _ (u : ℕ → Bool) where
       let e = s .missed (missed-is t n n r s (omega (arith, near t (t + n) (omega arith)))) in
       (omega (arith, rank-mono u t (t + n) (omega arith)), omega (arith, rank-mono u t (t + n) (omega arith)))
 
-  pub is-some : (n : ℕ) (r : Sight) → Scanned u 0 n 0 r → r .found ≡ ltb 0 (rank u n)
-  is-some n r s = ⊎-elim
-      (λ (h : 0 < rank u n). found-is 0 n 0 r s (omega (arith, rank-zero u, z)) ∙ sym (lt-ltb 0 (rank u n) h))
-      (λ (h : rank u n ≤ 0). missed-is 0 n 0 r s (omega (arith, rank-zero u, z)) ∙ sym (le-ltb 0 (rank u n) h))
-      (order 0 (rank u n))
-    where
-      z : rank u (0 + n) ≡ rank u n
-      z = ap (rank u) (zero-add n)
+  module _ (c : Cycle) (cy : Repeats u c) (t : ℕ) where
+    abbrev cycle : ℕ
+    cycle = c .length
 
-  module _ (cycle : ℕ) (cy : Cyclic u cycle) (t : ℕ) where
+    abbrev per : ℕ
+    per = c .free
+
     whole-cycle : rank u (t + cycle) ≡ rank u t + rank u cycle
     whole-cycle = rank-period u cycle (cy .again) t
 
-    pub first-is : (j : ℕ) (r : Sight) → Scanned u t cycle j r → r .found ≡ true → r .at ≡ select u cycle t j
-    first-is j r s e = is-select u cycle (cy .again) (cy .some) t j (r .at) (s .found e .0)
+    pub some-per : 0 < per
+    some-per = omega (arith, cy .some, cy .free)
 
-    -- past a cycle, the search has counted what a cycle has
-    pub per-is : (j : ℕ) (r : Sight) → Scanned u t cycle j r → r .found ≡ false → (r .left ≤ j) × (j - r .left ≡ rank u cycle)
-    per-is j r s e = (omega (arith, s .missed e, whole-cycle), omega (arith, s .missed e, whole-cycle))
-
-    module _ (j per : ℕ) (h : per ≡ rank u cycle) where
-      pub some-per : 0 < per
-      some-per = omega (arith, cy .some)
-
+    module _ (j : ℕ) where
       pub rest-fits : j / per * per ≤ j
       rest-fits = div-mul-le-self j per
 
       rest-below : j - j / per * per < rank u cycle
-      rest-below = omega (arith, mod-eq-sub-div-mul j per, mod-lt j some-per)
+      rest-below = omega (arith, mod-eq-sub-div-mul j per, mod-lt j some-per, cy .free)
 
       module _ (r : Sight) (s : Scanned u t cycle (j - j / per * per) r) where
         found : r .found ≡ true
@@ -87,19 +73,22 @@ module _ (u : ℕ → Bool) where
         jumped =
             let n = s .found found .0 in
             let q : ℕ = j / per in
-            let c : q * per ≡ q * rank u cycle = ap (λ (x : ℕ). q * x) h in
+            let e : q * per ≡ q * rank u cycle = ap (λ (x : ℕ). q * x) (cy .free) in
             is-select u cycle (cy .again) (cy .some) t j (r .at + q * cycle)
             (nth-of u t j (r .at + q * cycle) (repeats-times u cycle (cy .again) q (r .at) ∙ n .passes)
             (omega (arith, rank-periods u cycle (cy .again) q (r .at), n .before, rest-fits)))
 
     -- ---- y past t: whole cycles, then the rest
 
-    module _ (y : ℕ) (some : 0 < cycle) where
+    pub some-length : 0 < cycle
+    some-length = omega (arith, cy .some, rank-le u cycle)
+
+    module _ (y : ℕ) where
       pub cycles-fit : y / cycle * cycle ≤ y
       cycles-fit = div-mul-le-self y cycle
 
       pub rest-small : y - y / cycle * cycle < cycle
-      rest-small = omega (arith, mod-eq-sub-div-mul y cycle, mod-lt y some)
+      rest-small = omega (arith, mod-eq-sub-div-mul y cycle, mod-lt y some-length)
 
       abbrev x : ℕ
       x = t + (y - y / cycle * cycle)
@@ -107,21 +96,15 @@ module _ (u : ℕ → Bool) where
       on : x + y / cycle * cycle ≡ t + y
       on = omega (arith, cycles-fit)
 
-      pub stands : (free : Bool) (before per index : ℕ) → free ≡ u x → rank u t + before ≡ rank u x → rank u t + per ≡ rank u (t + cycle)
-          → index ≡ y / cycle * per + before → Stands u t y (record { free = free; index = index })
-      stands free before per index f b p i =
-          let c : y / cycle * per ≡ y / cycle * rank u cycle = ap (λ (z : ℕ). y / cycle * z) (omega (arith, whole-cycle)) in
+      pub stands : (free : Bool) (before : ℕ) → free ≡ u x → rank u t + before ≡ rank u x → Stands u t y (record { free = free; index = y / cycle * per + before })
+      stands free before f b =
+          let e : y / cycle * per ≡ y / cycle * rank u cycle = ap (λ (z : ℕ). y / cycle * z) (cy .free) in
           record {
             says = f ∙ sym (repeats-times u cycle (cy .again) (y / cycle) x) ∙ ap u on;
             index = omega (arith, rank-periods u cycle (cy .again) (y / cycle) x, ap (rank u) on);
           }
 
-      -- within the first cycle
-      pub stands-first : (free : Bool) (before : ℕ) → y / cycle ≡ 0 → free ≡ u x → rank u t + before ≡ rank u x
-          → Stands u t y (record { free = free; index = before })
-      stands-first free before z f b =
-          stands free before (rank u cycle) before f b (sym whole-cycle)
-          (sym (ap (λ (q : ℕ). q * rank u cycle + before) z ∙ ap (λ (q : ℕ). q + before) (zero-mul (rank u cycle)) ∙ zero-add before))
-
-      pub index-fits : (before per : ℕ) → before ≤ y - y / cycle * cycle → per ≤ cycle → y / cycle * per + before ≤ y
-      index-fits before per b p = omega (arith, mul-le-mul-left (y / cycle) p, cycles-fit)
+      pub index-fits : (before : ℕ) → before ≤ y - y / cycle * cycle → y / cycle * per + before ≤ y
+      index-fits before b =
+          let p : per ≤ cycle = omega (arith, cy .free, rank-le u cycle) in
+          omega (arith, mul-le-mul-left (y / cycle) p, cycles-fit)

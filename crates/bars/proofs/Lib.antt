@@ -1,2 +1,5 @@
-pub mod Running
+pub mod Ordering
+pub mod Leveling
+pub mod Rounding
+pub mod Spreading
 pub mod Cycles

@@ -1,9 +1,7 @@
 -- Bars: each closes the first so many numbers of each of its periods. Free is what no bar closes.
 use mathlib.Core.Bool.{Bool, not, _&&_}
-use mathlib.Core.Path.{_≡_}
-use Prim.Native.Nat.{ℕ, _+_, _%_, _<_}
+use Prim.Native.Nat.{ℕ, _+_, _%_}
 use lib.Dec.{ltb}
-use Rattle.counting.specs.Counting.{rank}
 use Rattle.bars.specs.declared.Bar.{Bar}
 use Rattle.bars.specs.declared.Bars.{Bars}
 
@@ -21,11 +19,6 @@ clear b t = (leaves (b .b1) t && leaves (b .b2) t) && (leaves (b .b3) t && leave
 -- nor does a fifth
 unfoldable pub isFree : Bar → Bars → ℕ → Bool
 isFree gap b t = leaves gap t && clear b t
-
--- the test repeats with the cycle, and something passes
-pub record Cyclic (u : ℕ → Bool) (cycle : ℕ) : Type 0 where
-  pub again : (t : ℕ) → u (t + cycle) ≡ u t
-  pub some : 0 < rank u cycle
 
 -- a bar that closes nothing
 abbrev pub idle : Bar

@@ -23,7 +23,7 @@ use Rattle.subframes.specs.Cells.{layoutOf, elementCountOf}
 use Rattle.subframes.specs.Mapping as subframes
 use Rattle.uplink.specs.declared.UplinkGrant.{UplinkGrant}
 use Rattle.uplink.specs.Fields.{firstTone, unitSlots}
-use Rattle.uplink.specs.Shaping.{shapeOf, grantTones}
+use Rattle.uplink.specs.Shaping.{shapeOf, openOf, grantTones}
 use Rattle.uplink.specs.Questions as npusch
 use Rattle.acknowledgement.specs.declared.AckGrant.{AckGrant}
 use Rattle.acknowledgement.specs.Fields.{toneOf}
@@ -121,7 +121,7 @@ abbrev pub uplinkGranted : UplinkGrant → Granted
 uplinkGranted g = record {
   copies = entry uplinkCopies (g .copies);
   symbols = entry lengths (g .units) * unitSlots (grantTones g) * (grantTones g * dataSymbols);
-  sending = slots.sendingOf (shapeOf g);
+  sending = slots.sendingOf (shapeOf g) (openOf g);
 }
 
 -- an acknowledgement: 4 slots of one tone, and of the seven l of a slot three are reference symbols
@@ -132,7 +132,7 @@ abbrev pub ackGranted : AckGrant → Granted
 ackGranted g = record {
   copies = entry uplinkCopies (g .copies);
   symbols = 4 * ackDataSymbols;
-  sending = slots.sendingOf (ack-shaping.shapeOf g);
+  sending = slots.sendingOf (ack-shaping.shapeOf g) (ack-shaping.openOf g);
 }
 
 -- ---- the promises

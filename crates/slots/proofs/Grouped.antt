@@ -3,9 +3,9 @@ use mathlib.Core.Bool.{Bool, true, false, not, _&&_}
 use mathlib.Core.Path.{_≡_, refl, sym, ap, ap₂, subst, _∙_}
 use mathlib.Core.Logic.{⊎-elim}
 use Prim.Native.Nat.{ℕ, _+_, _-_, _*_, _/_, _%_, _^_, _≤_, _<_}
-use native.Mathlib.Nat.{zero-add, zero-mul, div-le-self, div-mul-le-self, mod-eq-sub-div-mul, one-mul, mul-zero, add-mul, mul-assoc, mod-lt, mod-eq-of-lt, mod-add-mod, add-mod-right, add-mul-mod-self-right, div-add-mod', mul-div-cancel, mul-le-mul, mul-le-mul-right}
+use native.Mathlib.Nat.{zero-add, zero-mul, zero-mod, div-le-self, div-mul-le-self, mod-eq-sub-div-mul, one-mul, mul-zero, mul-left-comm, mul-mod-left, add-mul, mul-assoc, mod-lt, mod-eq-of-lt, mod-add-mod, add-mod-right, add-mul-mod-self-right, div-add-mod', mul-div-cancel, mul-le-mul, mul-le-mul-right}
 use native.Mathlib.Omega.{arith}
-use lib.Dec.{ltb}
+use lib.Dec.{ltb, lit<}
 use lib.Arith.{digits-lt, digits-div, digits-mod, mod-mul}
 use mir.Val.{boolByte}
 use borrow.Author.Tests.{lt-ltb, le-ltb}
@@ -17,13 +17,18 @@ use Rattle.counting.proofs.Rows.{rank-rows}
 use Rattle.counting.proofs.Select.{nth-of, next-is}
 use Rattle.counting.proofs.Period.{rank-period, repeats-times, some-of, select-is, is-select, select-below, select-same}
 use Rattle.bars.specs.declared.Bar.{Bar}
+use Rattle.bars.specs.declared.Bars.{Bars}
 use Rattle.bars.specs.declared.Standing.{Standing}
-use Rattle.bars.specs.Bars.{shut, leaves, clear, isFree, Cyclic}
-use Rattle.bars.specs.Quick.{Usable, Stands, longestOf}
+use Rattle.bars.specs.Bars.{shut, leaves, clear, isFree}
+use Rattle.bars.specs.declared.Levels.{Levels}
+use Rattle.bars.specs.declared.Cycle.{Cycle}
+use Rattle.bars.specs.Quick.{Usable, Begins, Repeats, Stands}
+use Rattle.bars.proofs.Leveling.{clear-repeats}
+use Rattle.bars.proofs.Spreading.{spread-free}
 use Rattle.slots.specs.declared.Shape.{Shape}
-use Rattle.slots.specs.Fits.{Fits}
+use Rattle.slots.specs.Fits.{Fits, Leaves}
 use Rattle.slots.specs.Timing.{round, rounds, inBlock, groupAt, active, period, slotAt}
-use Rattle.slots.specs.Quick.{gapBar, Again, TurnOf}
+use Rattle.slots.specs.Quick.{gapBar, Searchable, TurnOf}
 use Rattle.slots.proofs.Rounds.{whole, whole-round-groups, repeats}
 
 and-true : (b : Bool) → (b && true) ≡ b
@@ -59,9 +64,6 @@ module _ (s : Shape) (f : Fits s) where
   abbrev G : ℕ
   G = s .gap / g
 
-  abbrev free : ℕ → Bool
-  free = isFree (gapBar s) (s .bars)
-
   -- ---- whole groups
 
   pub round-parts : R ≡ B + G
@@ -69,13 +71,16 @@ module _ (s : Shape) (f : Fits s) where
       let e : round s ≡ (B + G) * g = omega (arith, whole s f (s .block) (f .wholeBlock), whole s f (s .gap) (f .wholeGap), add-mul B G g) in
       ap (λ (x : ℕ). x / g) e ∙ mul-div-cancel (B + G) (f .group)
 
-  pub some-round : 0 < R
-  some-round = ⊎-elim (λ h. h) (λ h. absurd (none h)) (order 0 R)
+  some-block : 0 < B
+  some-block = ⊎-elim (λ h. h) (λ h. absurd (none h)) (order 0 B)
     where
-      none : R ≤ 0 → ⊥
+      none : B ≤ 0 → ⊥
       none h =
-          let z : B ≡ 0 = omega (arith, round-parts) in
+          let z : B ≡ 0 = omega arith in
           omega (arith, whole s f (s .block) (f .wholeBlock), ap (λ (x : ℕ). x * g) z, zero-mul g, f .block)
+
+  pub some-round : 0 < R
+  some-round = omega (arith, round-parts, some-block)
 
   module _ (y k : ℕ) (h : k < g) where
     group-of : groupAt s (s .first + (y * g + k)) ≡ U + y
@@ -119,89 +124,6 @@ module _ (s : Shape) (f : Fits s) where
           let b : (U + y + gapBar s .phase) % R < G = omega (arith, in-gap y, m, below, round-parts) in
           rw (le-ltb ((y * g + k) % round s) (s .block) a, lt-ltb ((U + y + gapBar s .phase) % R) G b) refl
 
-  -- ---- slots by their groups
-
-  pub by-group : (y k : ℕ) → k < g → active s (y * g + k) ≡ free (U + y)
-  unfolding active isFree
-  by-group y k h = ap₂ _&&_ (gap-leaves y k h) (ap (clear (s .bars)) (group-of y k h))
-
-  rank-groups : (y k : ℕ) → k ≤ g → rank (active s) (y * g + k) ≡ rank (λ i. free (U + i)) y * g + boolByte (free (U + y)) * k
-  rank-groups y k h =
-      rank-rows g (active s) (λ i. free (U + i)) (λ i. true) (λ l i p. by-group l i p ∙ sym (and-true (free (U + l)))) y k h
-      ∙ ap₂ (λ (a b : ℕ). rank (λ i. free (U + i)) y * a + boolByte (free (U + y)) * b) (rank-true g) (rank-true k)
-
-  pub again : (t : ℕ) → free (t + rounds * R) ≡ free t
-  unfolding isFree leaves shut
-  again t =
-      let e : t + rounds * R + gapBar s .phase ≡ t + gapBar s .phase + rounds * R = omega arith in
-      ap₂ _&&_
-      (ap (λ (x : ℕ). not (ltb x G)) (ap (λ (x : ℕ). x % R) e ∙ add-mul-mod-self-right (t + gapBar s .phase) rounds R))
-      (f .again t)
-
-  pub cyclic : Cyclic free (rounds * R)
-  cyclic = record { again = again; some = ⊎-elim (λ h. h) (λ h. absurd (none h)) (order 0 (rank free (rounds * R))) }
-    where
-      none : rank free (rounds * R) ≤ 0 → ⊥
-      none h =
-          let z : rank (λ i. free (U + i)) (rounds * R) ≡ 0 = omega (arith, moved free U (rounds * R), rank-period free (rounds * R) again U) in
-          let e : rounds * R * g + 0 ≡ period s = omega (arith, mul-assoc rounds R g, ap (λ (x : ℕ). rounds * x) (whole-round-groups s f)) in
-          omega (
-            arith,
-            f .some,
-            ap (rank (active s)) e,
-            rank-groups (rounds * R) 0 (omega arith),
-            ap (λ (x : ℕ). x * g) z,
-            zero-mul g,
-            mul-zero (boolByte (free (U + rounds * R))),
-          )
-
-  -- ---- transmitted slot i: the slot at k in group j of those that are free
-
-  pub slot-is : (i j k at : ℕ) → i ≡ j * g + k → k < g → at ≡ select free (rounds * R) U j → at * g + k ≡ slotAt s i
-  unfolding slotAt
-  slot-is i j k at hi hk ha =
-      let n : Nth free U j at = subst (λ x. Nth free U j x) (sym ha) (select-is free (rounds * R) again (cyclic .some) U j) in
-      let y : ℕ = at - U in
-      let e : U + y ≡ at = omega (arith, n .late) in
-      let p : free (U + y) ≡ true = ap free e ∙ n .passes in
-      let q : rank (λ i. free (U + i)) y ≡ j = omega (arith, moved free U y, ap (rank free) e, n .before) in
-      let x : ℕ = y * g + k in
-      let c : rank (active s) x ≡ i =
-      rank-groups y k (omega arith)
-      ∙ ap₂ (λ (a b : ℕ). a * g + b * k) q (ap boolByte p) ∙ omega (arith, one-mul k) in
-      let d : x ≡ select (active s) (period s) 0 i =
-      is-select (active s) (period s) (repeats s f) (f .some) 0 i x
-      (nth-of (active s) 0 i x (by-group y k hk ∙ p) (omega (arith, c, rank-zero (active s)))) in
-      omega (arith, d, ap (λ (z : ℕ). z * g) (sym e), add-mul U y g, whole s f (s .first) (f .wholeFirst))
-
-  pub slot-small : (i : ℕ) → i < 2 ^ 32 → slotAt s i < 2 ^ 60
-  unfolding slotAt
-  slot-small i h =
-      let a : i + 1 ≤ 2 ^ 32 = omega arith in
-      let b : period s ≤ 2 ^ 26 = omega (arith, f .blockSmall, f .gapSmall) in
-      omega (arith, select-below (active s) (period s) (repeats s f) (f .some) 0 i, mul-le-mul a b, f .firstSmall)
-
-  -- ---- the slot at k in the group y past the first
-
-  module _ (x y k : ℕ) (r : Standing) (e : x ≡ y * g + k) (h : k < g) (st : Stands free U y r) where
-    pub turn-fits : r .index * g + k ≤ x
-    turn-fits =
-        let a : r .index ≤ y =
-        omega (arith, st .index, rank-not free U, rank-not free (U + y), rank-mono (λ i. not (free i)) U (U + y) (omega arith)) in
-        omega (arith, mul-le-mul-right g a)
-
-    pub turn-is : TurnOf s x (record { sent = r .free; i = r .index * g + k })
-    turn-is = record {
-      says = st .says ∙ sym (ap (active s) e ∙ by-group y k h);
-      index = λ a.
-          let p : free (U + y) ≡ true = sym (ap (active s) e ∙ by-group y k h) ∙ a in
-          let q : rank (λ i. free (U + i)) y ≡ r .index = omega (arith, moved free U y, st .index) in
-          sym (
-          ap (rank (active s)) e ∙ rank-groups y k (omega arith)
-          ∙ ap₂ (λ (a b : ℕ). a * g + b * k) q (ap boolByte p) ∙ omega (arith, one-mul k)
-          );
-    }
-
   -- ---- the gap's bar can be worked with
 
   pub gap-usable : Usable (gapBar s)
@@ -215,14 +137,108 @@ module _ (s : Shape) (f : Fits s) where
       small : R < 2 ^ 17
       small = omega (arith, div-le-self (round s) g, f .blockSmall, f .gapSmall)
 
+  -- it is open from the first group on
+  pub gap-begins : Begins (gapBar s) U
+  gap-begins =
+      let e : U + gapBar s .phase ≡ U + 0 + gapBar s .phase = omega arith in
+      let z : 0 % R + G ≡ G = omega (arith, zero-mod R) in
+      ap (λ (x : ℕ). x % R) e ∙ in-gap 0 ∙ ap (λ (x : ℕ). x % R) z ∙ mod-eq-of-lt {n = G} {m = R} (omega (arith, round-parts, some-block))
+
+  -- ---- slots by their groups
+
+  module _ (bars : Bars) (o : Leaves s (clear bars)) where
+    abbrev free : ℕ → Bool
+    free = isFree (gapBar s) bars
+
+    pub by-group : (y k : ℕ) → k < g → active s (clear bars) (y * g + k) ≡ free (U + y)
+    unfolding active isFree
+    by-group y k h = ap₂ _&&_ (gap-leaves y k h) (ap (clear bars) (group-of y k h))
+
+    rank-groups : (y k : ℕ) → k ≤ g → rank (active s (clear bars)) (y * g + k) ≡ rank (λ i. free (U + i)) y * g + boolByte (free (U + y)) * k
+    rank-groups y k h =
+        rank-rows g (active s (clear bars)) (λ i. free (U + i)) (λ i. true) (λ l i p. by-group l i p ∙ sym (and-true (free (U + l)))) y k h
+        ∙ ap₂ (λ (a b : ℕ). rank (λ i. free (U + i)) y * a + boolByte (free (U + y)) * b) (rank-true g) (rank-true k)
+
+    pub again : (t : ℕ) → free (t + rounds * R) ≡ free t
+    unfolding isFree leaves shut
+    again t =
+        let e : t + rounds * R + gapBar s .phase ≡ t + gapBar s .phase + rounds * R = omega arith in
+        ap₂ _&&_
+        (ap (λ (x : ℕ). not (ltb x G)) (ap (λ (x : ℕ). x % R) e ∙ add-mul-mod-self-right (t + gapBar s .phase) rounds R))
+        (o .again t)
+
+    pub cyclic : (0 < rank free (rounds * R)) × (0 < rounds * R)
+    cyclic = (⊎-elim (λ h. h) (λ h. absurd (none h)) (order 0 (rank free (rounds * R))), omega (arith, some-round))
+      where
+        none : rank free (rounds * R) ≤ 0 → ⊥
+        none h =
+            let z : rank (λ i. free (U + i)) (rounds * R) ≡ 0 = omega (arith, moved free U (rounds * R), rank-period free (rounds * R) again U) in
+            let e : rounds * R * g + 0 ≡ period s = omega (arith, mul-assoc rounds R g, ap (λ (x : ℕ). rounds * x) (whole-round-groups s f)) in
+            omega (
+              arith,
+              o .some,
+              ap (rank (active s (clear bars))) e,
+              rank-groups (rounds * R) 0 (omega arith),
+              ap (λ (x : ℕ). x * g) z,
+              zero-mul g,
+              mul-zero (boolByte (free (U + rounds * R))),
+            )
+
+    -- ---- transmitted slot i: the slot at k in group j of those that are free
+
+    pub slot-is : (i j k at : ℕ) → i ≡ j * g + k → k < g → at ≡ select free (rounds * R) U j → at * g + k ≡ slotAt s (clear bars) i
+    unfolding slotAt
+    slot-is i j k at hi hk ha =
+        let n : Nth free U j at = subst (λ x. Nth free U j x) (sym ha) (select-is free (rounds * R) again (cyclic .0) U j) in
+        let y : ℕ = at - U in
+        let e : U + y ≡ at = omega (arith, n .late) in
+        let p : free (U + y) ≡ true = ap free e ∙ n .passes in
+        let q : rank (λ i. free (U + i)) y ≡ j = omega (arith, moved free U y, ap (rank free) e, n .before) in
+        let x : ℕ = y * g + k in
+        let c : rank (active s (clear bars)) x ≡ i =
+        rank-groups y k (omega arith)
+        ∙ ap₂ (λ (a b : ℕ). a * g + b * k) q (ap boolByte p) ∙ omega (arith, one-mul k) in
+        let d : x ≡ select (active s (clear bars)) (period s) 0 i =
+        is-select (active s (clear bars)) (period s) (repeats s (clear bars) f o) (o .some) 0 i x
+        (nth-of (active s (clear bars)) 0 i x (by-group y k hk ∙ p) (omega (arith, c, rank-zero (active s (clear bars))))) in
+        omega (arith, d, ap (λ (z : ℕ). z * g) (sym e), add-mul U y g, whole s f (s .first) (f .wholeFirst))
+
+    pub slot-small : (i : ℕ) → i < 2 ^ 32 → slotAt s (clear bars) i < 2 ^ 60
+    unfolding slotAt
+    slot-small i h =
+        let a : i + 1 ≤ 2 ^ 32 = omega arith in
+        let b : period s ≤ 2 ^ 26 = omega (arith, f .blockSmall, f .gapSmall) in
+        omega (arith, select-below (active s (clear bars)) (period s) (repeats s (clear bars) f o) (o .some) 0 i, mul-le-mul a b, f .firstSmall)
+
+    -- ---- the slot at k in the group y past the first
+
+    module _ (x y k : ℕ) (r : Standing) (e : x ≡ y * g + k) (h : k < g) (st : Stands free U y r) where
+      pub turn-fits : r .index * g + k ≤ x
+      turn-fits =
+          let a : r .index ≤ y =
+          omega (arith, st .index, rank-not free U, rank-not free (U + y), rank-mono (λ i. not (free i)) U (U + y) (omega arith)) in
+          omega (arith, mul-le-mul-right g a)
+
+      pub turn-is : TurnOf s (clear bars) x (record { sent = r .free; i = r .index * g + k })
+      turn-is = record {
+        says = st .says ∙ sym (ap (active s (clear bars)) e ∙ by-group y k h);
+        index = λ a.
+            let p : free (U + y) ≡ true = sym (ap (active s (clear bars)) e ∙ by-group y k h) ∙ a in
+            let q : rank (λ i. free (U + i)) y ≡ r .index = omega (arith, moved free U y, st .index) in
+            sym (
+            ap (rank (active s (clear bars))) e ∙ rank-groups y k (omega arith)
+            ∙ ap₂ (λ (a b : ℕ). a * g + b * k) q (ap boolByte p) ∙ omega (arith, one-mul k)
+            );
+      }
+
 -- ---- cycles
 
-module _ (s : Shape) (f : Fits s) where
+module _ (s : Shape) (f : Fits s) (bars : Bars) (o : Leaves s (clear bars)) where
   abbrev left : ℕ → Bool
-  left = isFree (gapBar s) (s .bars)
+  left = isFree (gapBar s) bars
 
   -- whole rounds after which what the windows leave repeats
-  again-by : (n : ℕ) → n % (round s / s .group) ≡ 0 → ((t : ℕ) → clear (s .bars) (t + n) ≡ clear (s .bars) t) → (t : ℕ) → left (t + n) ≡ left t
+  again-by : (n : ℕ) → n % (round s / s .group) ≡ 0 → ((t : ℕ) → clear bars (t + n) ≡ clear bars t) → (t : ℕ) → left (t + n) ≡ left t
   unfolding isFree leaves shut
   again-by n h c t =
       let q : ℕ = n / (round s / s .group) in
@@ -232,59 +248,94 @@ module _ (s : Shape) (f : Fits s) where
       (ap (λ (x : ℕ). x % (round s / s .group)) e ∙ add-mul-mod-self-right (t + gapBar s .phase) q (round s / s .group)))
       (c t)
 
-  pub short-again : (n : ℕ) → n ≡ longestOf (s .bars) → 0 < 37 * n → 37 * n % (round s / s .group) ≡ 0 → Again s (37 * n)
-  short-again n e p h = record {
-    again = again-by (37 * n) h (λ t. ap (λ (x : ℕ). clear (s .bars) (t + 37 * x)) e ∙ repeats-times (clear (s .bars)) (longestOf (s .bars)) (f .short) 37 t);
-    some = p;
-    small = omega (arith, f .shortSmall);
-  }
+  module _ (ls : Levels) (sr : Searchable s ls) (e : bars ≡ ls .bars) where
+    abbrev n : ℕ
+    n = 37 * bars .b4 .period
 
-  pub long-again : Again s (rounds * (round s / s .group))
-  long-again = record {
-    again = again s f;
-    some = omega (arith, some-round s f);
-    small = omega (arith, div-le-self (round s) (s .group), f .blockSmall, f .gapSmall);
-  }
+    period-is : bars .b4 .period ≡ sr .spread .times * sr .part
+    period-is = ap (λ (b : Bars). b .b4 .period) e ∙ sr .spread .longest
 
-  module _ (n : ℕ) (a : Again s n) where
+    clear-on : (t : ℕ) → clear bars (t + bars .b4 .period) ≡ clear bars t
+    clear-on = rw e (clear-repeats (ls .bars) (sr .stacked .sorted))
+
+    whole-rounds : n % (round s / s .group) ≡ 0
+    whole-rounds =
+        let q : n ≡ sr .spread .times * (37 * sr .part) = omega (arith, period-is, mul-left-comm 37 (sr .spread .times) (sr .part)) in
+        ap₂ _%_ q (sr .parted .rounds) ∙ mul-mod-left (sr .spread .times) (37 * sr .part)
+
+    left-again : (t : ℕ) → left (t + n) ≡ left t
+    left-again = again-by n whole-rounds (repeats-times (clear bars) (bars .b4 .period) clear-on 37)
+
     -- a group that is free
     found : Nth left 0 0 (next left (rounds * (round s / s .group)) 0)
-    found = next-is left (rounds * (round s / s .group)) 0 (omega (arith, cyclic s f .some, rank-zero left, ap (rank left) (zero-add (rounds * (round s / s .group)))))
+    found = next-is left (rounds * (round s / s .group)) 0 (omega (arith, cyclic s f bars o .0, rank-zero left, ap (rank left) (zero-add (rounds * (round s / s .group)))))
 
-    pub some-in : 0 < rank left n
-    some-in = some-of left n (a .again) (next left (rounds * (round s / s .group)) 0) (a .some) (found .passes)
+    some-period : 0 < n
+    some-period = omega (arith, rw (← e) at (sr .stacked .sorted .usable .u4 .some))
 
-    pub same-select : (j : ℕ) → select left n (s .first / s .group) j ≡ select left (rounds * (round s / s .group)) (s .first / s .group) j
-    same-select j = select-same left n (rounds * (round s / s .group)) (a .again) (again s f) some-in (cyclic s f .some) (s .first / s .group) j
+    some-in : 0 < rank left n
+    some-in = some-of left n left-again (next left (rounds * (round s / s .group)) 0) some-period (found .passes)
+
+    counted : rank left n ≡ 32 * rank (clear bars) (bars .b4 .period)
+    counted =
+        let q : n ≡ 37 * (sr .spread .times * sr .part) = omega (arith, period-is) in
+        ap (rank left) q
+        ∙ spread-free (gapBar s) bars 37 32 (sr .part) (sr .spread .times) (sr .parted .some) (lit< tt) (sr .parted .rounds) (sr .parted .gaps) (sr .spread .evenly)
+        (λ t. ap (λ (x : ℕ). clear bars (t + x)) (sym period-is) ∙ clear-on t)
+        ∙ ap (λ (x : ℕ). 32 * rank (clear bars) x) (sym period-is)
+
+    pub cycle-repeats : (free : ℕ) → free ≡ rank (clear bars) (bars .b4 .period) → Repeats left (record { length = n; free = 32 * free })
+    cycle-repeats free h = record {
+      again = left-again;
+      free = ap (λ (x : ℕ). 32 * x) h ∙ sym counted;
+      some = some-in;
+      small = omega (arith, rw (← e) at (sr .stacked .sorted .usable .u4 .periodSmall));
+    }
+
+  pub same-select : (c : Cycle) → Repeats left c → (j : ℕ)
+      → select left (c .length) (s .first / s .group) j ≡ select left (rounds * (round s / s .group)) (s .first / s .group) j
+  same-select c a j =
+      select-same left (c .length) (rounds * (round s / s .group)) (a .again) (again s f bars o) (a .some) (cyclic s f bars o .0) (s .first / s .group) j
 
 -- ---- with the gap's bar and the cycle as the code has worked them out
 
-module _ (s : Shape) (f : Fits s) (bar : Bar) (cycle : ℕ) (eb : bar ≡ gapBar s) (ec : Again s cycle) where
+module _ (s : Shape) (f : Fits s) (bars : Bars) (o : Leaves s (clear bars)) (bar : Bar) (cycle : Cycle) (eb : bar ≡ gapBar s)
+    (ec : Repeats (isFree (gapBar s) bars) cycle) where
   pub usable : Usable bar
   usable = subst Usable (sym eb) (gap-usable s f)
 
-  pub cycles : Cyclic (isFree bar (s .bars)) cycle
-  cycles = subst (λ (b : Bar). Cyclic (isFree b (s .bars)) cycle) (sym eb) (record { again = ec .again; some = some-in s f cycle ec })
+  -- a round begins with the first group
+  pub begins : (u : ℕ) → u ≡ s .first / s .group → Begins bar u
+  begins u h = rw (h, eb) (gap-begins s f)
 
-  pub first-group-small : s .first / s .group < 2 ^ 40
-  first-group-small = omega (arith, div-le-self (s .first) (s .group), f .firstSmall)
+  pub cycles : Repeats (isFree bar bars) cycle
+  cycles = subst (λ (b : Bar). Repeats (isFree b bars) cycle) (sym eb) ec
 
-  pub slot-found : (i at : ℕ) → at ≡ select (isFree bar (s .bars)) cycle (s .first / s .group) (i / s .group)
-      → at * s .group + (i - i / s .group * s .group) ≡ slotAt s i
-  slot-found i at e =
-      slot-is s f i (i / s .group) (i - i / s .group * s .group) at (omega (arith, div-mul-le-self i (s .group)))
+  pub first-group-small : (u : ℕ) → u ≡ s .first / s .group → u < 2 ^ 40
+  first-group-small u h = omega (arith, div-le-self (s .first) (s .group), f .firstSmall)
+
+  by-groups : (i at : ℕ) → at ≡ select (isFree bar bars) (cycle .length) (s .first / s .group) (i / s .group)
+      → at * s .group + (i - i / s .group * s .group) ≡ slotAt s (clear bars) i
+  by-groups i at e =
+      slot-is s f bars o i (i / s .group) (i - i / s .group * s .group) at (omega (arith, div-mul-le-self i (s .group)))
       (omega (arith, mod-eq-sub-div-mul i (s .group), mod-lt i (f .group)))
-      (e ∙ ap (λ (b : Bar). select (isFree b (s .bars)) cycle (s .first / s .group) (i / s .group)) eb ∙ same-select s f cycle ec (i / s .group))
+      (e ∙ ap (λ (b : Bar). select (isFree b bars) (cycle .length) (s .first / s .group) (i / s .group)) eb ∙ same-select s f bars o cycle ec (i / s .group))
 
-  module _ (x : ℕ) (r : Standing) (st : Stands (isFree bar (s .bars)) (s .first / s .group) (x / s .group) r) where
-    st' : Stands (isFree (gapBar s) (s .bars)) (s .first / s .group) (x / s .group) r
-    st' = subst (λ (b : Bar). Stands (isFree b (s .bars)) (s .first / s .group) (x / s .group) r) eb st
+  pub slot-found : (i j u at : ℕ) → j ≡ i / s .group → u ≡ s .first / s .group → at ≡ select (isFree bar bars) (cycle .length) u j
+      → at * s .group + (i - j * s .group) ≡ slotAt s (clear bars) i
+  slot-found i j u at hj hu e =
+      ap (λ (x : ℕ). at * s .group + (i - x * s .group)) hj
+      ∙ by-groups i at (e ∙ ap₂ (λ (x y : ℕ). select (isFree bar bars) (cycle .length) x y) hu hj)
 
-    parts : (x ≡ x / s .group * s .group + (x - x / s .group * s .group)) × (x - x / s .group * s .group < s .group)
-    parts = (omega (arith, div-mul-le-self x (s .group)), omega (arith, mod-eq-sub-div-mul x (s .group), mod-lt x (f .group)))
+  module _ (x y u : ℕ) (r : Standing) (hy : y ≡ x / s .group) (hu : u ≡ s .first / s .group) (st : Stands (isFree bar bars) u y r) where
+    st' : Stands (isFree (gapBar s) bars) (s .first / s .group) y r
+    st' = subst (λ (b : Bar). Stands (isFree b bars) (s .first / s .group) y r) eb (subst (λ (v : ℕ). Stands (isFree bar bars) v y r) hu st)
 
-    pub turn-found-fits : r .index * s .group + (x - x / s .group * s .group) ≤ x
-    turn-found-fits = turn-fits s f x (x / s .group) (x - x / s .group * s .group) r (parts .0) (parts .1) st'
+    parts : (x ≡ y * s .group + (x - y * s .group)) × (x - y * s .group < s .group)
+    parts = rw hy (omega (arith, div-mul-le-self x (s .group)), omega (arith, mod-eq-sub-div-mul x (s .group), mod-lt x (f .group)))
 
-    pub turn-found : TurnOf s x (record { sent = r .free; i = r .index * s .group + (x - x / s .group * s .group) })
-    turn-found = turn-is s f x (x / s .group) (x - x / s .group * s .group) r (parts .0) (parts .1) st'
+    pub turn-found-fits : r .index * s .group + (x - y * s .group) ≤ x
+    turn-found-fits = turn-fits s f bars o x y (x - y * s .group) r (parts .0) (parts .1) st'
+
+    pub turn-found : TurnOf s (clear bars) x (record { sent = r .free; i = r .index * s .group + (x - y * s .group) })
+    turn-found = turn-is s f bars o x y (x - y * s .group) r (parts .0) (parts .1) st'

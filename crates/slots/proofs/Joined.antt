@@ -10,7 +10,6 @@ use borrow.Author.Tests.{le-leb, lt-leb, lt-ltb, le-ltb, leb-true}
 use Rattle.counting.specs.Counting.{rank}
 use Rattle.counting.proofs.Facts.{both-parts}
 use Rattle.counting.proofs.Select.{among-from-zero}
-use Rattle.bars.specs.Bars.{clear}
 use Rattle.grid.specs.Grid.{symbols, uplinkElementOf}
 use Rattle.sending.specs.CopyOrder.{carried}
 use Rattle.sending.specs.Sending.{ours, other}
@@ -33,45 +32,45 @@ sent-small s f =
     let b : s .codeword ≤ 2 ^ 16 = omega (arith, f .codewordSmall) in
     omega (arith, mul-le-mul a b)
 
-pub unsent-before : (s : Shape) (slot : ℕ) → slot < s .first → false ≡ isSent s slot
+pub unsent-before : (s : Shape) (isOpen : ℕ → Bool) (slot : ℕ) → slot < s .first → false ≡ isSent s isOpen slot
 unfolding isSent
-unsent-before s slot h = rw (lt-leb (s .first) slot h) refl
+unsent-before s isOpen slot h = rw (lt-leb (s .first) slot h) refl
 
-pub sent-is : (s : Shape) (slot : ℕ) (a : Bool) (n K : ℕ) → s .first ≤ slot → a ≡ active s (slot - s .first)
-    → n ≡ rank (active s) (slot - s .first) → K ≡ sentSlots s → (a && ltb n K) ≡ isSent s slot
-unfolding isSent
-sent-is s slot a n K h ha hn hK =
-    rw (ha, hn, hK, le-leb (s .first) slot h) (sym (among-from-zero (active s) (sentSlots s) (slot - s .first)))
+module _ (s : Shape) (isOpen : ℕ → Bool) (slot : ℕ) where
+  pub sent-is : (a : Bool) (n K : ℕ) → s .first ≤ slot → a ≡ active s isOpen (slot - s .first)
+      → n ≡ rank (active s isOpen) (slot - s .first) → K ≡ sentSlots s → (a && ltb n K) ≡ isSent s isOpen slot
+  unfolding isSent
+  sent-is a n K h ha hn hK =
+      rw (ha, hn, hK, le-leb (s .first) slot h) (sym (among-from-zero (active s isOpen) (sentSlots s) (slot - s .first)))
 
-pub sent-active : (s : Shape) (slot : ℕ) → s .first ≤ slot → isSent s slot ≡ true → active s (slot - s .first) ≡ true
-sent-active s slot h e =
-    both-parts (active s (slot - s .first)) _ (sent-is s slot _ _ _ h refl refl refl ∙ e) .0
+  pub sent-active : s .first ≤ slot → isSent s isOpen slot ≡ true → active s isOpen (slot - s .first) ≡ true
+  sent-active h e = both-parts (active s isOpen (slot - s .first)) _ (sent-is _ _ _ h refl refl refl ∙ e) .0
 
--- its group is clear
-pub sent-clear : (s : Shape) (slot : ℕ) → isSent s slot ≡ true → clear (s .bars) (groupAt s slot) ≡ true
-unfolding isSent active
-sent-clear s slot e =
-    let h : s .first ≤ slot = leb-true (s .first) slot (both-parts (leb (s .first) slot) _ e .0) in
-    let a = both-parts (inBlock s (slot - s .first)) (clear (s .bars) (groupAt s (s .first + (slot - s .first)))) (sent-active s slot h e) in
-    let x : s .first + (slot - s .first) ≡ slot = omega arith in
-    ap (λ (y : ℕ). clear (s .bars) (groupAt s y)) (sym x) ∙ a .1
+  -- its group is open
+  pub sent-open : isSent s isOpen slot ≡ true → isOpen (groupAt s slot) ≡ true
+  unfolding isSent active
+  sent-open e =
+      let h : s .first ≤ slot = leb-true (s .first) slot (both-parts (leb (s .first) slot) _ e .0) in
+      let a = both-parts (inBlock s (slot - s .first)) (isOpen (groupAt s (s .first + (slot - s .first)))) (sent-active h e) in
+      let x : s .first + (slot - s .first) ≡ slot = omega arith in
+      ap (λ (y : ℕ). isOpen (groupAt s y)) (sym x) ∙ a .1
 
 -- ---- forward
 
-module _ (s : Shape) (p : ℕ) where
-  pub forward-refused : places s ≤ p → refusedPlace 14 ≡ shapeForward s p
+module _ (s : Shape) (isOpen : ℕ → Bool) (p : ℕ) where
+  pub forward-refused : places s ≤ p → refusedPlace 14 ≡ shapeForward s isOpen p
   unfolding shapeForward
   forward-refused h = rw (le-ltb p (places s) h) refl
 
-  pub forward-is : (at : Split) (w slot unit symbol : ℕ) → p < places s → w ≡ slotData s → at ≡ splitOf s p → slot ≡ slotAt s (at .i)
+  pub forward-is : (at : Split) (w slot unit symbol : ℕ) → p < places s → w ≡ slotData s → at ≡ splitOf s p → slot ≡ slotAt s isOpen (at .i)
       → unit ≡ carried (s .row) (s .group) (s .codeword) (at .i) → symbol ≡ unit * w + at .e
-      → _≡_ {A = UplinkPlace} (record { no = 0; slot = slot; l = at .l; k = at .k; symbol = symbol }) (shapeForward s p)
+      → _≡_ {A = UplinkPlace} (record { no = 0; slot = slot; l = at .l; k = at .k; symbol = symbol }) (shapeForward s isOpen p)
   unfolding shapeForward
   forward-is at w slot unit symbol h hw ha hs hu hy =
       rw (lt-ltb p (places s) h)
       (λ j. record {
         no = 0;
-        slot = (hs ∙ ap (λ (a : Split). slotAt s (a .i)) ha) j;
+        slot = (hs ∙ ap (λ (a : Split). slotAt s isOpen (a .i)) ha) j;
         l = ha j .l;
         k = ha j .k;
         symbol =
@@ -81,24 +80,24 @@ module _ (s : Shape) (p : ℕ) where
 
 -- ---- backward
 
-module _ (s : Shape) (slot l k : ℕ) where
-  pub backward-outside : (ltb l symbols && ltb k (s .subcarriers)) ≡ false → refusedBack 14 ≡ shapeBackward s slot l k
+module _ (s : Shape) (isOpen : ℕ → Bool) (slot l k : ℕ) where
+  pub backward-outside : (ltb l symbols && ltb k (s .subcarriers)) ≡ false → refusedBack 14 ≡ shapeBackward s isOpen slot l k
   unfolding shapeBackward
   backward-outside h = rw h refl
 
   module _ (inside : (ltb l symbols && ltb k (s .subcarriers)) ≡ true) where
-    pub backward-unsent : isSent s slot ≡ false → backOf (other 0) ≡ shapeBackward s slot l k
+    pub backward-unsent : isSent s isOpen slot ≡ false → backOf (other 0) ≡ shapeBackward s isOpen slot l k
     unfolding shapeBackward
     backward-unsent h = rw (inside, h) refl
 
-    pub backward-other : (kind : ℕ) → isSent s slot ≡ true → carriesData s (uplinkElementOf (s .subcarriers) l k) ≡ false
-        → kind ≡ boolByte (carriesReference s (uplinkElementOf (s .subcarriers) l k)) → backOf (other kind) ≡ shapeBackward s slot l k
+    pub backward-other : (kind : ℕ) → isSent s isOpen slot ≡ true → carriesData s (uplinkElementOf (s .subcarriers) l k) ≡ false
+        → kind ≡ boolByte (carriesReference s (uplinkElementOf (s .subcarriers) l k)) → backOf (other kind) ≡ shapeBackward s isOpen slot l k
     unfolding shapeBackward
     backward-other kind h n e = rw (inside, h, n, e) refl
 
-    pub backward-ours : (w i e unit symbol p : ℕ) → isSent s slot ≡ true → carriesData s (uplinkElementOf (s .subcarriers) l k) ≡ true
-        → w ≡ slotData s → i ≡ indexOf s slot → e ≡ numberOf s (uplinkElementOf (s .subcarriers) l k)
+    pub backward-ours : (w i e unit symbol p : ℕ) → isSent s isOpen slot ≡ true → carriesData s (uplinkElementOf (s .subcarriers) l k) ≡ true
+        → w ≡ slotData s → i ≡ indexOf s isOpen slot → e ≡ numberOf s (uplinkElementOf (s .subcarriers) l k)
         → unit ≡ carried (s .row) (s .group) (s .codeword) i → symbol ≡ unit * w + e → p ≡ i * w + e
-        → backOf (ours symbol p) ≡ shapeBackward s slot l k
+        → backOf (ours symbol p) ≡ shapeBackward s isOpen slot l k
     unfolding shapeBackward
     backward-ours w i e unit symbol p h d hw hi he hu hs hp = rw (inside, h, d, ← hw, ← hi, ← he, ← hu, ← hs, ← hp) refl

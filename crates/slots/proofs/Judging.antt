@@ -1,49 +1,79 @@
 -- The answers of a judged grant: those of its shape, or its number and zeros.
-use mathlib.Core.Bool.{cond}
-use mathlib.Core.Path.{_≡_, refl, sym}
+use mathlib.Core.Bool.{Bool, cond}
+use mathlib.Core.Path.{_≡_, refl, sym, ap₂, subst, _∙_}
 use Prim.Native.Nat.{ℕ}
 use native.Mathlib.Decide.{ℕ-discrete}
 use lib.Dec.{eqb}
 use borrow.Author.Tests.{eq-eqb, ne-eqb}
 use Rattle.sending.specs.Answer.{refusedBack}
 use Rattle.slots.specs.declared.Shape.{Shape}
+use Rattle.slots.specs.Fits.{Fits, Leaves}
+use Rattle.slots.specs.Quick.{sized}
 use Rattle.slots.specs.Answers.{refusedPlan, refusedPlace, shapePlan, shapeForward, shapeBackward, planAnswer, forwardAnswer, backwardAnswer}
+use Rattle.slots.proofs.Sizes.{fits-sized, leaves-sized, forward-sized, backward-sized}
 
 -- ---- the answers of an accepted grant
 
-module _ (refusal : ℕ) (s : Shape) (e : refusal ≡ 0) where
-  pub plan-accepted : shapePlan s ≡ planAnswer refusal s
+module _ (refusal : ℕ) (s : Shape) (isOpen : ℕ → Bool) (e : refusal ≡ 0) where
+  pub plan-accepted : shapePlan s isOpen ≡ planAnswer refusal s isOpen
   unfolding planAnswer
   plan-accepted = rw (eq-eqb refusal 0 e) refl
 
-  pub forward-accepted : (p : ℕ) → shapeForward s p ≡ forwardAnswer refusal s p
+  pub forward-accepted : (p : ℕ) → shapeForward s isOpen p ≡ forwardAnswer refusal s isOpen p
   unfolding forwardAnswer
   forward-accepted p = rw (eq-eqb refusal 0 e) refl
 
-  pub backward-accepted : (slot l k : ℕ) → shapeBackward s slot l k ≡ backwardAnswer refusal s slot l k
+  pub backward-accepted : (slot l k : ℕ) → shapeBackward s isOpen slot l k ≡ backwardAnswer refusal s isOpen slot l k
   unfolding backwardAnswer
   backward-accepted slot l k = rw (eq-eqb refusal 0 e) refl
 
 -- ---- the answers of a refused one, which got number n
 
-module _ (refusal n : ℕ) (s : Shape) (e : n ≡ refusal) (h : n ≡ 0 → ⊥) where
-  pub refused-plan-is : refusedPlan n ≡ planAnswer refusal s
+module _ (refusal n : ℕ) (s : Shape) (isOpen : ℕ → Bool) (e : n ≡ refusal) (h : n ≡ 0 → ⊥) where
+  pub refused-plan-is : refusedPlan n ≡ planAnswer refusal s isOpen
   unfolding planAnswer
   refused-plan-is = rw (← e, ne-eqb n 0 h) refl
 
-  pub refused-place-is : (p : ℕ) → refusedPlace n ≡ forwardAnswer refusal s p
+  pub refused-place-is : (p : ℕ) → refusedPlace n ≡ forwardAnswer refusal s isOpen p
   unfolding forwardAnswer
   refused-place-is p = rw (← e, ne-eqb n 0 h) refl
 
-  pub refused-back-is : (slot l k : ℕ) → refusedBack n ≡ backwardAnswer refusal s slot l k
+  pub refused-back-is : (slot l k : ℕ) → refusedBack n ≡ backwardAnswer refusal s isOpen slot l k
   unfolding backwardAnswer
   refused-back-is slot l k = rw (← e, ne-eqb n 0 h) refl
 
 -- a plan's number is the refusal
-pub plan-no : (refusal : ℕ) (s : Shape) → planAnswer refusal s .no ≡ refusal
+pub plan-no : (refusal : ℕ) (s : Shape) (isOpen : ℕ → Bool) → planAnswer refusal s isOpen .no ≡ refusal
 unfolding planAnswer shapePlan
-plan-no refusal s = by (ℕ-discrete refusal 0)
+plan-no refusal s isOpen = by (ℕ-discrete refusal 0)
   where
-    by : Dec (refusal ≡ 0) → cond (eqb refusal 0) (shapePlan s) (refusedPlan refusal) .no ≡ refusal
+    by : Dec (refusal ≡ 0) → cond (eqb refusal 0) (shapePlan s isOpen) (refusedPlan refusal) .no ≡ refusal
     by (yes e) = rw (eq-eqb refusal 0 e) (sym e)
     by (no n) = rw (ne-eqb refusal 0 n) refl
+
+-- ---- a question asked of a shape that is the grant's but for size and order, and of a test that says what the grant's does
+
+module _ (g s : Shape) (size order : ℕ) (own : s ≡ sized g size order) where
+  pub fits-asked : Fits g → Fits s
+  fits-asked f = rw own (fits-sized g size order f)
+
+  module _ (isOpen tested : ℕ → Bool) (same : (u : ℕ) → tested u ≡ isOpen u) where
+    is-tested : isOpen ≡ tested
+    is-tested = λ i u. sym (same u) i
+
+    pub leaves-asked : Leaves g isOpen → Leaves s tested
+    leaves-asked o = subst (Leaves s) is-tested (rw own (leaves-sized g size order isOpen o))
+
+    module _ (refusal : ℕ) (e : refusal ≡ 0) where
+      pub plan-asked : sized g size order ≡ g → shapePlan s tested ≡ planAnswer refusal g isOpen
+      plan-asked h = ap₂ shapePlan (own ∙ h) (sym is-tested) ∙ plan-accepted refusal g isOpen e
+
+      pub forward-asked : (p : ℕ) → shapeForward s tested p ≡ forwardAnswer refusal g isOpen p
+      forward-asked p =
+          ap₂ (λ (x : Shape) (o : ℕ → Bool). shapeForward x o p) own (sym is-tested)
+          ∙ forward-sized g size order isOpen p ∙ forward-accepted refusal g isOpen e p
+
+      pub backward-asked : (slot l k : ℕ) → shapeBackward s tested slot l k ≡ backwardAnswer refusal g isOpen slot l k
+      backward-asked slot l k =
+          ap₂ (λ (x : Shape) (o : ℕ → Bool). shapeBackward x o slot l k) own (sym is-tested)
+          ∙ backward-sized g size order isOpen slot l k ∙ backward-accepted refusal g isOpen e slot l k

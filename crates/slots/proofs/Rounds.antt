@@ -1,4 +1,4 @@
--- The slots of 256 ms of sending, in closed form: blocks with a gap after each; and where no window closes anything, they are all that may be sent.
+-- The slots of 256 ms of sending, in closed form: blocks with a gap after each; and where there is no window, they are all that may be sent.
 use mathlib.Core.Bool.{Bool, true, false, _&&_}
 use mathlib.Core.Path.{_≡_, refl, sym, ap, ap₂, _∙_}
 use Prim.Native.Nat.{ℕ, _+_, _-_, _*_, _/_, _%_, _≤_, _<_}
@@ -11,13 +11,10 @@ use Rattle.counting.specs.Counting.{rank, select, Lists}
 use Rattle.counting.proofs.Rank.{rank-zero, rank-none, rank-same}
 use Rattle.counting.proofs.Range.{rank-all}
 use Rattle.counting.proofs.Select.{nth-of, lists-moved}
-use Rattle.counting.proofs.Period.{rank-split, repeats-times, is-select, lists-from-zero}
-use Rattle.bars.specs.Bars.{clear}
-use Rattle.bars.specs.Quick.{closesNothing}
-use Rattle.bars.proofs.Running.{idle-clear}
+use Rattle.counting.proofs.Period.{rank-split, repeats-times, some-of, is-select, lists-from-zero}
 use Rattle.slots.specs.declared.Shape.{Shape}
-use Rattle.slots.specs.Fits.{Fits}
-use Rattle.slots.specs.Timing.{round, rounds, inBlock, groupAt, active, period, sentSlots, slotAt, isSent, indexOf}
+use Rattle.slots.specs.Fits.{Fits, Leaves}
+use Rattle.slots.specs.Timing.{round, rounds, inBlock, groupAt, active, allOpen, period, sentSlots, slotAt, isSent, indexOf}
 
 module _ (s : Shape) (some : 0 < s .block) where
   pub rounds-repeat : (x : ℕ) → inBlock s (x + round s) ≡ inBlock s x
@@ -79,60 +76,69 @@ module _ (s : Shape) (some : 0 < s .block) where
       ∙ omega (arith, in-block r (omega arith), div-add-mod' i (s .block)) in
       (ap (inBlock s) e ∙ lt-ltb (t % round s) (s .block) (omega arith), ap (rank (inBlock s)) e ∙ n)
 
--- what may be sent repeats, where rounds are of whole groups and what the windows leave repeats
-module _ (s : Shape) (group : 0 < s .group) (block : 0 < s .block) (whole : round s / s .group * s .group ≡ round s)
-    (again : (u : ℕ) → clear (s .bars) (u + rounds * (round s / s .group)) ≡ clear (s .bars) u) where
+-- what may be sent repeats, where rounds are of whole groups and which groups are open repeats
+module _ (s : Shape) (isOpen : ℕ → Bool) (group : 0 < s .group) (block : 0 < s .block) (whole : round s / s .group * s .group ≡ round s)
+    (again : (u : ℕ) → isOpen (u + rounds * (round s / s .group)) ≡ isOpen u) where
   group-on : (x : ℕ) → groupAt s (s .first + (x + period s)) ≡ groupAt s (s .first + x) + rounds * (round s / s .group)
   group-on x =
       let e : s .first + (x + period s) ≡ s .first + x + rounds * (round s / s .group) * s .group =
       omega (arith, mul-assoc rounds (round s / s .group) (s .group), ap (λ (y : ℕ). rounds * y) whole) in
       ap (λ (y : ℕ). y / s .group) e ∙ add-mul-div-right (s .first + x) (rounds * (round s / s .group)) group
 
-  pub active-repeats : (x : ℕ) → active s (x + period s) ≡ active s x
+  pub active-repeats : (x : ℕ) → active s isOpen (x + period s) ≡ active s isOpen x
   unfolding active
   active-repeats x =
       ap₂ _&&_ (repeats-times (inBlock s) (round s) (rounds-repeat s block) rounds x)
-      (ap (clear (s .bars)) (group-on x) ∙ again (groupAt s (s .first + x)))
+      (ap isOpen (group-on x) ∙ again (groupAt s (s .first + x)))
+
+-- ---- groups: each number of slots is one of whole groups
 
 module _ (s : Shape) (f : Fits s) where
-  -- ---- groups: each number of slots is one of whole groups
-
   pub whole : (n : ℕ) → n % s .group ≡ 0 → n / s .group * s .group ≡ n
   whole n h = omega (arith, div-add-mod' n (s .group))
 
   pub whole-round-groups : round s / s .group * s .group ≡ round s
   whole-round-groups = whole (round s) (add-mod (s .block) (s .gap) (s .group) ∙ ap₂ (λ (a b : ℕ). (a + b) % s .group) (f .wholeBlock) (f .wholeGap) ∙ zero-mod (s .group))
 
-  -- ---- the slots that are sent, listed
+-- ---- the slots that are sent, listed
 
-  pub repeats : (x : ℕ) → active s (x + period s) ≡ active s x
-  repeats = active-repeats s (f .group) (f .block) whole-round-groups (f .again)
+module _ (s : Shape) (isOpen : ℕ → Bool) (f : Fits s) (o : Leaves s isOpen) where
+  pub repeats : (x : ℕ) → active s isOpen (x + period s) ≡ active s isOpen x
+  repeats = active-repeats s isOpen (f .group) (f .block) (whole-round-groups s f) (o .again)
 
-  pub slots-listed : Lists (sentSlots s) (slotAt s) (isSent s) (indexOf s)
+  pub slots-listed : Lists (sentSlots s) (slotAt s isOpen) (isSent s isOpen) (indexOf s isOpen)
   unfolding slotAt isSent indexOf
-  slots-listed = lists-moved (s .first) (sentSlots s) _ _ _ (lists-from-zero (active s) (period s) repeats (f .some) (sentSlots s))
+  slots-listed = lists-moved (s .first) (sentSlots s) _ _ _ (lists-from-zero (active s isOpen) (period s) repeats (o .some) (sentSlots s))
 
-  -- ---- where no window closes anything
+-- ---- where there is no window
 
-  module _ (h : closesNothing (s .bars) ≡ true) where
-    pub plain : (x : ℕ) → active s x ≡ inBlock s x
-    unfolding active
-    plain x = ap (λ (b : Bool). inBlock s x && b) (idle-clear (s .bars) h (groupAt s (s .first + x))) ∙ and-true (inBlock s x)
-      where
-        and-true : (b : Bool) → (b && true) ≡ b
-        and-true true = refl
-        and-true false = refl
+module _ (s : Shape) (f : Fits s) where
+  pub plain : (x : ℕ) → active s allOpen x ≡ inBlock s x
+  unfolding active
+  plain x = and-true (inBlock s x)
+    where
+      and-true : (b : Bool) → (b && true) ≡ b
+      and-true true = refl
+      and-true false = refl
 
-    pub plain-rank : (x : ℕ) → rank (active s) x ≡ rank (inBlock s) x
-    plain-rank x = rank-same (active s) (inBlock s) x (λ i l. plain i)
+  pub plain-rank : (x : ℕ) → rank (active s allOpen) x ≡ rank (inBlock s) x
+  plain-rank x = rank-same (active s allOpen) (inBlock s) x (λ i l. plain i)
 
-    pub at-index : (i : ℕ) → i + s .gap * (i / s .block) ≡ select (active s) (period s) 0 i
-    at-index i =
-        let t : ℕ = i + s .gap * (i / s .block) in
-        let b = at-block s (f .block) i in
-        is-select (active s) (period s) repeats (f .some) 0 i t
-        (nth-of (active s) 0 i t (plain t ∙ b .0) (omega (arith, rank-zero (active s), plain-rank t, b .1)))
+  pub all-leaves : Leaves s allOpen
+  all-leaves = record {
+    again = λ u. refl;
+    some =
+        some-of (active s allOpen) (period s) (active-repeats s allOpen (f .group) (f .block) (whole-round-groups s f) (λ u. refl))
+        (0 + s .gap * (0 / s .block)) (omega (arith, f .block)) (plain (0 + s .gap * (0 / s .block)) ∙ at-block s (f .block) 0 .0);
+  }
 
-    pub slot-plain : (i : ℕ) → slotAt s i ≡ s .first + (i + s .gap * (i / s .block))
-    unfolding slotAt
-    slot-plain i = ap (λ (x : ℕ). s .first + x) (sym (at-index i))
+  pub at-index : (i : ℕ) → i + s .gap * (i / s .block) ≡ select (active s allOpen) (period s) 0 i
+  at-index i =
+      let t : ℕ = i + s .gap * (i / s .block) in
+      let b = at-block s (f .block) i in
+      is-select (active s allOpen) (period s) (repeats s allOpen f all-leaves) (all-leaves .some) 0 i t
+      (nth-of (active s allOpen) 0 i t (plain t ∙ b .0) (omega (arith, rank-zero (active s allOpen), plain-rank t, b .1)))
+
+  pub slot-plain : (i : ℕ) → slotAt s allOpen i ≡ s .first + (i + s .gap * (i / s .block))
+  unfolding slotAt
+  slot-plain i = ap (λ (x : ℕ). s .first + x) (sym (at-index i))

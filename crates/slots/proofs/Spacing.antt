@@ -1,13 +1,15 @@
--- Numbers by spacing: their bounds, the start in closed form, and 256 and 40 ms in slots.
+-- Numbers by spacing: their bounds, the start in closed form, 256 and 40 ms in slots, and whole groups of them.
 use mathlib.Core.Bool.{Bool, true, false, cond}
 use mathlib.Core.Path.{_≡_, refl, ap}
-use Prim.Native.Nat.{ℕ, _+_, _*_, _/_, min, max, _≤_, _<_}
+use Prim.Native.Nat.{ℕ, _+_, _*_, _/_, _%_, _^_, min, max, _≤_, _<_}
+use native.Mathlib.Nat.{mod-one}
 use native.Mathlib.Decide.{ℕ-discrete}
 use native.Mathlib.Omega.{arith}
 use lib.Dec.{eqb}
 use borrow.Author.Tests.{le-leb, lt-leb, eq-eqb, ne-eqb}
 use Rattle.counting.proofs.Select.{next-least}
-use Rattle.slots.specs.Numerology.{bySpacing, slotHalves, beginsAfter, firstAfter}
+use Rattle.grid.specs.Grid.{uplinkSubcarriers}
+use Rattle.slots.specs.Numerology.{bySpacing, slotHalves, slotsIn, beginsAfter, firstAfter, groupOf}
 
 -- ---- a number by spacing is between the two
 
@@ -58,3 +60,41 @@ gap-is false = refl
 pub group-ms-is : (b : Bool) → cond b 2 1 ≡ cond b 1 2 * cond b 4 1 / 2
 group-ms-is true = refl
 group-ms-is false = refl
+
+-- ---- what holds of a shape's numbers by spacing
+
+pub record Spaced (spacing t : ℕ) : Type 0 where
+  pub block : 0 < slotsIn spacing 256
+  pub group : 0 < groupOf spacing
+  pub wholeFirst : firstAfter spacing t % groupOf spacing ≡ 0
+  pub wholeBlock : slotsIn spacing 256 % groupOf spacing ≡ 0
+  pub wholeGap : slotsIn spacing 40 % groupOf spacing ≡ 0
+  pub blockSmall : slotsIn spacing 256 < 2 ^ 16
+  pub gapSmall : slotsIn spacing 40 < 2 ^ 16
+  pub groupSmall : groupOf spacing < 2 ^ 16
+  pub subcarriersSmall : uplinkSubcarriers spacing < 2 ^ 16
+
+pub spaced : (spacing t : ℕ) → Spaced spacing t
+spaced spacing t =
+    let block = by-spacing-bounds spacing 128 512 in
+    let gap = by-spacing-bounds spacing 20 80 in
+    let group = by-spacing-bounds spacing 1 2 in
+    let b = block-is (eqb spacing 0) in
+    let g = gap-is (eqb spacing 0) in
+    let w = whole (ℕ-discrete spacing 0) in
+    record {
+      block = omega (arith, block .0);
+      group = omega (arith, group .0);
+      wholeFirst = w .0;
+      wholeBlock = w .1;
+      wholeGap = w .2;
+      blockSmall = omega (arith, block .1);
+      gapSmall = omega (arith, gap .1);
+      groupSmall = omega (arith, group .1);
+      subcarriersSmall = omega (arith, by-spacing-bounds spacing (uplinkSubcarriers 0) (uplinkSubcarriers 1) .1);
+    }
+  where
+    whole : Dec (spacing ≡ 0)
+        → (firstAfter spacing t % groupOf spacing ≡ 0) × (slotsIn spacing 256 % groupOf spacing ≡ 0) × (slotsIn spacing 40 % groupOf spacing ≡ 0)
+    whole (yes e) = rw (eq-eqb spacing 0 e) (mod-one (firstAfter spacing t), refl, refl)
+    whole (no n) = rw (ne-eqb spacing 0 n) (omega (arith, first-wide spacing t n), refl, refl)

@@ -1,5 +1,5 @@
 -- An uplink grant's sending: its slots, their data elements, the copy order, and kind 1 on the reference signal of slots that are sent.
-use mathlib.Core.Bool.{_&&_}
+use mathlib.Core.Bool.{Bool, _&&_}
 use Prim.Native.Nat.{ℕ, _*_}
 use mir.Val.{boolByte}
 use Rattle.sending.specs.CopyOrder.{carried}
@@ -8,18 +8,18 @@ use Rattle.slots.specs.declared.Shape.{Shape}
 use Rattle.slots.specs.Timing.{sentSlots, slotAt, isSent, indexOf}
 use Rattle.slots.specs.Elements.{carriesData, carriesReference, slotData, elementAt, numberOf}
 
-abbrev pub sendingOf : Shape → Sending
-sendingOf s = record {
+abbrev pub sendingOf : Shape → (ℕ → Bool) → Sending
+sendingOf s isOpen = record {
   K = sentSlots s;
   W = slotData s;
-  time = slotAt s;
-  sent = isSent s;
-  index = indexOf s;
+  time = slotAt s isOpen;
+  sent = isSent s isOpen;
+  index = indexOf s isOpen;
   elem = elementAt s;
   used = carriesData s;
   number = numberOf s;
   carry = carried (s .row) (s .group) (s .codeword);
-  kind = λ slot x. boolByte (isSent s slot && carriesReference s x);
+  kind = λ slot x. boolByte (isSent s isOpen slot && carriesReference s x);
 }
 
 -- symbols of the codeword, and places: each copy has every symbol once

@@ -1,14 +1,16 @@
 -- What the quick code takes apart. No definition of 01 cites this.
-use mathlib.Core.Bool.{true, cond, _&&_}
+use mathlib.Core.Bool.{Bool, true, cond, not, _&&_}
 use mathlib.Core.Path.{_≡_}
-use Prim.Native.Nat.{ℕ, _+_, _-_, _/_, _%_, _^_, _<_}
+use Prim.Native.Nat.{ℕ, _+_, _-_, _*_, _/_, _%_, _<_}
 use lib.Dec.{ltb}
 use Rattle.counting.specs.Counting.{rank}
 use Rattle.bars.specs.declared.Bar.{Bar}
-use Rattle.bars.specs.declared.Bars.{Bars}
+use Rattle.bars.specs.declared.Levels.{Levels}
 use Rattle.bars.specs.Bars.{isFree}
+use Rattle.bars.specs.Quick.{Stacked, Repeats}
 use Rattle.grid.specs.Grid.{uplinkSymbolOf, uplinkSubcarrierOf}
 use Rattle.slots.specs.declared.Shape.{Shape}
+use Rattle.slots.specs.declared.timing.Course.{Course}
 use Rattle.slots.specs.declared.Split.{Split}
 use Rattle.slots.specs.declared.Turn.{Turn}
 use Rattle.slots.specs.Timing.{round, active, sentSlots, isSent, indexOf}
@@ -35,21 +37,44 @@ gapBar s = record {
   closed = s .gap / s .group;
 }
 
--- after n groups the same ones may be sent again
-pub record Again (s : Shape) (n : ℕ) : Type 0 where
-  pub again : (t : ℕ) → isFree (gapBar s) (s .bars) (t + n) ≡ isFree (gapBar s) (s .bars) t
-  pub some : 0 < n
-  pub small : n < 2 ^ 27
+-- rounds of 37 parts of 8 ms, of which the last 5 are the gap
+pub record Parted (s : Shape) (part : ℕ) : Type 0 where
+  pub some : 0 < part
+  pub rounds : round s / s .group ≡ 37 * part
+  pub gaps : s .gap / s .group ≡ 5 * part
+
+-- the longest period of the bars is so many parts that in 37 of them each part comes at each place of a round once
+pub record Spread (part : ℕ) (ls : Levels) : Type 0 where
+  pub times : ℕ
+  pub evenly : (c : ℕ) → rank (λ k. not (ltb ((c + k * times) % 37) 5)) 37 ≡ 32
+  pub longest : ls .bars .b4 .period ≡ times * part
+
+-- levels that can be searched beside the gaps of a shape
+pub record Searchable (s : Shape) (ls : Levels) : Type 0 where
+  pub stacked : Stacked ls
+  pub part : ℕ
+  pub parted : Parted s part
+  pub spread : Spread part ls
+
+-- the gaps of a shape, and a cycle of what it may send
+pub record Runs (s : Shape) (ls : Levels) (c : Course) : Type 0 where
+  pub gap : c .gap ≡ gapBar s
+  pub cycle : Repeats (isFree (gapBar s) (ls .bars)) (c .cycle)
+
+-- a turn's number is one of those that are sent
+abbrev pub Counted : Shape → Turn → Type 0
+Counted s r = r .sent ≡ true → r .i < sentSlots s
 
 -- r tells whether a slot is sent, and which transmitted slot it is
-pub record Located (s : Shape) (slot : ℕ) (r : Turn) : Type 0 where
-  pub says : r .sent ≡ isSent s slot
-  pub index : isSent s slot ≡ true → r .i ≡ indexOf s slot
+pub record Located (s : Shape) (isOpen : ℕ → Bool) (slot : ℕ) (r : Turn) : Type 0 where
+  pub says : r .sent ≡ isSent s isOpen slot
+  pub index : isSent s isOpen slot ≡ true → r .i ≡ indexOf s isOpen slot
+  pub counted : Counted s r
 
 -- r tells whether slot number x, counted from the first, may be sent, and if so how many before it may
-pub record TurnOf (s : Shape) (x : ℕ) (r : Turn) : Type 0 where
-  pub says : r .sent ≡ active s x
-  pub index : active s x ≡ true → r .i ≡ rank (active s) x
+pub record TurnOf (s : Shape) (isOpen : ℕ → Bool) (x : ℕ) (r : Turn) : Type 0 where
+  pub says : r .sent ≡ active s isOpen x
+  pub index : active s isOpen x ≡ true → r .i ≡ rank (active s isOpen) x
 
 -- a turn, if it is one of those that are sent
 abbrev pub amongSent : Shape → Turn → Turn
@@ -72,25 +97,4 @@ sized s size order = record {
   references = s .references;
   size = size;
   order = order;
-  bars = s .bars;
-}
-
--- a shape with other bars
-abbrev pub barred : Shape → Bars → Shape
-barred s bars = record {
-  first = s .first;
-  subcarriers = s .subcarriers;
-  block = s .block;
-  gap = s .gap;
-  tone = s .tone;
-  tones = s .tones;
-  codeword = s .codeword;
-  copies = s .copies;
-  row = s .row;
-  group = s .group;
-  reference = s .reference;
-  references = s .references;
-  size = s .size;
-  order = s .order;
-  bars = bars;
 }

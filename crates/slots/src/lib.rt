@@ -1,15 +1,15 @@
 // Uplink questions on a shape: the numbers that place a grant's codeword on uplink slots, whatever kind of grant they are made from.
-ghost use mathlib.Core.Bool.{true};
+ghost use mathlib.Core.Bool.{Bool};
 ghost use mathlib.Core.Path.{_≡_};
-ghost use Prim.Native.Nat.{_+_, _-_, _*_, _^_, _<_};
+ghost use Prim.Native.Nat.{ℕ, _+_, _-_, _*_, _^_, _<_};
 ghost use Rattle.sending.specs.CopyOrder.{carried};
-ghost use Rattle.bars.specs.Quick.{closesNothing};
-ghost use Rattle.slots.specs.Fits.{Fits};
-ghost use Rattle.slots.specs.Timing.{sentSlots, slotAt};
+ghost use Rattle.bars.specs.Bars.{clear};
+ghost use Rattle.slots.specs.Fits.{Fits, Leaves};
+ghost use Rattle.slots.specs.Timing.{allOpen, sentSlots, slotAt};
 ghost use Rattle.slots.specs.Mapping.{places};
-ghost use Rattle.slots.specs.Quick.{splitOf, amongSent, Located};
+ghost use Rattle.slots.specs.Quick.{Searchable, splitOf, amongSent, Counted, Located};
 ghost use Rattle.slots.specs.Answers.{refusedPlan, refusedPlace, shapePlan, shapeForward, shapeBackward};
-use bars::Bars;
+use bars::Levels;
 use grid::UplinkGrid;
 use sending::Back;
 
@@ -28,7 +28,7 @@ pub use numerology::narrow_tones;
 
 // Slots from `first` on, in blocks of sending with a gap after each; `tones` of the grid's `subcarriers` from `tone` on; `codeword` slots,
 // sent `copies` times, each group of `group` slots `row` times in a row; `references` reference symbols from `reference` on; the transport
-// block's size and the modulation order; the groups that random access windows close, by the group's number.
+// block's size and the modulation order.
 pub struct Shape {
     pub first: u64,
     pub subcarriers: u64,
@@ -44,7 +44,6 @@ pub struct Shape {
     pub references: u64,
     pub size: u64,
     pub order: u64,
-    pub bars: Bars,
 }
 
 // Plan's answer: the refusal number; the first and last slot, the copies, the places, the transport block's size and the modulation order.
@@ -117,21 +116,21 @@ fn sent_slots(s: Shape) -> u64
     copies * codeword
 }
 
-// Transmitted slot i, where there is one.
-pub fn slot_at(s: Shape, i: u64) -> u64
-    requires { ⌜ Fits s ⌝ }
-    ensures { λ r. ⌜ (i < sentSlots s → r ≡ slotAt s i) ⌝ }
+// Transmitted slot i, where there is one, in the groups that the bars leave open.
+pub fn slot_at(s: Shape, ls: Levels, i: u64) -> u64
+    requires { ⌜ Fits s × Leaves s (clear (ls .bars)) × Searchable s ls ⌝ }
+    ensures { λ r. ⌜ (i < sentSlots s → r ≡ slotAt s (clear (ls .bars)) i) ⌝ }
 {
     if i >= sent_slots(s) {
         return 0;
     }
-    timing::slot_around(s, i)
+    timing::slot_on(s, ls, timing::course_of(s, ls), i)
 }
 
-// The same, where no window closes anything.
+// The same, where there is no window.
 pub fn plain_slot_at(s: Shape, i: u64) -> u64
-    requires { ⌜ Fits s × (closesNothing (s .bars) ≡ true) ⌝ }
-    ensures { λ r. ⌜ (i < sentSlots s → r ≡ slotAt s i) ⌝ }
+    requires { ⌜ Fits s ⌝ }
+    ensures { λ r. ⌜ (i < sentSlots s → r ≡ slotAt s allOpen i) ⌝ }
 {
     let first = s.first;
     if i >= sent_slots(s) {
@@ -154,21 +153,24 @@ fn among_sent(s: Shape, turn: Turn) -> Turn
 }
 
 // Whether a slot is sent, and which one it is.
-pub fn locate(s: Shape, slot: u64) -> Turn
-    requires { ⌜ Fits s ⌝ }
-    ensures { λ r. ⌜ Located s slot r ⌝ }
+pub fn locate(s: Shape, ls: Levels, slot: u64) -> Turn
+    requires { ⌜ Fits s × Leaves s (clear (ls .bars)) × Searchable s ls ⌝ }
+    ensures { λ r. ⌜ Located s (clear (ls .bars)) slot r ⌝ }
 {
     let first = s.first;
     if slot < first {
         return Turn { sent: false, i: 0 };
     }
-    among_sent(s, timing::turn_around(s, slot - first))
+    among_sent(
+        s,
+        timing::turn_on(s, ls, timing::course_of(s, ls), slot - first),
+    )
 }
 
-// The same, where no window closes anything.
+// The same, where there is no window.
 pub fn plain_locate(s: Shape, slot: u64) -> Turn
-    requires { ⌜ Fits s × (closesNothing (s .bars) ≡ true) ⌝ }
-    ensures { λ r. ⌜ Located s slot r ⌝ }
+    requires { ⌜ Fits s ⌝ }
+    ensures { λ r. ⌜ Located s allOpen slot r ⌝ }
 {
     let first = s.first;
     if slot < first {
@@ -201,10 +203,10 @@ fn item(a: u64, w: u64, e: u64) -> u64
     a * w + e
 }
 
-// First and last slot, copies, places, size and order.
+// First and last slot, copies, places, size and order, whichever groups are open.
 fn planned(s: Shape, first: u64, last: u64) -> UplinkPlan
-    requires { ⌜ Fits s × (first ≡ slotAt s 0) × (last ≡ slotAt s (sentSlots s - 1)) ⌝ }
-    ensures { λ r. ⌜ r ≡ shapePlan s ⌝ }
+    requires { ⌜ Fits s ⌝ }
+    ensures { λ r. ⌜ ((isOpen : ℕ → Bool) → first ≡ slotAt s isOpen 0 → last ≡ slotAt s isOpen (sentSlots s - 1) → r ≡ shapePlan s isOpen) ⌝ }
 {
     UplinkPlan {
         no: 0,
@@ -217,18 +219,23 @@ fn planned(s: Shape, first: u64, last: u64) -> UplinkPlan
     }
 }
 
-pub fn plan(s: Shape) -> UplinkPlan
-    requires { ⌜ Fits s ⌝ }
-    ensures { λ r. ⌜ r ≡ shapePlan s ⌝ }
+pub fn plan(s: Shape, ls: Levels) -> UplinkPlan
+    requires { ⌜ Fits s × Leaves s (clear (ls .bars)) × Searchable s ls ⌝ }
+    ensures { λ r. ⌜ r ≡ shapePlan s (clear (ls .bars)) ⌝ }
 {
     let last = sent_slots(s) - 1;
-    planned(s, slot_at(s, 0), slot_at(s, last))
+    let course = timing::course_of(s, ls);
+    planned(
+        s,
+        timing::slot_on(s, ls, course, 0),
+        timing::slot_on(s, ls, course, last),
+    )
 }
 
-// The same, where no window closes anything.
+// The same, where there is no window.
 pub fn plain_plan(s: Shape) -> UplinkPlan
-    requires { ⌜ Fits s × (closesNothing (s .bars) ≡ true) ⌝ }
-    ensures { λ r. ⌜ r ≡ shapePlan s ⌝ }
+    requires { ⌜ Fits s ⌝ }
+    ensures { λ r. ⌜ r ≡ shapePlan s allOpen ⌝ }
 {
     let last = sent_slots(s) - 1;
     planned(s, plain_slot_at(s, 0), plain_slot_at(s, last))
@@ -237,8 +244,8 @@ pub fn plain_plan(s: Shape) -> UplinkPlan
 // The place of position p, which `at` is taken apart and which is in `slot`, and the symbol there. Whoever asks takes it apart and finds the slot: one
 // function of all would be too long for the compiler to put into either kind of grant's.
 pub fn forward(s: Shape, p: u64, at: Split, slot: u64) -> UplinkPlace
-    requires { ⌜ Fits s × (at ≡ splitOf s p) × (at .i < sentSlots s → slot ≡ slotAt s (at .i)) ⌝ }
-    ensures { λ r. ⌜ r ≡ shapeForward s p ⌝ }
+    requires { ⌜ Fits s × (at ≡ splitOf s p) ⌝ }
+    ensures { λ r. ⌜ ((isOpen : ℕ → Bool) → (at .i < sentSlots s → slot ≡ slotAt s isOpen (at .i)) → r ≡ shapeForward s isOpen p) ⌝ }
 {
     if at.i >= sent_slots(s) {
         return refused_place(14);
@@ -256,8 +263,8 @@ pub fn forward(s: Shape, p: u64, at: Split, slot: u64) -> UplinkPlace
 
 // What stands at symbol l and subcarrier k of a slot, which is located at `turn`, as forward has its position.
 pub fn backward(s: Shape, slot: u64, turn: Turn, l: u64, k: u64) -> Back
-    requires { ⌜ Fits s × Located s slot turn ⌝ }
-    ensures { λ r. ⌜ r ≡ shapeBackward s slot l k ⌝ }
+    requires { ⌜ Fits s × Counted s turn ⌝ }
+    ensures { λ r. ⌜ ((isOpen : ℕ → Bool) → Located s isOpen slot turn → r ≡ shapeBackward s isOpen slot l k) ⌝ }
 {
     let subcarriers = s.subcarriers;
     let inside = (l < UplinkGrid::SYMBOLS) & (k < subcarriers);

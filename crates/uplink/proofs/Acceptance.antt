@@ -1,31 +1,28 @@
 -- What acceptance says of a grant's numbers, and that its shape then fits.
-use mathlib.Core.Bool.{true}
-use mathlib.Core.Path.{_≡_, refl, sym, ap, ap₂, _∙_}
-use Prim.Native.Nat.{ℕ, _+_, _^_, _≤_, _<_}
+use mathlib.Core.Path.{_≡_, refl, sym, ap, _∙_}
+use Prim.Native.Nat.{ℕ, _+_, _^_, _≤_, _<_, _/_}
 use native.Mathlib.Nat.{mul-pos, mul-le-mul}
 use native.Mathlib.Omega.{arith}
-use lib.Dec.{eqb, ltb}
+use lib.Dec.{ltb}
 use borrow.Author.Tests.{ltb-false, leb-false, le-ltb, lt-leb}
 use Rattle.counting.proofs.Facts.{passed, after-first, first-alone, either-parts}
-use Rattle.grid.specs.Grid.{uplinkSubcarriers}
 use Rattle.grid.specs.Tables.{entry, lengths, uplinkDelays}
 use Rattle.grid.proofs.Rules.{length-bounds, uplink-copies-bounds, uplink-delay-bound}
-use Rattle.bars.specs.declared.Bars.{Bars}
-use Rattle.bars.specs.Bars.{noBars}
-use Rattle.slots.specs.declared.Shape.{Shape}
-use Rattle.slots.specs.Fits.{Fits}
-use Rattle.slots.specs.Quick.{sized, barred}
-use Rattle.slots.proofs.Spacing.{first-bound, by-spacing-bounds, block-is, gap-is}
+use Rattle.slots.specs.Timing.{allOpen}
+use Rattle.slots.specs.Fits.{Fits, Leaves}
+use Rattle.slots.proofs.Spacing.{first-bound, by-spacing-bounds, spaced}
+use Rattle.windows.specs.declared.Verdict.{Verdict}
 use Rattle.windows.specs.Windows.{none}
-use Rattle.windows.proofs.Closing.{none-refused, none-bars}
-use Rattle.windows.proofs.Spaced.{left, ms-within}
+use Rattle.windows.specs.Quick.{Judged}
+use Rattle.slots.specs.Quick.{Parted}
+use Rattle.windows.proofs.Spaced.{leaves, parted, none-refuses, none-closes}
 use Rattle.uplink.specs.declared.UplinkFields.{UplinkFields}
 use Rattle.uplink.specs.Quick.{fieldsOf, unwindowed}
 use Rattle.uplink.specs.declared.UplinkGrant.{UplinkGrant}
 use Rattle.slots.specs.Numerology.{groupOf, groupMs}
 use Rattle.uplink.specs.Fields.{toneFields, tonesOf, firstTone, unitSlots}
 use Rattle.uplink.specs.Refusals.{lastSubframe, aboveLargest, namesNoTone, aboveMcs, windowed, fieldsRefusal, refusalWithin, refusal}
-use Rattle.uplink.specs.Shaping.{shapeOf}
+use Rattle.uplink.specs.Shaping.{shapeOf, openOf}
 use Rattle.uplink.proofs.Fielded.{tone-field, whole-groups, row-splits, row-bounds}
 
 -- every number in its range
@@ -92,58 +89,62 @@ module _ (limit : ℕ) (g : UplinkGrant) where
   unfolding refusalWithin
   accepts a = rw (in-range-passes (a .range)) (a .windows)
 
-  pub fits-within : limit < 2 ^ 32 → Accepted limit g → Fits (shapeOf g)
+  pub fits-within : limit < 2 ^ 32 → InRange limit g → Fits (shapeOf g)
   unfolding shapeOf
   fits-within h a =
-      let t = tone-field (g .spacing) (g .subcarrier) (a .range .spacing) (a .range .tones) in
-      let units = length-bounds (g .units) (omega (arith, a .range .units)) in
-      let copies = uplink-copies-bounds (g .copies) (omega (arith, a .range .copies)) in
-      let row = row-bounds (tonesOf (g .spacing) (g .subcarrier)) (g .copies) (omega (arith, a .range .copies)) in
+      let t = tone-field (g .spacing) (g .subcarrier) (a .spacing) (a .tones) in
+      let units = length-bounds (g .units) (omega (arith, a .units)) in
+      let copies = uplink-copies-bounds (g .copies) (omega (arith, a .copies)) in
+      let row = row-bounds (tonesOf (g .spacing) (g .subcarrier)) (g .copies) (omega (arith, a .copies)) in
       let slots : ℕ = unitSlots (tonesOf (g .spacing) (g .subcarrier)) in
-      let group = by-spacing-bounds (g .spacing) 1 2 in
       let reference = by-spacing-bounds (g .spacing) 4 3 in
-      let block = by-spacing-bounds (g .spacing) 128 512 in
-      let gap = by-spacing-bounds (g .spacing) 20 80 in
-      let l = left (shapeOf g) (g .spacing) (g .n + entry uplinkDelays (g .delay)) (firstTone (g .spacing) (g .subcarrier)) (tonesOf (g .spacing) (g .subcarrier))
-      (g .windows) (a .range .spacing) refl refl refl refl refl (a .windows) in
+      let by = spaced (g .spacing) (g .n + entry uplinkDelays (g .delay)) in
       record {
-        block = omega (arith, block .0, block-is (eqb (g .spacing) 0));
+        block = by .block;
         tones = t .some;
         codeword = mul-pos (units .0) (t .slots);
         copies = copies .0;
         row = row .0;
-        group = omega (arith, group .0);
+        group = by .group;
         references = omega arith;
         withinSymbols = omega (arith, reference .1);
         withinTones = t .inside;
-        passes = row-splits (tonesOf (g .spacing) (g .subcarrier)) (g .copies) (omega (arith, a .range .copies));
+        passes = row-splits (tonesOf (g .spacing) (g .subcarrier)) (g .copies) (omega (arith, a .copies));
         groups = whole-groups (entry lengths (g .units)) slots (groupOf (g .spacing)) (t .groups);
-        wholeFirst = l .wholeFirst;
-        wholeBlock = l .wholeBlock;
-        wholeGap = l .wholeGap;
-        again = l .again;
-        some = l .some;
-        bars = l .bars;
-        short = l .short;
-        shortSmall = l .shortSmall;
+        wholeFirst = by .wholeFirst;
+        wholeBlock = by .wholeBlock;
+        wholeGap = by .wholeGap;
         firstSmall =
             omega (
               arith,
-              a .range .early,
+              a .early,
               first-bound (g .spacing) (g .n + entry uplinkDelays (g .delay)),
-              uplink-delay-bound (g .delay) (omega (arith, a .range .delay)),
+              uplink-delay-bound (g .delay) (omega (arith, a .delay)),
             );
-        blockSmall = omega (arith, block .1, block-is (eqb (g .spacing) 0));
-        gapSmall = omega (arith, gap .1, gap-is (eqb (g .spacing) 0));
-        subcarriersSmall = omega (arith, by-spacing-bounds (g .spacing) (uplinkSubcarriers 0) (uplinkSubcarriers 1) .1);
+        blockSmall = by .blockSmall;
+        gapSmall = by .gapSmall;
+        subcarriersSmall = by .subcarriersSmall;
         codewordSmall = omega (arith, mul-le-mul (units .1) (t .slotsSmall));
         copiesSmall = omega (arith, copies .1);
         rowSmall = omega (arith, row .1);
-        groupSmall = omega (arith, group .1);
+        groupSmall = by .groupSmall;
       }
 
-pub fits : (g : UplinkGrant) → refusal g ≡ 0 → Fits (shapeOf g)
-fits g e = fits-within lastSubframe g (omega arith) (accepted lastSubframe g e)
+module _ (g : UplinkGrant) (e : refusal g ≡ 0) where
+  pub fits : Fits (shapeOf g)
+  fits = fits-within lastSubframe g (omega arith) (accepted lastSubframe g e .range)
+
+  -- what the windows leave
+  pub leaves-open : Leaves (shapeOf g) (openOf g)
+  unfolding shapeOf
+  leaves-open =
+      let a = accepted lastSubframe g e in
+      leaves (shapeOf g) (g .spacing) (firstTone (g .spacing) (g .subcarrier)) (tonesOf (g .spacing) (g .subcarrier)) (g .windows) (a .range .spacing) refl refl refl (a .windows)
+
+-- its rounds, in parts of 8 ms
+pub parted-of : (g : UplinkGrant) → Parted (shapeOf g) (8 / groupMs (g .spacing))
+unfolding shapeOf
+parted-of g = parted (shapeOf g) (g .spacing) refl refl refl
 
 -- ---- a grant by its fields
 
@@ -152,36 +153,24 @@ module _ (g : UplinkGrant) where
   unfolding fieldsRefusal
   same-fields = refl
 
-  pub fields-pass : refusal g ≡ 0 → fieldsRefusal lastSubframe (unwindowed (fieldsOf g)) ≡ 0
-  fields-pass e = same-fields ∙ in-range-passes lastSubframe g (accepted lastSubframe g e .range)
+  module _ (f : UplinkFields) (h : f ≡ fieldsOf g) where
+    -- its shape
+    pub same-shape : shapeOf (unwindowed f) ≡ shapeOf g
+    unfolding shapeOf
+    same-shape = ap (λ (x : UplinkFields). shapeOf (unwindowed x)) h
 
-  -- its shape, by its fields and the groups that its windows close
-  pub same-shape : (f : UplinkFields) (b : Bars) → f ≡ fieldsOf g → b ≡ shapeOf g .bars → barred (shapeOf (unwindowed f)) b ≡ shapeOf g
-  unfolding shapeOf
-  same-shape f b hf hb = ap₂ (λ (x : UplinkFields) (y : Bars). barred (shapeOf (unwindowed x)) y) hf hb
-
-  pub same-sized : (f : UplinkFields) (b : Bars) (size order : ℕ) → f ≡ fieldsOf g → b ≡ shapeOf g .bars
-      → barred (sized (shapeOf (unwindowed f)) size order) b ≡ sized (shapeOf g) size order
-  unfolding shapeOf
-  same-sized f b size order hf hb = ap₂ (λ (x : UplinkFields) (y : Bars). barred (sized (shapeOf (unwindowed x)) size order) y) hf hb
+    -- accepted by its verdict, so its fields are
+    pub fields-clear : (v : Verdict) → Judged (8 / groupMs (g .spacing)) (refusal g) (openOf g) v → v .no ≡ 0 → fieldsRefusal lastSubframe (unwindowed f) ≡ 0
+    fields-clear v j z =
+        ap (λ (x : UplinkFields). fieldsRefusal lastSubframe (unwindowed x)) h ∙ same-fields
+        ∙ in-range-passes lastSubframe g (accepted lastSubframe g (sym (j .number) ∙ z) .range)
 
 -- ---- fields with no window
 
 module _ (f : UplinkFields) where
-  plain-windowed : windowed (unwindowed f) ≡ 0
-  plain-windowed = let w = ms-within (f .spacing) in none-refused (groupMs (f .spacing)) _ _ none refl (w .0) (w .1)
-
   pub plain-refusal : fieldsRefusal lastSubframe (unwindowed f) ≡ refusal (unwindowed f)
   unfolding refusalWithin
-  plain-refusal = first-alone (fieldsRefusal lastSubframe (unwindowed f)) (windowed (unwindowed f)) plain-windowed
+  plain-refusal = first-alone (fieldsRefusal lastSubframe (unwindowed f)) (windowed (unwindowed f)) (none-refuses (f .spacing) _ _ none refl)
 
-  pub plain-bars : noBars ≡ shapeOf (unwindowed f) .bars
-  unfolding shapeOf
-  plain-bars = none-bars (groupMs (f .spacing)) _ _ none refl
-
-  -- a shape made of them with no bars
-  pub plain-shape : (b : Bars) → b ≡ noBars → barred (shapeOf (unwindowed f)) b ≡ shapeOf (unwindowed f)
-  plain-shape b e = same-shape (unwindowed f) f b refl (e ∙ plain-bars)
-
-  pub plain-sized : (b : Bars) (size order : ℕ) → b ≡ noBars → barred (sized (shapeOf (unwindowed f)) size order) b ≡ sized (shapeOf (unwindowed f)) size order
-  plain-sized b size order e = same-sized (unwindowed f) f b size order refl (e ∙ plain-bars)
+  pub plain-open : (u : ℕ) → allOpen u ≡ openOf (unwindowed f) u
+  plain-open u = none-closes (f .spacing) _ _ none refl u

@@ -3,18 +3,16 @@ use mathlib.Core.Path.{_≡_, ap, ap₂, _∙_}
 use Prim.Native.Nat.{ℕ, _+_, _*_}
 use Rattle.grid.specs.Grid.{uplinkSubcarriers}
 use Rattle.grid.specs.Tables.{entry, lengths, uplinkDelays}
-use Rattle.bars.specs.declared.Bars.{Bars}
 use Rattle.slots.specs.declared.Shape.{Shape}
 use Rattle.uplink.specs.declared.UplinkGrant.{UplinkGrant}
-use Rattle.uplink.specs.declared.UplinkFields.{UplinkFields}
 use Rattle.uplink.specs.declared.Sizes.{Sizes}
-use Rattle.uplink.specs.Quick.{unwindowed, sizesOf}
-use Rattle.slots.specs.Quick.{sized, barred}
+use Rattle.uplink.specs.Quick.{fieldsOf, sizesOf}
+use Rattle.slots.specs.Quick.{sized}
 use Rattle.slots.specs.Numerology.{slotsIn, firstAfter, groupOf}
 use Rattle.uplink.specs.Fields.{firstTone, unitSlots, rowOf, referenceOf}
 use Rattle.uplink.specs.Shaping.{grantTones, grantCopies, shapeOf}
 
-pub shape-is : (g : UplinkGrant) (first subcarriers block gap tone tones codeword copies row group reference size order : ℕ) (bars : Bars)
+pub shape-is : (g : UplinkGrant) (first subcarriers block gap tone tones codeword copies row group reference size order : ℕ)
     → tones ≡ grantTones g → copies ≡ grantCopies g → first ≡ firstAfter (g .spacing) (g .n + entry uplinkDelays (g .delay))
     → subcarriers ≡ uplinkSubcarriers (g .spacing) → block ≡ slotsIn (g .spacing) 256 → gap ≡ slotsIn (g .spacing) 40
     → tone ≡ firstTone (g .spacing) (g .subcarrier) → codeword ≡ entry lengths (g .units) * unitSlots tones → row ≡ rowOf tones copies
@@ -35,11 +33,10 @@ pub shape-is : (g : UplinkGrant) (first subcarriers block gap tone tones codewor
       references = 1;
       size = size;
       order = order;
-      bars = bars;
     })
-    (barred (sized (shapeOf g) size order) bars)
+    (sized (shapeOf g) size order)
 unfolding shapeOf
-shape-is g _ _ _ _ _ _ _ _ _ _ _ size order bars ht hc hf hs hb hg hk hw hr hq hl =
+shape-is g _ _ _ _ _ _ _ _ _ _ _ size order ht hc hf hs hb hg hk hw hr hq hl =
     λ i. record {
       first = hf i;
       subcarriers = hs i;
@@ -55,10 +52,9 @@ shape-is g _ _ _ _ _ _ _ _ _ _ _ size order bars ht hc hf hs hb hg hk hw hr hq h
       references = 1;
       size = size;
       order = order;
-      bars = bars;
     }
 
 -- with its own size and order it is the grant's
-pub sized-own : (f : UplinkFields) (own : Sizes) → own ≡ sizesOf f → sized (shapeOf (unwindowed f)) (own .size) (own .order) ≡ shapeOf (unwindowed f)
+pub sized-own : (g : UplinkGrant) (own : Sizes) → own ≡ sizesOf (fieldsOf g) → sized (shapeOf g) (own .size) (own .order) ≡ shapeOf g
 unfolding shapeOf
-sized-own f own e = ap (λ (x : Sizes). sized (shapeOf (unwindowed f)) (x .size) (x .order)) e
+sized-own g own e = ap (λ (x : Sizes). sized (shapeOf g) (x .size) (x .order)) e

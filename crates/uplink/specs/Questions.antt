@@ -6,13 +6,13 @@ use Rattle.slots.specs.declared.UplinkPlace.{UplinkPlace}
 use Rattle.slots.specs.Answers.{planAnswer, forwardAnswer, backwardAnswer}
 use Rattle.uplink.specs.declared.UplinkGrant.{UplinkGrant}
 use Rattle.uplink.specs.Refusals.{refusal}
-use Rattle.uplink.specs.Shaping.{shapeOf}
+use Rattle.uplink.specs.Shaping.{shapeOf, openOf}
 
 unfoldable pub planOf : UplinkGrant → UplinkPlan
-planOf g = planAnswer (refusal g) (shapeOf g)
+planOf g = planAnswer (refusal g) (shapeOf g) (openOf g)
 
 unfoldable pub forwardOf : UplinkGrant → ℕ → UplinkPlace
-forwardOf g p = forwardAnswer (refusal g) (shapeOf g) p
+forwardOf g p = forwardAnswer (refusal g) (shapeOf g) (openOf g) p
 
 unfoldable pub backwardOf : UplinkGrant → ℕ → ℕ → ℕ → Back
-backwardOf g slot l k = backwardAnswer (refusal g) (shapeOf g) slot l k
+backwardOf g slot l k = backwardAnswer (refusal g) (shapeOf g) (openOf g) slot l k

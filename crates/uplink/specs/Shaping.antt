@@ -1,10 +1,11 @@
--- The shape of an uplink grant: 01 "Uplink grants", 02 L4.
+-- The shape of an uplink grant, and the groups that are open to it: 01 "Uplink grants", 02 L4.
+use mathlib.Core.Bool.{Bool}
 use Prim.Native.Nat.{ℕ, _+_, _*_}
 use Rattle.grid.specs.Grid.{uplinkSubcarriers}
 use Rattle.grid.specs.Tables.{entry, lengths, uplinkCopies, uplinkDelays}
 use Rattle.slots.specs.declared.Shape.{Shape}
 use Rattle.slots.specs.Numerology.{slotsIn, firstAfter, groupOf}
-use Rattle.windows.specs.Windows.{barsOn}
+use Rattle.windows.specs.Windows.{openTo}
 use Rattle.uplink.specs.declared.UplinkGrant.{UplinkGrant}
 use Rattle.uplink.specs.Fields.{tonesOf, firstTone, unitSlots, rowOf, referenceOf, blockSize, orderOf}
 
@@ -31,5 +32,8 @@ shapeOf g = record {
   references = 1;
   size = blockSize (grantTones g) (g .mcs) (g .units);
   order = orderOf (grantTones g) (g .mcs);
-  bars = barsOn (g .spacing) (firstTone (g .spacing) (g .subcarrier)) (grantTones g) (g .windows);
 }
+
+-- group u overlaps no random access window in time and tone
+abbrev pub openOf : UplinkGrant → ℕ → Bool
+openOf g = openTo (g .spacing) (firstTone (g .spacing) (g .subcarrier)) (grantTones g) (g .windows)

@@ -1,16 +1,19 @@
 // NPUSCH format 1: an uplink grant's refusals, its shape, and the questions on it.
 ghost use mathlib.Core.Path.{_≡_};
-ghost use Rattle.slots.specs.Quick.{sized, barred};
+ghost use Prim.Native.Nat.{_/_};
+ghost use Rattle.slots.specs.Quick.{sized};
+ghost use Rattle.slots.specs.Numerology.{groupMs};
+ghost use Rattle.windows.specs.Quick.{Judged};
 ghost use Rattle.uplink.specs.Quick.{fieldsOf, unwindowed, sizesOf};
 ghost use Rattle.uplink.specs.Refusals.{lastSubframe, aboveLargest, fieldsRefusal, refusalWithin, refusal};
-ghost use Rattle.uplink.specs.Shaping.{shapeOf};
+ghost use Rattle.uplink.specs.Shaping.{shapeOf, openOf};
 ghost use Rattle.uplink.specs.Questions.{planOf, forwardOf, backwardOf};
-use bars::Bars;
 use grid::UplinkGrid;
 use sending::Back;
 use slots::Shape;
 use slots::UplinkPlace;
 use slots::UplinkPlan;
+use windows::Verdict;
 use windows::Windows;
 
 mod fields;
@@ -91,37 +94,25 @@ fn judge_fields(limit: u64, f: UplinkFields) -> u64
     0
 }
 
-// The number with which a grant is refused, or 0.
-fn judge(g: UplinkGrant) -> u64
-    ensures { λ r. ⌜ r ≡ refusal g ⌝ }
+// The verdict on a grant: the fields' number, or the windows' verdict.
+fn judge(g: UplinkGrant) -> Verdict
+    ensures { λ r. ⌜ Judged (8 / groupMs (g .spacing)) (refusal g) (openOf g) r ⌝ }
 {
     let spacing = g.spacing;
     let subcarrier = g.subcarrier;
     let no = judge_fields(LAST_SUBFRAME, fields_of(g));
     if no != 0 {
-        return no;
+        return windows::unbarred(no);
     }
     let tone = fields::first_tone(spacing, subcarrier);
     let tones = fields::tones(spacing, subcarrier);
-    windows::refusal(spacing, tone, tones, g.windows)
-}
-
-// The groups that the windows of an accepted grant close.
-fn closed(g: UplinkGrant) -> Bars
-    requires { ⌜ refusal g ≡ 0 ⌝ }
-    ensures { λ r. ⌜ r ≡ shapeOf g .bars ⌝ }
-{
-    let spacing = g.spacing;
-    let subcarrier = g.subcarrier;
-    let tone = fields::first_tone(spacing, subcarrier);
-    let tones = fields::tones(spacing, subcarrier);
-    windows::bars(spacing, tone, tones, g.windows)
+    windows::judge(spacing, tone, tones, g.windows)
 }
 
 // The shape of accepted fields, with a size and an order: only a plan asks for the grant's own.
-fn shape(f: UplinkFields, size: u64, order: u64, bars: Bars) -> Shape
+fn shape(f: UplinkFields, size: u64, order: u64) -> Shape
     requires { ⌜ fieldsRefusal lastSubframe (unwindowed f) ≡ 0 ⌝ }
-    ensures { λ r. ⌜ r ≡ barred (sized (shapeOf (unwindowed f)) size order) bars ⌝ }
+    ensures { λ r. ⌜ r ≡ sized (shapeOf (unwindowed f)) size order ⌝ }
 {
     let spacing = f.spacing;
     let units = f.units;
@@ -142,7 +133,6 @@ fn shape(f: UplinkFields, size: u64, order: u64, bars: Bars) -> Shape
         references: 1,
         size,
         order,
-        bars,
     }
 }
 
@@ -167,13 +157,13 @@ fn sizes_of(f: UplinkFields) -> Sizes
 pub fn plan(g: UplinkGrant) -> UplinkPlan
     ensures { λ r. ⌜ r ≡ planOf g ⌝ }
 {
-    let no = judge(g);
-    if no != 0 {
-        return slots::refused_plan(no);
+    let v = judge(g);
+    if v.no != 0 {
+        return slots::refused_plan(v.no);
     }
     let f = fields_of(g);
     let own = sizes_of(f);
-    slots::plan(shape(f, own.size, own.order, closed(g)))
+    slots::plan(shape(f, own.size, own.order), v.levels)
 }
 
 pub fn plain_plan(f: UplinkFields) -> UplinkPlan
@@ -184,20 +174,20 @@ pub fn plain_plan(f: UplinkFields) -> UplinkPlan
         return slots::refused_plan(no);
     }
     let own = sizes_of(f);
-    slots::plain_plan(shape(f, own.size, own.order, bars::none()))
+    slots::plain_plan(shape(f, own.size, own.order))
 }
 
 // The place of position p, and the symbol there.
 pub fn forward(g: UplinkGrant, p: u64) -> UplinkPlace
     ensures { λ r. ⌜ r ≡ forwardOf g p ⌝ }
 {
-    let no = judge(g);
-    if no != 0 {
-        return slots::refused_place(no);
+    let v = judge(g);
+    if v.no != 0 {
+        return slots::refused_place(v.no);
     }
-    let s = shape(fields_of(g), 0, 0, closed(g));
+    let s = shape(fields_of(g), 0, 0);
     let at = slots::taken_apart(s, p);
-    slots::forward(s, p, at, slots::slot_at(s, at.i))
+    slots::forward(s, p, at, slots::slot_at(s, v.levels, at.i))
 }
 
 pub fn plain_forward(f: UplinkFields, p: u64) -> UplinkPlace
@@ -207,7 +197,7 @@ pub fn plain_forward(f: UplinkFields, p: u64) -> UplinkPlace
     if no != 0 {
         return slots::refused_place(no);
     }
-    let s = shape(f, 0, 0, bars::none());
+    let s = shape(f, 0, 0);
     let at = slots::taken_apart(s, p);
     slots::forward(s, p, at, slots::plain_slot_at(s, at.i))
 }
@@ -216,12 +206,12 @@ pub fn plain_forward(f: UplinkFields, p: u64) -> UplinkPlace
 pub fn backward(g: UplinkGrant, slot: u64, l: u64, k: u64) -> Back
     ensures { λ r. ⌜ r ≡ backwardOf g slot l k ⌝ }
 {
-    let no = judge(g);
-    if no != 0 {
-        return sending::refused(no);
+    let v = judge(g);
+    if v.no != 0 {
+        return sending::refused(v.no);
     }
-    let s = shape(fields_of(g), 0, 0, closed(g));
-    slots::backward(s, slot, slots::locate(s, slot), l, k)
+    let s = shape(fields_of(g), 0, 0);
+    slots::backward(s, slot, slots::locate(s, v.levels, slot), l, k)
 }
 
 pub fn plain_backward(f: UplinkFields, slot: u64, l: u64, k: u64) -> Back
@@ -231,6 +221,6 @@ pub fn plain_backward(f: UplinkFields, slot: u64, l: u64, k: u64) -> Back
     if no != 0 {
         return sending::refused(no);
     }
-    let s = shape(f, 0, 0, bars::none());
+    let s = shape(f, 0, 0);
     slots::backward(s, slot, slots::plain_locate(s, slot), l, k)
 }

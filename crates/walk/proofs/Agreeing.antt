@@ -48,9 +48,9 @@ pub record Agrees (q : Asked) : Type 0 where
 
 -- ---- uplink
 
-module _ (refusal : ℕ) (s : Shape) (f : refusal ≡ 0 → uplinkFits.Fits s) where
+module _ (refusal : ℕ) (s : Shape) (isOpen : ℕ → Bool) (f : refusal ≡ 0 → uplinkFits.Fits s) where
   abbrev shapeAsked : Asked
-  shapeAsked = record { no = slots.planAnswer refusal s .no; places = slots.planAnswer refusal s .places; at = λ p. fromUplink (slots.forwardAnswer refusal s p) }
+  shapeAsked = record { no = slots.planAnswer refusal s isOpen .no; places = slots.planAnswer refusal s isOpen .places; at = λ p. fromUplink (slots.forwardAnswer refusal s isOpen p) }
 
   shape-small : refusal ≡ 0 → uplinkMapping.places s < 2 ^ 63
   shape-small e = omega (arith, mul-le-mul (le-of-lt (uplinkJoined.sent-small s (f e))) (le-of-lt (slot-data-small s (f e))))
@@ -113,8 +113,8 @@ both-accepted c anchor other grant e = by (ℕ-discrete (judgeOf c anchor other)
 
 pub agrees : (c : Cell) (anchor other : List ℕ) (g : Grant) → Agrees (asked c anchor other g)
 unfolding asked up.planOf up.forwardOf ack.planOf ack.forwardOf down.planOf down.forwardOf control.planOf control.forwardOf
-agrees c anchor other (Up g) = shape-agrees (upRefusals.refusal g) (upShaping.shapeOf g) (upAcceptance.fits g)
-agrees c anchor other (Ack g) = shape-agrees (ackRefusals.refusal g) (ackShaping.shapeOf g) (ackAccepting.fits g)
+agrees c anchor other (Up g) = shape-agrees (upRefusals.refusal g) (upShaping.shapeOf g) (upShaping.openOf g) (upAcceptance.fits g)
+agrees c anchor other (Ack g) = shape-agrees (ackRefusals.refusal g) (ackShaping.shapeOf g) (ackShaping.openOf g) (ackAccepting.fits g)
 agrees c anchor other (Down g) =
     burst-agrees _ _ _ (down.burstOf c g)
     (λ e. let a = both-accepted c anchor other _ e in downAccepting.burst-fits c g (accepted-cell c anchor other (a .0)) (a .1))

@@ -2,24 +2,24 @@
 use mathlib.Core.Bool.{Bool, true, false, cond, not, _&&_}
 use mathlib.Core.Path.{_≡_, refl, sym, ap, ap₂, _∙_}
 use mathlib.Core.Logic.{_⊎_, inl, inr, ⊎-elim}
-use Prim.Native.Nat.{ℕ, _+_, _-_, _*_, _/_, _%_, max, _^_, _≤_, _<_}
-use native.Mathlib.Nat.{zero-add, div-add-mod', add-mul-mod-self-right, mod-one, div-one}
+use Prim.Native.Nat.{ℕ, _+_, _-_, _*_, _/_, _%_, _≤_, _<_}
+use native.Mathlib.Nat.{zero-add, div-one}
 use native.Mathlib.Omega.{arith}
 use lib.Arith.{mod-mul}
 use lib.Dec.{ltb, lit<}
 use borrow.Author.Tests.{lt-ltb, le-ltb, lt-leb}
 use Rattle.counting.specs.Counting.{rank}
 use Rattle.counting.proofs.Facts.{order, both-parts}
-use Rattle.counting.proofs.Rank.{rank-same}
 use Rattle.counting.proofs.Range.{rank-all}
 use Rattle.bars.specs.declared.Bar.{Bar}
-use Rattle.bars.specs.Bars.{shut, leaves, clear, isFree, idle, noBars}
-use Rattle.bars.specs.Quick.{Usable, AllUsable, longestOf}
-use Rattle.bars.proofs.Running.{idle-leaves}
+use Rattle.bars.specs.Bars.{shut, leaves, clear}
+use Rattle.bars.specs.Quick.{Usable, AllUsable, OneOfTheirs, Chained}
+use Rattle.bars.proofs.Leveling.{idle-leaves, leaves-again}
 use Rattle.windows.specs.declared.Window.{Window}
 use Rattle.windows.specs.declared.Windows.{Windows}
-use Rattle.windows.specs.Windows.{isOneOf, unitsOfMs, allPeriods, isListed, isRead, areListed, sharesTone, sinceBegin, overlaps, meets, isClear, barOf, barsOf, windowsRefusal}
-use Rattle.windows.proofs.Listing.{steps, step-divides, step-most, step-small, Numbers, numbers, listed-1, listed-2, listed-3, listed-4}
+use Rattle.windows.specs.Windows.{isOneOf, unitsOfMs, allPeriods, isListed, isRead, areListed, sharesTone, sinceBegin, reach, overlaps, meets, isClear, windowsRefusal}
+use Rattle.windows.specs.Quick.{resting, barOf, barsOf}
+use Rattle.windows.proofs.Listing.{steps, step-divides, Numbers, numbers, listed-1, listed-2, listed-3, listed-4}
 
 -- the bar of a window that concerns the tones
 abbrev closing : ℕ → Window → Bar
@@ -47,7 +47,7 @@ module _ (w : Window) (n : Numbers w) (u : ℕ) where
       let e : 1 * u + 1 + allPeriods - 1 - w .start ≡ u + (allPeriods - w .start) = omega (arith, n .startTo) in
       let b : sinceBegin w (1 * u + 1) ≡ r + 1 = ap (λ (x : ℕ). x % w .period + 1) e in
       same-test ((u + (allPeriods - w .start) / 1) % (w .period / 1)) ((w .length + (unitsOfMs * 1 - 1)) / (unitsOfMs * 1))
-      (unitsOfMs * sinceBegin w (1 * u + 1)) (w .length + unitsOfMs * 1) (λ h. omega (arith, a, b)) (λ h. omega (arith, a, b))
+      (unitsOfMs * sinceBegin w (1 * u + 1)) (reach 1 w) (λ h. omega (arith, a, b)) (λ h. omega (arith, a, b))
 
   closes-two : shut (closing 2 w) u ≡ overlaps 2 w u
   unfolding shut overlaps
@@ -63,7 +63,7 @@ module _ (w : Window) (n : Numbers w) (u : ℕ) where
       ap₂ (λ (y z : ℕ). y % z + 1) e ep
       ∙ ap (λ (y : ℕ). y + 1) (mod-mul (2 * x + 1) hp (lit< tt) ∙ ap₂ (λ (y z : ℕ). y % p * 2 + z) d m) in
       same-test (x % p) ((w .length + (unitsOfMs * 2 - 1)) / (unitsOfMs * 2))
-      (unitsOfMs * sinceBegin w (2 * u + 2)) (w .length + unitsOfMs * 2) (λ h. omega (arith, b)) (λ h. omega (arith, b))
+      (unitsOfMs * sinceBegin w (2 * u + 2)) (reach 2 w) (λ h. omega (arith, b)) (λ h. omega (arith, b))
 
 module _ (ms : ℕ) (from : 1 ≤ ms) (to : ms ≤ 2) where
   one-or-two : (ms ≡ 1) ⊎ (ms ≡ 2)
@@ -78,17 +78,17 @@ module _ (ms : ℕ) (from : 1 ≤ ms) (to : ms ≤ 2) where
     concerned e = numbers w (l (both-parts read (sharesTone a n w) e .0))
 
     -- what holds of a bar that closes nothing and of a listed window's holds of every bar
-    bar-by : (P : Bar → Type 0) → P idle → (Numbers w → P (closing ms w)) → P (barOf ms a n read w)
+    bar-by : (P : Bar → Type 0) → P (resting ms) → (Numbers w → P (closing ms w)) → P (barOf ms a n read w)
     unfolding barOf
     bar-by P i c = by (read && sharesTone a n w) refl
       where
-        by : (b : Bool) → (read && sharesTone a n w) ≡ b → P (cond b (closing ms w) idle)
+        by : (b : Bool) → (read && sharesTone a n w) ≡ b → P (cond b (closing ms w) (resting ms))
         by true e = c (concerned e)
         by false e = i
 
     pub bar-usable : Usable (barOf ms a n read w)
     bar-usable =
-        bar-by Usable (record { some = lit< tt; periodSmall = lit< tt; phaseSmall = lit< tt; closedSmall = lit< tt })
+        bar-by Usable (⊎-elim (λ e. rw e (record { some = lit< tt; periodSmall = lit< tt; phaseSmall = lit< tt; closedSmall = lit< tt })) (λ e. rw e (record { some = lit< tt; periodSmall = lit< tt; phaseSmall = lit< tt; closedSmall = lit< tt })) one-or-two)
         (λ m. ⊎-elim (λ e. rw e (usable-one m)) (λ e. rw e (usable-two m)) one-or-two)
       where
         usable-one : Numbers w → Usable (closing 1 w)
@@ -109,21 +109,22 @@ module _ (ms : ℕ) (from : 1 ≤ ms) (to : ms ≤ 2) where
 
     pub bar-divides : allPeriods / ms % barOf ms a n read w .period ≡ 0
     bar-divides =
-        bar-by (λ b. allPeriods / ms % b .period ≡ 0) (mod-one (allPeriods / ms))
+        bar-by (λ b. allPeriods / ms % b .period ≡ 0) (⊎-elim (λ e. rw e refl) (λ e. rw e refl) one-or-two)
         (λ m. ⊎-elim (λ e. rw e (ap (λ (x : ℕ). 2560 % x) (div-one (w .period)) ∙ m .periodAll)) (λ e. rw e (m .periodHalf)) one-or-two)
 
-    pub bar-step : isOneOf steps (barOf ms a n read w .period) ≡ true
+    -- so many groups of 8 ms
+    pub bar-step : isOneOf (steps (8 / ms)) (barOf ms a n read w .period) ≡ true
     bar-step =
-        bar-by (λ b. isOneOf steps (b .period) ≡ true) refl
+        bar-by (λ b. isOneOf (steps (8 / ms)) (b .period) ≡ true) (⊎-elim (λ e. rw e refl) (λ e. rw e refl) one-or-two)
         (λ m. ⊎-elim (λ e. rw e (m .whole)) (λ e. rw e (m .half)) one-or-two)
 
     pub bar-leaves : (u : ℕ) → leaves (barOf ms a n read w) u ≡ not (meets ms a n read w u)
     unfolding barOf leaves
     bar-leaves u = by (read && sharesTone a n w) refl
       where
-        by : (b : Bool) → (read && sharesTone a n w) ≡ b → not (shut (cond b (closing ms w) idle) u) ≡ not (b && overlaps ms w u)
+        by : (b : Bool) → (read && sharesTone a n w) ≡ b → not (shut (cond b (closing ms w) (resting ms)) u) ≡ not (b && overlaps ms w u)
         by true e = ap not (closes w (concerned e) u)
-        by false e = idle-leaves idle refl u
+        by false e = idle-leaves (resting ms) refl u
 
   -- ---- all four
 
@@ -144,71 +145,37 @@ module _ (ms : ℕ) (from : 1 ≤ ms) (to : ms ≤ 2) where
       u4 = bar-usable a n (isRead ws 4) (ws .w4) (listed-4 ws l);
     }
 
-    leaves-again : (b : Bar) (W t : ℕ) → W % b .period ≡ 0 → leaves b (t + W) ≡ leaves b t
-    unfolding leaves shut
-    leaves-again b W t h =
-        let e : t + W + b .phase ≡ t + b .phase + W / b .period * b .period = omega (arith, div-add-mod' W (b .period)) in
-        ap (λ (x : ℕ). not (ltb x (b .closed)))
-        (ap (λ (x : ℕ). x % b .period) e ∙ add-mul-mod-self-right (t + b .phase) (W / b .period) (b .period))
-
-    pub clear-again : (u : ℕ) → clear (barsOf ms a n ws) (u + allPeriods / ms) ≡ clear (barsOf ms a n ws) u
+    bars-again : (u : ℕ) → clear (barsOf ms a n ws) (u + allPeriods / ms) ≡ clear (barsOf ms a n ws) u
     unfolding clear barsOf
-    clear-again u =
+    bars-again u =
         ap₂ _&&_
-        (ap₂ _&&_ (leaves-again _ _ u (bar-divides a n (isRead ws 1) (ws .w1) (listed-1 ws l)))
-        (leaves-again _ _ u (bar-divides a n (isRead ws 2) (ws .w2) (listed-2 ws l))))
-        (ap₂ _&&_ (leaves-again _ _ u (bar-divides a n (isRead ws 3) (ws .w3) (listed-3 ws l)))
-        (leaves-again _ _ u (bar-divides a n (isRead ws 4) (ws .w4) (listed-4 ws l))))
+        (ap₂ _&&_ (leaves-again _ _ (bar-divides a n (isRead ws 1) (ws .w1) (listed-1 ws l)) u)
+        (leaves-again _ _ (bar-divides a n (isRead ws 2) (ws .w2) (listed-2 ws l)) u))
+        (ap₂ _&&_ (leaves-again _ _ (bar-divides a n (isRead ws 3) (ws .w3) (listed-3 ws l)) u)
+        (leaves-again _ _ (bar-divides a n (isRead ws 4) (ws .w4) (listed-4 ws l)) u))
 
-    -- the longest period is one for all four
-    abbrev p1 : ℕ
-    p1 = barOf ms a n (isRead ws 1) (ws .w1) .period
+    -- so what is clear repeats
+    pub clear-again : (u : ℕ) → isClear ms a n ws (u + allPeriods / ms) ≡ isClear ms a n ws u
+    clear-again u = sym (clear-is (u + allPeriods / ms)) ∙ bars-again u ∙ clear-is u
 
-    abbrev p2 : ℕ
-    p2 = barOf ms a n (isRead ws 2) (ws .w2) .period
-
-    abbrev p3 : ℕ
-    p3 = barOf ms a n (isRead ws 3) (ws .w3) .period
-
-    abbrev p4 : ℕ
-    p4 = barOf ms a n (isRead ws 4) (ws .w4) .period
-
-    abbrev top : ℕ
-    top = max (max p1 p2) (max p3 p4)
-
-    s1 : isOneOf steps p1 ≡ true
-    s1 = bar-step a n (isRead ws 1) (ws .w1) (listed-1 ws l)
-
-    s2 : isOneOf steps p2 ≡ true
-    s2 = bar-step a n (isRead ws 2) (ws .w2) (listed-2 ws l)
-
-    s3 : isOneOf steps p3 ≡ true
-    s3 = bar-step a n (isRead ws 3) (ws .w3) (listed-3 ws l)
-
-    s4 : isOneOf steps p4 ≡ true
-    s4 = bar-step a n (isRead ws 4) (ws .w4) (listed-4 ws l)
-
-    top-step : isOneOf steps top ≡ true
-    top-step = step-most (max p1 p2) (max p3 p4) (step-most p1 p2 s1 s2) (step-most p3 p4 s3 s4)
-
-    pub bars-short-small : longestOf (barsOf ms a n ws) < 2 ^ 16
+    -- what the longest of their periods is
+    pub bars-longest : (p : ℕ) → OneOfTheirs (barsOf ms a n ws) p → isOneOf (steps (8 / ms)) p ≡ true
     unfolding barsOf
-    bars-short-small = omega (arith, step-small top top-step)
+    bars-longest p o =
+        o (isOneOf (steps (8 / ms))) (bar-step a n (isRead ws 1) (ws .w1) (listed-1 ws l)) (bar-step a n (isRead ws 2) (ws .w2) (listed-2 ws l))
+        (bar-step a n (isRead ws 3) (ws .w3) (listed-3 ws l)) (bar-step a n (isRead ws 4) (ws .w4) (listed-4 ws l))
 
-    pub bars-short : (u : ℕ) → clear (barsOf ms a n ws) (u + longestOf (barsOf ms a n ws)) ≡ clear (barsOf ms a n ws) u
-    unfolding clear barsOf
-    bars-short u =
-        ap₂ _&&_
-        (ap₂ _&&_ (leaves-again _ top u (step-divides p1 top s1 top-step (omega arith))) (leaves-again _ top u (step-divides p2 top s2 top-step (omega arith))))
-        (ap₂ _&&_ (leaves-again _ top u (step-divides p3 top s3 top-step (omega arith))) (leaves-again _ top u (step-divides p4 top s4 top-step (omega arith))))
-
-    -- with a bar that closes nothing beside them
-    free-at : (i : ℕ) → isFree idle (barsOf ms a n ws) i ≡ isClear ms a n ws i
-    unfolding isFree
-    free-at i = ap (λ (b : Bool). b && clear (barsOf ms a n ws) i) (idle-leaves idle refl i) ∙ clear-is i
-
-    pub free-is : (k : ℕ) → rank (isFree idle (barsOf ms a n ws)) k ≡ rank (isClear ms a n ws) k
-    free-is k = rank-same _ _ k (λ i h. free-at i)
+    -- of two of their periods the smaller divides the larger
+    pub bars-chained : Chained (barsOf ms a n ws)
+    unfolding barsOf
+    bars-chained = record {
+      listed = isOneOf (steps (8 / ms));
+      divides = step-divides (8 / ms) (⊎-elim (λ e. rw e (lit< tt)) (λ e. rw e (lit< tt)) one-or-two);
+      p1 = bar-step a n (isRead ws 1) (ws .w1) (listed-1 ws l);
+      p2 = bar-step a n (isRead ws 2) (ws .w2) (listed-2 ws l);
+      p3 = bar-step a n (isRead ws 3) (ws .w3) (listed-3 ws l);
+      p4 = bar-step a n (isRead ws 4) (ws .w4) (listed-4 ws l);
+    }
 
 -- ---- no window
 
@@ -220,7 +187,7 @@ module _ (ms a n : ℕ) (ws : Windows) (z : ws .count ≡ 0) where
   unfolding areListed
   none-listed = rw (unread 1 (lit< tt), unread 2 (lit< tt), unread 3 (lit< tt), unread 4 (lit< tt), z) refl
 
-  none-clear : (u : ℕ) → isClear ms a n ws u ≡ true
+  pub none-clear : (u : ℕ) → isClear ms a n ws u ≡ true
   unfolding isClear
   none-clear u = rw (unread 1 (lit< tt), unread 2 (lit< tt), unread 3 (lit< tt), unread 4 (lit< tt)) refl
 
@@ -237,7 +204,3 @@ module _ (ms a n : ℕ) (ws : Windows) (z : ws .count ≡ 0) where
             rank-all (isClear ms a n ws) 0 (allPeriods / ms) (λ i p q. none-clear i),
             ap (rank (isClear ms a n ws)) e,
           )
-
-  pub none-bars : noBars ≡ barsOf ms a n ws
-  unfolding barsOf barOf
-  none-bars = rw (unread 1 (lit< tt), unread 2 (lit< tt), unread 3 (lit< tt), unread 4 (lit< tt)) refl

@@ -1,3 +1,4 @@
 pub mod Listing
 pub mod Closing
 pub mod Spaced
+pub mod Asking

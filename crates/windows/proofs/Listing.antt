@@ -1,14 +1,17 @@
 -- Listed numbers: tests by lists, and what holds of every number of a list.
 use mathlib.Core.Bool.{Bool, true, false, not, _&&_, _||_}
 use mathlib.Core.List.{List, [], _∷_, _++_}
-use mathlib.Core.Path.{_≡_, refl, sym, ap, _∙_}
+use mathlib.Core.Path.{_≡_, refl, sym, ap, ap₂, subst, _∙_}
 use mathlib.Core.Logic.{⊎-elim}
-use Prim.Native.Nat.{ℕ, _+_, _*_, _/_, _%_, max, _≤_, _<_}
+use Prim.Native.Nat.{ℕ, _+_, _*_, _/_, _%_, _≤_, _<_}
+use native.Mathlib.Nat.{mul-assoc, mul-mod-left, mod-lt, mod-add-mod, div-add-mod', le-of-mul-le-mul-right}
 use native.Mathlib.Omega.{arith}
-use lib.Dec.{eqb, leb}
+use lib.Dec.{T, eqb, leb, ltb, eqb→eq, lit<}
 use mir.Val.{boolByte}
-use borrow.Author.Tests.{eqb-true, leb-true, le-leb, lt-leb}
-use Rattle.counting.proofs.Facts.{order, both-parts, either-case}
+use borrow.Author.Tests.{eq-eqb, eqb-true, leb-true, le-leb, lt-leb}
+use Rattle.counting.specs.Counting.{rank}
+use Rattle.counting.proofs.Facts.{order, both-parts, either-case, each, each-at}
+use Rattle.counting.proofs.Rank.{rank-same}
 use Rattle.windows.specs.declared.Window.{Window}
 use Rattle.windows.specs.declared.Windows.{Windows}
 use Rattle.windows.specs.Windows.{isOneOf, periods, starts, repetitions, lengths, windowTones, carrierTones, isListed, isRead, areListed}
@@ -57,30 +60,64 @@ of-list test (n ∷ list) h x e =
     let p = both-parts (test n) (allPass test list) h in
     ⊎-elim (λ w. ap test (eqb-true x n w) ∙ p .0) (λ w. of-list test list (p .1) x w) (either-case (eqb x n) (isOneOf list x) e)
 
--- ---- the periods in groups, and that of a bar that closes nothing: each divides the later ones
+-- ---- the periods in parts of 8 ms, and in groups: each divides the later ones
 
-abbrev pub steps : List ℕ
-steps = 1 ∷ 20 ∷ 40 ∷ 80 ∷ 160 ∷ 320 ∷ 640 ∷ 1280 ∷ 2560 ∷ []
+abbrev pub doubles : List ℕ
+doubles = 5 ∷ 10 ∷ 20 ∷ 40 ∷ 80 ∷ 160 ∷ 320 ∷ []
+
+abbrev scaled : ℕ → List ℕ → List ℕ
+scaled part [] = []
+scaled part (n ∷ list) = n * part ∷ scaled part list
+
+abbrev pub steps : ℕ → List ℕ
+steps part = scaled part doubles
+
+-- a step is one of the doubles in parts
+pub step-of : (part : ℕ) (list : List ℕ) (p : ℕ) → isOneOf (scaled part list) p ≡ true → (n : ℕ) × (isOneOf list n ≡ true) × (p ≡ n * part)
+step-of part [] p h = absurd (omega (arith, ap boolByte h))
+step-of part (n ∷ list) p h =
+    ⊎-elim
+    (λ (w : eqb p (n * part) ≡ true). (n, ap (λ (b : Bool). b || isOneOf list n) (eq-eqb n n refl), eqb-true p (n * part) w))
+    (λ (w : isOneOf (scaled part list) p ≡ true). let r = step-of part list p w in (r .0, ap (λ (b : Bool). eqb (r .0) n || b) (r .1) ∙ or-true (eqb (r .0) n), r .2))
+    (either-case (eqb p (n * part)) (isOneOf (scaled part list) p) h)
+  where
+    or-true : (b : Bool) → (b || true) ≡ true
+    or-true true = refl
+    or-true false = refl
 
 abbrev divides : ℕ → ℕ → Bool
 divides p q = not (leb p q) || eqb (q % p) 0
 
-pub step-divides : (p q : ℕ) → isOneOf steps p ≡ true → isOneOf steps q ≡ true → p ≤ q → q % p ≡ 0
-step-divides p q hp hq h =
-    let a = of-list (λ x. allPass (divides x) steps) steps refl p hp in
-    let b = of-list (divides p) steps a q hq in
+double-divides : (p q : ℕ) → isOneOf doubles p ≡ true → isOneOf doubles q ≡ true → p ≤ q → q % p ≡ 0
+double-divides p q hp hq h =
+    let a = of-list (λ x. allPass (divides x) doubles) doubles refl p hp in
+    let b = of-list (divides p) doubles a q hq in
     eqb-true (q % p) 0 (sym (ap (λ (t : Bool). not t || eqb (q % p) 0) (le-leb p q h)) ∙ b)
 
-pub step-most : (p q : ℕ) → isOneOf steps p ≡ true → isOneOf steps q ≡ true → isOneOf steps (max p q) ≡ true
-step-most p q hp hq =
-    ⊎-elim (λ h. let e : max p q ≡ q = omega arith in ap (isOneOf steps) e ∙ hq)
-    (λ h. let e : max p q ≡ p = omega arith in ap (isOneOf steps) e ∙ hp) (order p q)
+pub step-divides : (part : ℕ) → 0 < part → (p q : ℕ) → isOneOf (steps part) p ≡ true → isOneOf (steps part) q ≡ true → p ≤ q → q % p ≡ 0
+step-divides part some p q hp hq h =
+    let a = step-of part doubles p hp in
+    let b = step-of part doubles q hq in
+    let l : a .0 ≤ b .0 = le-of-mul-le-mul-right {k = part} (omega (arith, a .2, b .2)) some in
+    let d : b .0 ≡ b .0 / a .0 * a .0 = omega (arith, double-divides (a .0) (b .0) (a .1) (b .1) l, div-add-mod' (b .0) (a .0)) in
+    ap₂ _%_ (b .2 ∙ ap (λ (x : ℕ). x * part) d ∙ mul-assoc (b .0 / a .0) (a .0) part) (a .2) ∙ mul-mod-left (b .0 / a .0) (a .0 * part)
 
-pub step-small : (p : ℕ) → isOneOf steps p ≡ true → p ≤ 2560
-step-small p h = leb-true p 2560 (of-list (λ x. leb x 2560) steps refl p h)
+-- in 37 of such a period each part comes at each of 37 places once: 32 of them are no gap's
+abbrev evenAt : ℕ → ℕ → Bool
+evenAt times c = eqb (rank (λ k. not (ltb ((c + k * times) % 37) 5)) 37) 32
 
-pub period-step : (p : ℕ) → isOneOf periods p ≡ true → (isOneOf steps (p / 1) ≡ true) × (isOneOf steps (p / 2) ≡ true)
-period-step p h = (of-list (λ x. isOneOf steps (x / 1)) periods refl p h, of-list (λ x. isOneOf steps (x / 2)) periods refl p h)
+all-even : allPass (λ times. each 37 (evenAt times)) doubles ≡ true
+unfolding rank
+all-even = refl
+
+pub spread-evenly : (times : ℕ) → isOneOf doubles times ≡ true → (c : ℕ) → rank (λ k. not (ltb ((c + k * times) % 37) 5)) 37 ≡ 32
+spread-evenly times h c =
+    let t : T (each 37 (evenAt times)) = subst T (sym (of-list (λ x. each 37 (evenAt x)) doubles all-even times h)) tt in
+    rank-same _ (λ k. not (ltb ((c % 37 + k * times) % 37) 5)) 37 (λ k l. ap (λ (x : ℕ). not (ltb x 5)) (sym (mod-add-mod c 37 (k * times))))
+    ∙ eqb→eq _ _ (each-at 37 (evenAt times) t (c % 37) (mod-lt c (lit< tt)))
+
+pub period-step : (p : ℕ) → isOneOf periods p ≡ true → (isOneOf (steps 8) (p / 1) ≡ true) × (isOneOf (steps 4) (p / 2) ≡ true)
+period-step p h = (of-list (λ x. isOneOf (steps 8) (x / 1)) periods refl p h, of-list (λ x. isOneOf (steps 4) (x / 2)) periods refl p h)
 
 -- ---- a window that is listed
 
@@ -103,8 +140,8 @@ pub record Numbers (w : Window) : Type 0 where
   pub startTo : w .start ≤ 1024
   pub lengthTo : w .length ≤ 12582912
   pub toneTo : w .tone ≤ 36
-  pub whole : isOneOf steps (w .period / 1) ≡ true
-  pub half : isOneOf steps (w .period / 2) ≡ true
+  pub whole : isOneOf (steps 8) (w .period / 1) ≡ true
+  pub half : isOneOf (steps 4) (w .period / 2) ≡ true
 
 pub numbers : (w : Window) → isListed w ≡ true → Numbers w
 unfolding isListed

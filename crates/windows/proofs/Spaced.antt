@@ -1,37 +1,28 @@
--- What windows leave of a grant that they do not refuse, by its spacing: shapes made from it fit.
+-- The windows' verdict, and what they leave of a grant that they do not refuse, by its spacing.
 use mathlib.Core.Bool.{Bool, true, false, cond}
-use mathlib.Core.Path.{_≡_, refl, sym, ap, subst, _∙_}
-use Prim.Native.Nat.{ℕ, zero, suc, _+_, _*_, _/_, _%_, _^_, _≤_, _<_}
-use native.Mathlib.Nat.{zero-add, mod-one}
+use mathlib.Core.Path.{_≡_, refl, sym, ap, ap₂, _∙_}
+use Prim.Native.Nat.{ℕ, zero, suc, _+_, _*_, _/_, _≤_, _<_}
+use native.Mathlib.Nat.{zero-add}
 use native.Mathlib.Omega.{arith}
-use lib.Dec.{eqb, ltb}
-use borrow.Author.Tests.{ltb-true}
+use lib.Dec.{eqb, ltb, lit<}
+use borrow.Author.Tests.{ltb-true, eq-eqb, ne-eqb}
 use Rattle.counting.specs.Counting.{rank, next, Nth}
 use Rattle.counting.proofs.Rank.{rank-zero}
 use Rattle.counting.proofs.Select.{next-is}
-use Rattle.bars.specs.declared.Bars.{Bars}
-use Rattle.bars.specs.Bars.{clear}
-use Rattle.bars.specs.Quick.{AllUsable, longestOf}
+use Rattle.bars.specs.Quick.{LevelsOf}
 use Rattle.grid.specs.Grid.{uplinkSubcarriers}
 use Rattle.slots.specs.declared.Shape.{Shape}
-use Rattle.slots.specs.Numerology.{slotsIn, firstAfter, groupOf, groupMs, narrowTones}
-use Rattle.slots.specs.Timing.{round, rounds, active, period}
-use Rattle.slots.proofs.Spacing.{first-wide}
+use Rattle.slots.specs.Numerology.{slotsIn, groupOf, groupMs, narrowTones}
+use Rattle.slots.specs.Fits.{Leaves}
+use Rattle.slots.specs.Quick.{Parted}
+use Rattle.slots.specs.Timing.{round, allOpen}
 use Rattle.slots.proofs.Leaving.{leaving-again, leaving-some}
 use Rattle.windows.specs.declared.Windows.{Windows}
-use Rattle.windows.specs.Windows.{allPeriods, areListed, isClear, barsOf, barsOn, windowsRefusal, refusalOn}
-use Rattle.windows.proofs.Closing.{clear-is, clear-again, bars-usable, bars-short, bars-short-small}
-
--- the parts of a shape's fitting that turn on its windows and its groups
-pub record Left (s : Shape) : Type 0 where
-  pub wholeFirst : s .first % s .group ≡ 0
-  pub wholeBlock : s .block % s .group ≡ 0
-  pub wholeGap : s .gap % s .group ≡ 0
-  pub again : (u : ℕ) → clear (s .bars) (u + rounds * (round s / s .group)) ≡ clear (s .bars) u
-  pub some : 0 < rank (active s) (period s)
-  pub bars : AllUsable (s .bars)
-  pub short : (u : ℕ) → clear (s .bars) (u + longestOf (s .bars)) ≡ clear (s .bars) u
-  pub shortSmall : longestOf (s .bars) < 2 ^ 16
+use Rattle.windows.specs.declared.Verdict.{Verdict}
+use Rattle.windows.specs.Windows.{isOneOf, allPeriods, areListed, isClear, windowsRefusal, openTo, refusalOn}
+use Rattle.windows.specs.Quick.{barsOf, Judged}
+use Rattle.windows.proofs.Closing.{clear-is, clear-again, bars-longest, none-clear, none-refused}
+use Rattle.windows.proofs.Listing.{doubles, step-of, spread-evenly}
 
 -- ---- not refused: listed, and some group is clear
 
@@ -46,42 +37,59 @@ accepted-windows ms a n ws h = by (areListed ws) refl (ltb 0 (rank (isClear ms a
     by true e false f z = absurd (omega arith)
     by false e y f z = absurd (omega arith)
 
--- e groups last 8 ms
-module _ (s : Shape) (ms e a n : ℕ) (ws : Windows) (from : 1 ≤ ms) (to : ms ≤ 2) (hs : s .bars ≡ barsOf ms a n ws)
-    (h : windowsRefusal ms a n ws ≡ 0) (he : allPeriods / ms ≡ 320 * e)
-    (group : 0 < s .group) (some : 0 < e) (hr : round s ≡ 37 * e * s .group) (hb : s .block ≡ 32 * e * s .group) where
-  abbrev u : ℕ → Bool
-  u = clear (s .bars)
+-- ---- a verdict: its number, and levels where that is 0
 
-  ok : (areListed ws ≡ true) × (0 < rank (isClear ms a n ws) (allPeriods / ms))
+-- levels of the windows' bars
+pub judged-levels : (ms a n : ℕ) (ws : Windows) (v : Verdict) → v .no ≡ windowsRefusal ms a n ws → 1 ≤ ms → ms ≤ 2 → areListed ws ≡ true → LevelsOf (barsOf ms a n ws) (v .levels)
+    → Judged (8 / ms) (windowsRefusal ms a n ws) (isClear ms a n ws) v
+judged-levels ms a n ws v e from to ok ls = record {
+  number = e;
+  same = λ z u. ls .same u ∙ clear-is ms from to a n ws ok u;
+  stacked = λ z. ls .stacked;
+  spread = λ z. record { times = m .0; evenly = spread-evenly (m .0) (m .1); longest = m .2 };
+}
+  where
+    m : (times : ℕ) × (isOneOf doubles times ≡ true) × (v .levels .bars .b4 .period ≡ times * (8 / ms))
+    m = step-of (8 / ms) doubles _ (bars-longest ms from to a n ws ok _ (ls .longest))
+
+-- a number that is not 0 needs no levels
+pub judged-alone : (part refusal n : ℕ) (isOpen : ℕ → Bool) (v : Verdict) → v .no ≡ n → n ≡ refusal → (n ≡ 0 → ⊥) → Judged part refusal isOpen v
+judged-alone part refusal n isOpen v e h z = record {
+  number = e ∙ h;
+  same = λ o. absurd (z (sym e ∙ o));
+  stacked = λ o. absurd (z (sym e ∙ o));
+  spread = λ o. absurd (z (sym e ∙ o));
+}
+
+-- the number of the fields before the windows' verdict
+module _ (part fields windows n : ℕ) (isOpen : ℕ → Bool) (v : Verdict) (e : n ≡ fields) where
+  pub judged-first : v .no ≡ n → (n ≡ 0 → ⊥) → Judged part (cond (eqb fields 0) windows fields) isOpen v
+  judged-first h z = judged-alone part _ n isOpen v h (rw (← e, ne-eqb n 0 z) refl) z
+
+  pub judged-after : n ≡ 0 → Judged part windows isOpen v → Judged part (cond (eqb fields 0) windows fields) isOpen v
+  judged-after z j = rw (eq-eqb fields 0 (sym e ∙ z)) j
+
+-- ---- e groups last 8 ms
+
+module _ (s : Shape) (ms e a n : ℕ) (ws : Windows) (from : 1 ≤ ms) (to : ms ≤ 2) (h : windowsRefusal ms a n ws ≡ 0) (he : allPeriods / ms ≡ 320 * e)
+    (group : 0 < s .group) (some : 0 < e) (hr : round s ≡ 37 * e * s .group) (hb : s .block ≡ 32 * e * s .group) where
+  abbrev isOpen : ℕ → Bool
+  isOpen = isClear ms a n ws
+
+  ok : (areListed ws ≡ true) × (0 < rank isOpen (allPeriods / ms))
   ok = accepted-windows ms a n ws h
 
-  again : (x : ℕ) → u (x + 320 * e) ≡ u x
-  again x =
-      subst (λ (b : Bars). clear b (x + 320 * e) ≡ clear b x) (sym hs)
-      (ap (λ (y : ℕ). clear (barsOf ms a n ws) (x + y)) (sym he) ∙ clear-again ms from to a n ws (ok .0) x)
+  again : (u : ℕ) → isOpen (u + 320 * e) ≡ isOpen u
+  again u = ap (λ (x : ℕ). isOpen (u + x)) (sym he) ∙ clear-again ms from to a n ws (ok .0) u
 
   -- the first group that is clear
-  found : Nth (isClear ms a n ws) 0 0 (next (isClear ms a n ws) (allPeriods / ms) 0)
-  found =
-      next-is (isClear ms a n ws) (allPeriods / ms) 0
-      (omega (arith, ok .1, rank-zero (isClear ms a n ws), ap (rank (isClear ms a n ws)) (zero-add (allPeriods / ms))))
+  found : Nth isOpen 0 0 (next isOpen (allPeriods / ms) 0)
+  found = next-is isOpen (allPeriods / ms) 0 (omega (arith, ok .1, rank-zero isOpen, ap (rank isOpen) (zero-add (allPeriods / ms))))
 
-  clear-found : u (next (isClear ms a n ws) (allPeriods / ms) 0) ≡ true
-  clear-found =
-      ap (λ (b : Bars). clear b (next (isClear ms a n ws) (allPeriods / ms) 0)) hs
-      ∙ clear-is ms from to a n ws (ok .0) (next (isClear ms a n ws) (allPeriods / ms) 0) ∙ found .passes
-
-  left-by : s .first % s .group ≡ 0 → s .block % s .group ≡ 0 → s .gap % s .group ≡ 0 → Left s
-  left-by wf wb wg = record {
-    wholeFirst = wf;
-    wholeBlock = wb;
-    wholeGap = wg;
-    again = leaving-again s e group some hr hb again;
-    some = leaving-some s e group some hr hb again (next (isClear ms a n ws) (allPeriods / ms) 0) clear-found;
-    bars = subst AllUsable (sym hs) (bars-usable ms from to a n ws (ok .0));
-    short = subst (λ (b : Bars). (u : ℕ) → clear b (u + longestOf b) ≡ clear b u) (sym hs) (bars-short ms from to a n ws (ok .0));
-    shortSmall = subst (λ (b : Bars). longestOf b < 2 ^ 16) (sym hs) (bars-short-small ms from to a n ws (ok .0));
+  leaves-by : Leaves s isOpen
+  leaves-by = record {
+    again = leaving-again s isOpen e group some hr hb again;
+    some = leaving-some s isOpen e group some hr hb again (next isOpen (allPeriods / ms) 0) (found .passes);
   }
 
 -- ---- by spacing
@@ -102,14 +110,40 @@ ms-within spacing = by (eqb spacing 0)
     by true = (omega arith, omega arith)
     by false = (omega arith, omega arith)
 
-pub left : (s : Shape) (spacing t tone tones : ℕ) (ws : Windows) → spacing ≤ 1 → s .first ≡ firstAfter spacing t → s .block ≡ slotsIn spacing 256
-    → s .gap ≡ slotsIn spacing 40 → s .group ≡ groupOf spacing → s .bars ≡ barsOn spacing tone tones ws → refusalOn spacing tone tones ws ≡ 0 → Left s
-left s zero t tone tones ws l hf hb hg hq hs h =
-    left-by s 2 4 (1 * tone) (1 * tones) ws (omega arith) (omega arith) hs h refl (omega (arith, hq)) (omega arith)
+-- what the windows leave of a shape
+pub leaves : (s : Shape) (spacing tone tones : ℕ) (ws : Windows) → spacing ≤ 1 → s .block ≡ slotsIn spacing 256 → s .gap ≡ slotsIn spacing 40
+    → s .group ≡ groupOf spacing → refusalOn spacing tone tones ws ≡ 0 → Leaves s (openTo spacing tone tones ws)
+leaves s zero tone tones ws l hb hg hq h =
+    leaves-by s 2 4 (1 * tone) (1 * tones) ws (omega arith) (omega arith) h refl (omega (arith, hq)) (omega arith)
     (rw hq (omega (arith, hb, hg))) (rw hq (omega (arith, hb)))
-    (rw hq (mod-one (s .first))) (rw hq (mod-one (s .block))) (rw hq (mod-one (s .gap)))
-left s (suc zero) t tone tones ws l hf hb hg hq hs h =
-    left-by s 1 8 (4 * tone) (4 * tones) ws (omega arith) (omega arith) hs h refl (omega (arith, hq)) (omega arith)
+leaves s (suc zero) tone tones ws l hb hg hq h =
+    leaves-by s 1 8 (4 * tone) (4 * tones) ws (omega arith) (omega arith) h refl (omega (arith, hq)) (omega arith)
     (rw hq (omega (arith, hb, hg))) (rw hq (omega (arith, hb)))
-    (rw hq (omega (arith, hf, first-wide 1 t (λ e. omega arith)))) (rw hq (omega (arith, hb))) (rw hq (omega (arith, hg)))
-left s (suc (suc n)) t tone tones ws l hf hb hg hq hs h = absurd (omega arith)
+leaves s (suc (suc n)) tone tones ws l hb hg hq h = absurd (omega arith)
+
+-- rounds of 37 parts of 8 ms, of which 5 are the gap
+pub parted : (s : Shape) (spacing : ℕ) → s .block ≡ slotsIn spacing 256 → s .gap ≡ slotsIn spacing 40 → s .group ≡ groupOf spacing → Parted s (8 / groupMs spacing)
+parted s spacing hb hg hq = record {
+  some = parts .0;
+  rounds = ap₂ (λ (x y : ℕ). x / y) (ap₂ _+_ hb hg) hq ∙ parts .1;
+  gaps = ap₂ (λ (x y : ℕ). x / y) hg hq ∙ parts .2;
+}
+  where
+    by : (b : Bool)
+        → (0 < 8 / (cond b 1 2 * cond b 4 1 / 2))
+        × ((2 * 256 / cond b 4 1 + 2 * 40 / cond b 4 1) / cond b 1 2 ≡ 37 * (8 / (cond b 1 2 * cond b 4 1 / 2)))
+        × (2 * 40 / cond b 4 1 / cond b 1 2 ≡ 5 * (8 / (cond b 1 2 * cond b 4 1 / 2)))
+    by true = (lit< tt, refl, refl)
+    by false = (lit< tt, refl, refl)
+
+    parts : (0 < 8 / groupMs spacing) × ((slotsIn spacing 256 + slotsIn spacing 40) / groupOf spacing ≡ 37 * (8 / groupMs spacing)) × (slotsIn spacing 40 / groupOf spacing ≡ 5 * (8 / groupMs spacing))
+    parts = by (eqb spacing 0)
+
+-- ---- no window: nothing is refused, and every group is open
+
+module _ (spacing tone tones : ℕ) (ws : Windows) (z : ws .count ≡ 0) where
+  pub none-refuses : refusalOn spacing tone tones ws ≡ 0
+  none-refuses = let w = ms-within spacing in none-refused (groupMs spacing) _ _ ws z (w .0) (w .1)
+
+  pub none-closes : (u : ℕ) → allOpen u ≡ openTo spacing tone tones ws u
+  none-closes u = sym (none-clear (groupMs spacing) _ _ ws z u)

@@ -4,9 +4,6 @@ use mathlib.Core.List.{List, [], _∷_, _++_}
 use Prim.Native.Nat.{ℕ, _+_, _-_, _*_, _/_, _%_}
 use lib.Dec.{eqb, leb, ltb}
 use Rattle.counting.specs.Counting.{rank}
-use Rattle.bars.specs.declared.Bar.{Bar}
-use Rattle.bars.specs.declared.Bars.{Bars}
-use Rattle.bars.specs.Bars.{idle}
 use Rattle.slots.specs.Numerology.{groupOf, groupMs, narrowTones}
 use Rattle.windows.specs.declared.Window.{Window}
 use Rattle.windows.specs.declared.Windows.{Windows}
@@ -79,37 +76,23 @@ sharesTone a n w = ltb a (w .tone + windowTones) && ltb (w .tone) (a + n)
 abbrev pub sinceBegin : Window → ℕ → ℕ
 sinceBegin w e = (e + allPeriods - 1 - w .start) % w .period + 1
 
+-- a window that began less than this before a group's end, in units, ends past the group's begin
+abbrev pub reach : ℕ → Window → ℕ
+reach ms w = w .length + unitsOfMs * ms
+
 -- group u, from ms * u to ms * u + ms, overlaps a window in time: that window's end is past the group's begin
 unfoldable pub overlaps : ℕ → Window → ℕ → Bool
-overlaps ms w u = ltb (unitsOfMs * sinceBegin w (ms * u + ms)) (w .length + unitsOfMs * ms)
+overlaps ms w u = ltb (unitsOfMs * sinceBegin w (ms * u + ms)) (reach ms w)
 
 -- group u overlaps a window that is read, in time and tone
 abbrev pub meets : ℕ → ℕ → ℕ → Bool → Window → ℕ → Bool
 meets ms a n read w u = (read && sharesTone a n w) && overlaps ms w u
 
+-- group u overlaps none of those that are read
 unfoldable pub isClear : ℕ → ℕ → ℕ → Windows → ℕ → Bool
 isClear ms a n ws u =
     (not (meets ms a n (isRead ws 1) (ws .w1) u) && not (meets ms a n (isRead ws 2) (ws .w2) u))
     && (not (meets ms a n (isRead ws 3) (ws .w3) u) && not (meets ms a n (isRead ws 4) (ws .w4) u))
-
--- the same as bars: a window begins where a group does, and closes each group that its length reaches into
-unfoldable pub barOf : ℕ → ℕ → ℕ → Bool → Window → Bar
-barOf ms a n read w =
-    cond (read && sharesTone a n w)
-    (record {
-      period = w .period / ms;
-      phase = (allPeriods - w .start) / ms;
-      closed = (w .length + (unitsOfMs * ms - 1)) / (unitsOfMs * ms);
-    })
-    idle
-
-unfoldable pub barsOf : ℕ → ℕ → ℕ → Windows → Bars
-barsOf ms a n ws = record {
-  b1 = barOf ms a n (isRead ws 1) (ws .w1);
-  b2 = barOf ms a n (isRead ws 2) (ws .w2);
-  b3 = barOf ms a n (isRead ws 3) (ws .w3);
-  b4 = barOf ms a n (isRead ws 4) (ws .w4);
-}
 
 -- ---- refusals: 19 a fifth window, a number that is not listed, or tones past 47; 20 no group is ever free on the granted tones
 
@@ -121,13 +104,13 @@ windowsRefusal ms a n ws =
 
 -- ---- on the tones of a grant, by its spacing
 
-abbrev pub barsOn : ℕ → ℕ → ℕ → Windows → Bars
-barsOn spacing tone tones ws = barsOf (groupMs spacing) (narrowTones spacing * tone) (narrowTones spacing * tones) ws
+-- group u overlaps none of them in time and tone, so it is open to the grant
+abbrev pub openTo : ℕ → ℕ → ℕ → Windows → ℕ → Bool
+openTo spacing tone tones ws = isClear (groupMs spacing) (narrowTones spacing * tone) (narrowTones spacing * tones) ws
 
 abbrev pub refusalOn : ℕ → ℕ → ℕ → Windows → ℕ
 refusalOn spacing tone tones ws = windowsRefusal (groupMs spacing) (narrowTones spacing * tone) (narrowTones spacing * tones) ws
 
--- a slot that is sent keeps clear of them: its group overlaps none in time and tone
+-- a slot that is sent keeps clear of them: its group is open
 abbrev pub keepsClear : ℕ → ℕ → ℕ → Windows → ℕ → Bool
-keepsClear spacing tone tones ws slot =
-    isClear (groupMs spacing) (narrowTones spacing * tone) (narrowTones spacing * tones) ws (slot / groupOf spacing)
+keepsClear spacing tone tones ws slot = openTo spacing tone tones ws (slot / groupOf spacing)

@@ -1,12 +1,14 @@
 // Random access windows, which push uplink slots aside: their refusals, and the groups of slots that they close.
-ghost use mathlib.Core.Bool.{Bool, true, not, _&&_, _||_};
+ghost use mathlib.Core.Bool.{true, not, _&&_, _||_};
 ghost use mathlib.Core.Path.{_≡_};
-ghost use Prim.Native.Nat.{_+_, _^_, _<_, _≤_};
-ghost use Rattle.bars.specs.Bars.{idle};
-ghost use Rattle.windows.specs.Windows.{isOneOf, periods, starts, repetitions, isListed, isRead, areListed, sharesTone, barOf, barsOf, windowsRefusal, barsOn, refusalOn};
+ghost use Prim.Native.Nat.{_+_, _/_, _^_, _<_, _≤_};
+ghost use Rattle.slots.specs.Numerology.{groupMs};
+ghost use Rattle.windows.specs.Windows.{isOneOf, periods, starts, repetitions, isListed, areListed, sharesTone, isClear, windowsRefusal, openTo, refusalOn};
+ghost use Rattle.windows.specs.Quick.{barOf, barsOf, Judged};
 ghost use Rattle.grid.specs.Grid.{uplinkSubcarriers};
 use bars::Bar;
 use bars::Bars;
+use bars::Levels;
 
 // Windows begin at every t (in ms) equal to the start modulo the period; the length is in units of 1/30720 ms; twelve tones at 3.75 kHz from
 // `tone` on.
@@ -25,6 +27,15 @@ pub struct Windows {
     pub w3: Window,
     pub w4: Window,
 }
+
+// A refusal's number, or 0 and the groups that the windows close.
+pub struct Verdict {
+    pub no: u64,
+    pub levels: Levels,
+}
+
+// The shortest period, which divides every other.
+const SHORTEST: u64 = 40;
 
 // A multiple of every period, and above every start.
 const ALL_PERIODS: u64 = 2560;
@@ -99,22 +110,37 @@ fn concerns(tone: u64, tones: u64, read: bool, w: Window) -> bool
     (tone < from + TONES) & (from < tone + tones)
 }
 
+// x over one ms or two.
+fn over_ms(ms: u64, x: u64) -> u64
+    requires { ⌜ (1 ≤ ms) × (ms ≤ 2) ⌝ }
+    ensures { λ r. ⌜ r ≡ x / ms ⌝ }
+{
+    if ms == 1 {
+        return x;
+    }
+    x / 2
+}
+
 // The groups, of ms milliseconds each, that a window closes to the tones.
 fn bar(ms: u64, tone: u64, tones: u64, read: bool, w: Window) -> Bar
     requires { ⌜ (1 ≤ ms) × (ms ≤ 2) × (tone ≤ 48) × (tones ≤ 48) × (read ≡ true → isListed w ≡ true) ⌝ }
     ensures { λ r. ⌜ r ≡ barOf ms tone tones read w ⌝ }
 {
     if !concerns(tone, tones, read, w) {
-        return bars::idle();
+        return Bar {
+            period: over_ms(ms, SHORTEST),
+            phase: 0,
+            closed: 0,
+        };
     }
     let period = w.period;
     let start = w.start;
     let length = w.length;
     let unit = UNITS_OF_MS * ms;
     Bar {
-        period: period / ms,
-        phase: (ALL_PERIODS - start) / ms,
-        closed: (length + (unit - 1)) / unit,
+        period: over_ms(ms, period),
+        phase: over_ms(ms, ALL_PERIODS - start),
+        closed: over_ms(ms, (length + (unit - 1)) / UNITS_OF_MS),
     }
 }
 
@@ -132,55 +158,36 @@ fn bars_by(ms: u64, tone: u64, tones: u64, ws: Windows) -> Bars
     }
 }
 
-// 19, 20, or 0.
-fn refusal_by(ms: u64, tone: u64, tones: u64, ws: Windows) -> u64
+// A number alone.
+pub fn unbarred(no: u64) -> Verdict
+    ensures { λ r. ⌜ r .no ≡ no ⌝ }
+{
+    Verdict {
+        no,
+        levels: bars::no_levels(),
+    }
+}
+
+// 19, 20, or 0 with the groups that the windows close.
+fn judge_by(ms: u64, tone: u64, tones: u64, ws: Windows) -> Verdict
     requires { ⌜ (1 ≤ ms) × (ms ≤ 2) × (tone ≤ 48) × (tones ≤ 48) ⌝ }
-    ensures { λ r. ⌜ r ≡ windowsRefusal ms tone tones ws ⌝ }
+    ensures { λ r. ⌜ Judged (8 / ms) (windowsRefusal ms tone tones ws) (isClear ms tone tones ws) r ⌝ }
 {
     if !are_listed(ws) {
-        return 19;
+        return unbarred(19);
     }
-    let closed = bars_by(ms, tone, tones, ws);
-    if bars::is_some(bars::idle(), closed, ALL_PERIODS / ms) {
-        return 0;
+    let levels = bars::levels_of(bars_by(ms, tone, tones, ws));
+    if bars::is_some(levels, ALL_PERIODS / ms) {
+        return Verdict { no: 0, levels };
     }
-    20
+    unbarred(20)
 }
 
-// The groups that the windows close to a grant's tones, by its spacing.
-fn bars_on(spacing: u64, tone: u64, tones: u64, ws: Windows) -> Bars
-    requires { ⌜ (tone + tones ≤ uplinkSubcarriers spacing) × (areListed ws ≡ true) ⌝ }
-    ensures { λ r. ⌜ r ≡ barsOn spacing tone tones ws ⌝ }
+// The windows' verdict on the tones of a grant, by its spacing.
+pub fn judge(spacing: u64, tone: u64, tones: u64, ws: Windows) -> Verdict
+    requires { ⌜ tone + tones ≤ uplinkSubcarriers spacing ⌝ }
+    ensures { λ r. ⌜ Judged (8 / groupMs spacing) (refusalOn spacing tone tones ws) (openTo spacing tone tones ws) r ⌝ }
 {
     let scale = slots::narrow_tones(spacing);
-    bars_by(slots::group_ms(spacing), scale * tone, scale * tones, ws)
-}
-
-pub fn bars(spacing: u64, tone: u64, tones: u64, ws: Windows) -> Bars
-    requires { ⌜ (tone + tones ≤ uplinkSubcarriers spacing) × (areListed ws ≡ true) ⌝ }
-    ensures { λ r. ⌜ r ≡ barsOn spacing tone tones ws ⌝ }
-{
-    if ws.count == 0 {
-        return bars::none();
-    }
-    bars_on(spacing, tone, tones, ws)
-}
-
-// The windows' refusal of a grant, or 0.
-fn refusal_on(spacing: u64, tone: u64, tones: u64, ws: Windows) -> u64
-    requires { ⌜ tone + tones ≤ uplinkSubcarriers spacing ⌝ }
-    ensures { λ r. ⌜ r ≡ refusalOn spacing tone tones ws ⌝ }
-{
-    let scale = slots::narrow_tones(spacing);
-    refusal_by(slots::group_ms(spacing), scale * tone, scale * tones, ws)
-}
-
-pub fn refusal(spacing: u64, tone: u64, tones: u64, ws: Windows) -> u64
-    requires { ⌜ tone + tones ≤ uplinkSubcarriers spacing ⌝ }
-    ensures { λ r. ⌜ r ≡ refusalOn spacing tone tones ws ⌝ }
-{
-    if ws.count == 0 {
-        return 0;
-    }
-    refusal_on(spacing, tone, tones, ws)
+    judge_by(slots::group_ms(spacing), scale * tone, scale * tones, ws)
 }

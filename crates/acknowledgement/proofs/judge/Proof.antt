@@ -1,8 +1,6 @@
 use mathlib.Core.Path.{_≡_, sym, ap, _∙_}
-use Prim.Native.Nat.{ℕ}
 use native.Mathlib.Omega.{arith}
-use borrow.Author.Tests.{eq-eqb, ne-eqb}
-use Rattle.windows.specs.Windows.{refusalOn}
+use Rattle.windows.proofs.Spaced.{judged-first, judged-after}
 use Rattle.acknowledgement.specs.declared.AckGrant.{AckGrant}
 use Rattle.acknowledgement.specs.declared.AckFields.{AckFields}
 use Rattle.acknowledgement.specs.Quick.{unwindowed}
@@ -29,7 +27,10 @@ judge-spec =
     (tie.spec
     (λ c κs. tt)
     (λ c κs. tt)
-    (λ c. rw (ne-eqb (fieldsRefusal (g (c .before))) 0 (λ e. c .if1 .taken (number (c .before) ∙ e))) (number (c .before)))
+    (λ c κs. tt)
+    (λ c.
+    let n = c .before .before in
+    judged-first _ (fieldsRefusal (g n)) _ _ _ _ (number n) (c .unbarred .ensures) (c .before .if1 .taken))
     (λ c κs. tt)
     (λ c κs.
     let e = c .before in
@@ -37,6 +38,5 @@ judge-spec =
     omega (arith, c .tone .ensures, named (x .spacing) (x .field) (in-range e .spacing) (in-range e .field) .inside))
     (λ c.
     let e = c .before .before in
-    let x = g (e .before) in
-    rw (eq-eqb (fieldsRefusal x) 0 (sym (number (e .before)) ∙ e .if1 .left))
-    (c .refusal .ensures ∙ ap (λ (a : ℕ). refusalOn (x .spacing) a 1 (x .windows)) (c .before .tone .ensures))))
+    judged-after _ (fieldsRefusal (g (e .before))) _ _ _ _ (number (e .before)) (e .if1 .left)
+    (rw (← c .before .tone .ensures) (c .judge .ensures))))

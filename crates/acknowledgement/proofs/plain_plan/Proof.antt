@@ -1,12 +1,11 @@
-use mathlib.Core.Path.{_≡_, sym, ap, _∙_}
-use Rattle.slots.specs.Answers.{shapePlan}
-use Rattle.slots.proofs.Judging.{plan-accepted, refused-plan-is}
-use Rattle.slots.proofs.Sizes.{plain-closes}
+use mathlib.Core.Path.{_≡_, refl, sym, _∙_}
+use Rattle.slots.specs.Timing.{allOpen}
+use Rattle.slots.proofs.Judging.{refused-plan-is, fits-asked, plan-asked}
 use Rattle.acknowledgement.specs.Quick.{unwindowed}
 use Rattle.acknowledgement.specs.Refusals.{refusal}
-use Rattle.acknowledgement.specs.Shaping.{shapeOf}
+use Rattle.acknowledgement.specs.Shaping.{shapeOf, openOf}
 use Rattle.acknowledgement.specs.Questions.{planOf}
-use Rattle.acknowledgement.proofs.Accepting.{fits, plain-refusal, plain-shape}
+use Rattle.acknowledgement.proofs.Accepting.{fits, plain-refusal, plain-open, same-shape, sized-own}
 use Rattle.acknowledgement.proofs.plain_plan.Statement.{statement}
 use Rattle.acknowledgement.proofs.plain_plan.Tie as tie
 
@@ -14,23 +13,24 @@ use Rattle.acknowledgement.proofs.plain_plan.Tie as tie
 number : (c : tie.After-judge-fields) → c .judge-fields .result ≡ refusal (unwindowed (c .before .args .f))
 number c = c .judge-fields .ensures ∙ plain-refusal (c .before .args .f)
 
-clear : (c : tie.Else1) → refusal (unwindowed (c .before .before .args .f)) ≡ 0
-clear c = sym (number (c .before)) ∙ c .if1 .left
-
-own : (c : tie.After-shape) → c .shape .result ≡ shapeOf (unwindowed (c .before .before .before .before .args .f))
-own c = c .shape .ensures ∙ plain-shape (c .before .before .before .before .args .f) _ (c .before .none .ensures)
+accepted : (c : tie.Else1) → refusal (unwindowed (c .before .before .args .f)) ≡ 0
+accepted c = sym (number (c .before)) ∙ c .if1 .left
 
 returns : tie.Need-returns
 unfolding planOf
 returns c =
     let j = c .before .before in
-    c .refused-plan .ensures ∙ refused-plan-is _ _ (shapeOf (unwindowed (j .before .args .f))) (number j) (c .before .if1 .taken)
+    let g = unwindowed (j .before .args .f) in
+    c .refused-plan .ensures ∙ refused-plan-is _ _ (shapeOf g) (openOf g) (number j) (c .before .if1 .taken)
 
 returns-2 : tie.Need-returns-2
 unfolding planOf
 returns-2 c =
-    let e = c .before .before .before in
-    c .plain-plan .ensures ∙ ap shapePlan (own (c .before)) ∙ plan-accepted _ (shapeOf (unwindowed (e .before .before .args .f))) (clear e)
+    let e = c .before .before in
+    let f = e .before .before .args .f in
+    let g = unwindowed f in
+    c .plain-plan .ensures
+    ∙ plan-asked (shapeOf g) _ 1 1 (c .before .shape .ensures ∙ same-shape g f refl) (openOf g) allOpen (plain-open f) (refusal g) (accepted e) (sized-own g)
 
 pub plain-plan-spec : {M : Type 1} → statement M
 plain-plan-spec =
@@ -39,11 +39,9 @@ plain-plan-spec =
     (λ c κs. tt)
     (λ c κs. tt)
     returns
-    (λ c κs. tt)
-    (λ c κs. let e = c .before in sym (e .before .judge-fields .ensures) ∙ e .if1 .left)
+    (λ c κs. sym (c .before .judge-fields .ensures) ∙ c .if1 .left)
     (λ c κs.
-    let e = c .before .before in (
-      rw (own c) (fits (unwindowed (e .before .before .args .f)) (clear e)),
-      plain-closes _ (shapeOf (unwindowed (e .before .before .args .f))) _ (c .shape .ensures) (c .before .none .ensures),
-    ))
+    let f = c .before .before .before .args .f in
+    let g = unwindowed f in
+    fits-asked (shapeOf g) _ 1 1 (c .shape .ensures ∙ same-shape g f refl) (fits g (accepted (c .before))))
     returns-2)

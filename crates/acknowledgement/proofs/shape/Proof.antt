@@ -25,7 +25,6 @@ returns c =
       references = 3;
       size = 1;
       order = 1;
-      bars = s .before .args .bars;
     }
 
 pub shape-spec : {M : Type 1} → statement M

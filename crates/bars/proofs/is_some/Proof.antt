@@ -1,5 +1,7 @@
+use mathlib.Core.Path.{_≡_}
+use mathlib.Core.Logic.{⊎-elim}
 use borrow.Author.Needs.{needs}
-use Rattle.bars.proofs.Cycles.{is-some}
+use Rattle.bars.proofs.Leveling.{before-counts, some-counted}
 use Rattle.bars.proofs.is_some.Statement.{statement}
 use Rattle.bars.proofs.is_some.Tie as tie
 
@@ -8,4 +10,7 @@ is-some-spec =
     tie.close
     (tie.spec
     (λ c κs. search needs)
-    (λ c. is-some _ _ _ (c .scan .ensures)))
+    (λ c κs. search needs)
+    (λ c.
+    let s = c .before .before in
+    some-counted _ _ (before-counts (s .args .ls) (s .pre .0)) _ _ _ (c .before .before2 .ensures .0) (c .before3 .ensures .0)))

@@ -1,53 +1,36 @@
 -- The search: `left` free numbers are still to be passed from `at` on.
-use mathlib.Core.Bool.{Bool}
-use mathlib.Core.Path.{_≡_, refl, ap}
-use Prim.Native.Nat.{ℕ, _+_, _-_, _≤_, _<_}
+use mathlib.Core.Path.{_≡_, refl, sym, ap, subst}
+use Prim.Native.Nat.{ℕ, _+_, _-_, _^_, _≤_, _<_}
 use native.Mathlib.Omega.{arith}
 use mir.Val.{boolByte}
 use Rattle.counting.specs.Counting.{rank, Nth}
+use Rattle.counting.proofs.Rank.{rank-le}
+use Rattle.counting.proofs.Select.{nth-of}
 use Rattle.bars.specs.Bars.{isFree}
-use Rattle.bars.specs.Quick.{takenOf}
-use Rattle.bars.proofs.Running.{run-passed, run-found, run-holds}
+use Rattle.bars.specs.Quick.{Begins, Held}
 use Rattle.bars.proofs.scan.Statement.{statement}
 use Rattle.bars.proofs.scan.Tie as tie
 
 abbrev Inv-loop : tie.InvT-loop
-Inv-loop gap b t n j end at₀ left₀ at left =
-    (end ≡ t + n) × (at ≤ end) × (left ≤ j) × (rank (isFree gap b) at + left ≡ rank (isFree gap b) t + j)
+Inv-loop gap ls t n j end at₀ left₀ at left =
+    (end ≡ t + n) × (at ≤ end) × (left ≤ j) × (rank (isFree gap (ls .bars)) at + left ≡ rank (isFree gap (ls .bars)) t + j) × (at < end → Begins gap at)
 
 abbrev μ-loop : tie.MeasureT-loop
-μ-loop gap b t n j end at₀ left₀ at left = end - at
+μ-loop gap ls t n j end at₀ left₀ at left = end - at
 
--- a run that was looked at: it is as long as it is said to be, or the numbers end before
-module _ (c : tie.After-taken Inv-loop μ-loop) where
-  abbrev u : ℕ → Bool
-  u = isFree (c .before .before .before .before .before .args .gap) (c .before .before .before .before .before .args .b)
+-- the number that is found in the period at hand
+module _ (c : tie.Then1 Inv-loop μ-loop) where
+  abbrev s : tie.Start Inv-loop μ-loop
+  s = c .before .before .before .before
 
-  at-most : c .before .least .result ≤ c .before .before .run-at .result .length
-  at-most = omega (arith, c .before .least .ensures)
+  abbrev left : ℕ
+  left = c .before .before .before .loop .left
 
-  passed : rank u (c .before .before .before .before .loop .at) + c .taken .result
-      ≡ rank u (c .before .before .before .before .loop .at + c .before .least .result)
-  passed = omega (arith, c .taken .ensures, run-passed u _ _ _ (c .before .before .run-at .ensures) at-most)
+  held : Held (s .args .gap) (s .args .ls) (c .before .before .before .loop .at) (s .args .t + s .args .n) left (c .before .round-at .result)
+  held = c .before .round-at .ensures .held left (c .if1 .taken)
 
-  inside : (0 < c .before .least .result)
-      × (c .before .before .before .before .loop .at + c .before .least .result ≤ c .before .before .before .before .before .args .t + c .before .before .before .before .before .args .n)
-  inside =
-      let l = c .before .before .before .before .loop in (
-        omega (arith, c .before .least .ensures, c .before .before .run-at .ensures .some, c .before .before .before .loop-test .taken),
-        omega (arith, c .before .least .ensures, l .inv .1),
-      )
-
-  module _ (h : c .before .before .before .before .loop .left < c .taken .result) where
-    short : c .before .before .before .before .loop .left < takenOf (c .before .before .run-at .result) (c .before .least .result)
-    short = omega (arith, c .taken .ensures)
-
-    here : c .before .before .before .before .loop .left < c .before .least .result
-    here = run-holds u _ _ _ (c .before .before .run-at .ensures) at-most _ short .0
-
-    stops : Nth u (c .before .before .before .before .before .args .t) (c .before .before .before .before .before .args .j)
-        (c .before .before .before .before .loop .at + c .before .before .before .before .loop .left)
-    stops = run-found u _ _ _ (c .before .before .run-at .ensures) at-most _ _ _ (c .before .before .before .before .loop .inv .3) short
+  small : held .x < 2 ^ 48
+  small = omega (arith, held .inside, c .before .round-at .ensures .within, s .pre .3, s .pre .4)
 
 pub scan-spec : {M : Type 1} → statement M
 scan-spec =
@@ -55,27 +38,48 @@ scan-spec =
     (tie.spec
     Inv-loop
     μ-loop
-    (λ c. omega arith)
-    (λ c. (refl, omega arith, omega arith, refl))
-    (λ c κs. (c .before .before .pre .0, c .before .before .pre .1, omega (arith, c .before .loop .inv)))
-    (λ c. omega (arith, c .before .before .loop .inv))
-    (λ c κs. tt)
-    (λ c κs. tt)
-    (λ c. omega (arith, here (c .before) (c .if1 .taken), inside (c .before) .1, c .before .before .before .before .before .before .pre))
-    (λ c. record {
-      found = λ e. (stops (c .before) (c .if1 .taken), omega (arith, here (c .before) (c .if1 .taken), inside (c .before) .1));
+    (λ c. omega (arith, c .pre .3, c .pre .4))
+    (λ c. (refl, omega arith, omega arith, refl, λ h. c .pre .1))
+    (λ c κs.
+    let s = c .before .before in
+    let l = c .before .loop in
+    (s .pre .0, l .inv .4 (c .loop-test .taken), s .pre .2, c .loop-test .taken, omega (arith, s .pre .3, s .pre .4)))
+    (λ c.
+    let r = c .before .round-at in
+    omega (
+      arith,
+      r .ensures .small,
+      r .ensures .counted,
+      r .ensures .within,
+      rank-le (isFree (s c .args .gap) (s c .args .ls .bars)) (c .before .before .before .loop .at + r .result .length),
+      s c .pre .3,
+      s c .pre .4,
+    ))
+    (λ c κs. (s c .pre .2, record { at = held c .x; small = small c; passes = held c .passes; here = held c .count }))
+    (λ c.
+    let b = c .before in
+    let x = c .find .ensures (held b .x) (held b .passes) (held b .count) (small b) in
+    record {
+      found = λ e. (
+        subst (λ (y : ℕ). Nth (isFree (s b .args .gap) (s b .args .ls .bars)) (s b .args .t) (s b .args .j) y) (sym x)
+            (nth-of _ _ _ _ (held b .nth .passes) (omega (arith, held b .nth .before, b .before .before .before .loop .inv .3))),
+        omega (arith, x, held b .inside, b .before .round-at .ensures .within),
+      );
       missed = λ e. absurd (omega (arith, ap boolByte e));
     })
-    (λ c. omega (arith, inside (c .before) .1, c .before .before .before .before .before .before .pre))
-    (λ c. omega (arith, inside (c .before)))
     (λ c.
-    let l = c .before .before .before .before .before .loop in
-    (refl, inside (c .before) .1, omega (arith, l .inv), omega (arith, passed (c .before), l .inv .3)))
+    let s = c .before .before .before .before in
+    omega (arith, c .before .round-at .ensures .within, s .pre .3, s .pre .4))
+    (λ c. omega (arith, c .before .round-at .ensures .some, c .before .round-at .ensures .within))
+    (λ c.
+    let r = c .before .round-at .ensures in
+    let l = c .before .before .before .loop in
+    (refl, r .within, omega (arith, l .inv .2), omega (arith, r .counted, l .inv .3), r .next))
     (λ c. record {
       found = λ e. absurd (omega (arith, ap boolByte e));
       missed = λ e.
           let l = c .before .loop in
           let a = c .before .before .args in
           let z : l .at ≡ a .t + a .n = omega (arith, l .inv .1) in
-          omega (arith, l .inv .3, ap (rank (isFree (a .gap) (a .b))) z);
+          omega (arith, l .inv .3, ap (rank (isFree (a .gap) (a .ls .bars))) z);
     }))

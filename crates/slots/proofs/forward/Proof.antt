@@ -1,5 +1,5 @@
 use mathlib.Core.Path.{ap, _∙_}
-use Prim.Native.Nat.{_^_, _<_}
+use Prim.Native.Nat.{_<_}
 use native.Mathlib.Nat.{mod-lt, div-lt-iff-lt-mul, le-div-iff-mul-le}
 use native.Mathlib.Omega.{arith}
 use borrow.Author.Needs.{needs}
@@ -39,11 +39,11 @@ forward-spec =
     (tie.spec
     (λ c κs. c .pre .0)
     (λ c κs. search needs)
-    (λ c.
+    (λ c isOpen h.
     let a = c .before .before .before in
     let b = a .before in
     c .refused-place .ensures
-    ∙ forward-refused (b .args .s) (b .args .p)
+    ∙ forward-refused (b .args .s) isOpen (b .args .p)
     (le-div-iff-mul-le (some-data (b .args .s) (b .pre .0)) .0
     (omega (arith, c .before .if1 .taken, a .sent-slots .ensures .0, ap (λ (x : Split). x .i) (b .pre .1)))))
     (λ c κs. c .before .before .before .pre .0)
@@ -51,8 +51,8 @@ forward-spec =
     (λ c κs.
     let w = c .before in
     (omega (arith, c .carried-by .ensures .1), w .slot-data .ensures .2, rest w))
-    (λ c.
+    (λ c isOpen h.
     let w = c .before .before in
     let a = start w in
-    forward-is (a .args .s) (a .args .p) _ _ _ _ _ (held w) (w .slot-data .ensures .0) (a .pre .1)
-    (a .pre .2 (unit w)) (c .before .carried-by .ensures .0) (c .item .ensures)))
+    forward-is (a .args .s) isOpen (a .args .p) _ _ _ _ _ (held w) (w .slot-data .ensures .0) (a .pre .1)
+    (h (unit w)) (c .before .carried-by .ensures .0) (c .item .ensures)))

@@ -7,13 +7,13 @@ unfolding shapePlan
 planned-spec =
     tie.close
     (tie.spec
-    (λ c κs. c .pre .0)
-    (λ c.
+    (λ c κs. c .pre)
+    (λ c isOpen first last.
     let a = c .before in
     λ j. record {
       no = 0;
-      first = a .pre .1 j;
-      last = a .pre .2 j;
+      first = first j;
+      last = last j;
       copies = a .args .s .copies;
       places = c .places .ensures j;
       size = a .args .s .size;

@@ -1,8 +1,6 @@
-use mathlib.Core.Path.{_≡_, sym, ap, ap₂, _∙_}
-use Prim.Native.Nat.{ℕ}
+use mathlib.Core.Path.{_≡_, sym, ap, _∙_}
 use native.Mathlib.Omega.{arith}
-use borrow.Author.Tests.{eq-eqb, ne-eqb}
-use Rattle.windows.specs.Windows.{refusalOn}
+use Rattle.windows.proofs.Spaced.{judged-first, judged-after}
 use Rattle.uplink.specs.declared.UplinkGrant.{UplinkGrant}
 use Rattle.uplink.specs.declared.UplinkFields.{UplinkFields}
 use Rattle.uplink.specs.Quick.{unwindowed}
@@ -30,7 +28,10 @@ judge-spec =
     (tie.spec
     (λ c κs. tt)
     (λ c κs. tt)
-    (λ c. rw (ne-eqb (fieldsRefusal lastSubframe (g (c .before))) 0 (λ e. c .if1 .taken (number (c .before) ∙ e))) (number (c .before)))
+    (λ c κs. tt)
+    (λ c.
+    let n = c .before .before in
+    judged-first _ (fieldsRefusal lastSubframe (g n)) _ _ _ _ (number n) (c .unbarred .ensures) (c .before .if1 .taken))
     (λ c κs. (in-range c .spacing, in-range c .tones))
     (λ c κs. tt)
     (λ c κs.
@@ -39,7 +40,5 @@ judge-spec =
     omega (arith, c .before .first-tone .ensures, c .tones .ensures, tone-field (x .spacing) (x .subcarrier) (in-range e .spacing) (in-range e .tones) .inside))
     (λ c.
     let e = c .before .before .before in
-    let x = g (e .before) in
-    rw (eq-eqb (fieldsRefusal lastSubframe x) 0 (sym (number (e .before)) ∙ e .if1 .left))
-    (c .refusal .ensures
-    ∙ ap₂ (λ (a n : ℕ). refusalOn (x .spacing) a n (x .windows)) (c .before .before .first-tone .ensures) (c .before .tones .ensures))))
+    judged-after _ (fieldsRefusal lastSubframe (g (e .before))) _ _ _ _ (number (e .before)) (e .if1 .left)
+    (rw (← c .before .before .first-tone .ensures, ← c .before .tones .ensures) (c .judge .ensures))))

@@ -1,14 +1,11 @@
-use mathlib.Core.Path.{_≡_, sym, ap, _∙_}
-use Rattle.slots.specs.declared.Shape.{Shape}
-use Rattle.slots.specs.Answers.{shapePlan}
-use Rattle.slots.specs.Quick.{sized, barred}
-use Rattle.slots.proofs.Judging.{plan-accepted, refused-plan-is}
-use Rattle.slots.proofs.Sizes.{plain-closes}
+use mathlib.Core.Path.{_≡_, sym, _∙_}
+use Rattle.slots.specs.Timing.{allOpen}
+use Rattle.slots.proofs.Judging.{refused-plan-is, fits-asked, plan-asked}
 use Rattle.uplink.specs.Quick.{unwindowed}
 use Rattle.uplink.specs.Refusals.{refusal}
-use Rattle.uplink.specs.Shaping.{shapeOf}
+use Rattle.uplink.specs.Shaping.{shapeOf, openOf}
 use Rattle.uplink.specs.Questions.{planOf}
-use Rattle.uplink.proofs.Acceptance.{fits, plain-refusal, plain-shape}
+use Rattle.uplink.proofs.Acceptance.{fits, plain-refusal, plain-open}
 use Rattle.uplink.proofs.Shaped.{sized-own}
 use Rattle.uplink.proofs.plain_plan.Statement.{statement}
 use Rattle.uplink.proofs.plain_plan.Tie as tie
@@ -17,26 +14,25 @@ use Rattle.uplink.proofs.plain_plan.Tie as tie
 number : (c : tie.After-judge-fields) → c .judge-fields .result ≡ refusal (unwindowed (c .before .args .f))
 number c = c .judge-fields .ensures ∙ plain-refusal (c .before .args .f)
 
-clear : (c : tie.Else1) → refusal (unwindowed (c .before .before .args .f)) ≡ 0
-clear c = sym (number (c .before)) ∙ c .if1 .left
-
-own : (c : tie.After-shape) → c .shape .result ≡ shapeOf (unwindowed (c .before .before .before .before .before .args .f))
-own c =
-    let z = c .before .before in
-    let f = z .before .before .before .args .f in
-    c .shape .ensures ∙ ap (λ (s : Shape). barred s (c .before .none .result)) (sized-own f _ (z .sizes-of .ensures)) ∙ plain-shape f _ (c .before .none .ensures)
+accepted : (c : tie.Else1) → refusal (unwindowed (c .before .before .args .f)) ≡ 0
+accepted c = sym (number (c .before)) ∙ c .if1 .left
 
 returns : tie.Need-returns
 unfolding planOf
 returns c =
     let j = c .before .before in
-    c .refused-plan .ensures ∙ refused-plan-is _ _ (shapeOf (unwindowed (j .before .args .f))) (number j) (c .before .if1 .taken)
+    let g = unwindowed (j .before .args .f) in
+    c .refused-plan .ensures ∙ refused-plan-is _ _ (shapeOf g) (openOf g) (number j) (c .before .if1 .taken)
 
 returns-2 : tie.Need-returns-2
 unfolding planOf
 returns-2 c =
-    let e = c .before .before .before .before in
-    c .plain-plan .ensures ∙ ap shapePlan (own (c .before)) ∙ plan-accepted _ (shapeOf (unwindowed (e .before .before .args .f))) (clear e)
+    let s = c .before in
+    let e = s .before .before in
+    let f = e .before .before .args .f in
+    let g = unwindowed f in
+    c .plain-plan .ensures
+    ∙ plan-asked (shapeOf g) _ _ _ (s .shape .ensures) (openOf g) allOpen (plain-open f) (refusal g) (accepted e) (sized-own g _ (s .before .sizes-of .ensures))
 
 pub plain-plan-spec : {M : Type 1} → statement M
 plain-plan-spec =
@@ -46,13 +42,9 @@ plain-plan-spec =
     (λ c κs. tt)
     returns
     (λ c κs. sym (c .before .judge-fields .ensures) ∙ c .if1 .left)
-    (λ c κs. tt)
-    (λ c κs. let e = c .before .before in sym (e .before .judge-fields .ensures) ∙ e .if1 .left)
+    (λ c κs. let e = c .before in sym (e .before .judge-fields .ensures) ∙ e .if1 .left)
     (λ c κs.
-    let z = c .before .before in
-    let e = z .before in
-    let f = e .before .before .args .f in (
-      rw (own c) (fits (unwindowed f) (clear e)),
-      plain-closes _ (sized (shapeOf (unwindowed f)) (z .sizes-of .result .size) (z .sizes-of .result .order)) _ (c .shape .ensures) (c .before .none .ensures),
-    ))
+    let e = c .before .before in
+    let g = unwindowed (e .before .before .args .f) in
+    fits-asked (shapeOf g) _ _ _ (c .shape .ensures) (fits g (accepted e)))
     returns-2)

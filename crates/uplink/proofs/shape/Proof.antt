@@ -36,6 +36,6 @@ shape-spec =
     (λ c.
     let k = c .before .before .before .before in
     let n = k .before .before .before .before .before in
-    shape-is (unwindowed (n .before .before .args .f)) _ _ _ _ _ _ _ _ _ _ _ _ _ _ (n .before .tones .ensures) (n .uplink-copies .ensures)
+    shape-is (unwindowed (n .before .before .args .f)) _ _ _ _ _ _ _ _ _ _ _ _ _ (n .before .tones .ensures) (n .uplink-copies .ensures)
     (k .before .before .before .before .start .ensures) (k .before .before .before .subcarriers .ensures .0) (k .before .before .block .ensures) (k .before .gap .ensures) (k .first-tone .ensures)
     (c .before .before .before .codeword .ensures) (c .before .before .row .ensures) (c .before .group .ensures) (c .reference .ensures)))

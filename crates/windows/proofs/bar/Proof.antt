@@ -1,10 +1,13 @@
 use mathlib.Core.Bool.{true, _&&_}
-use mathlib.Core.Path.{_≡_, refl, sym, _∙_}
+use mathlib.Core.Path.{_≡_, sym, _∙_}
+use Prim.Native.Nat.{_+_, _-_, _*_}
+use native.Mathlib.Nat.{div-div-eq-div-mul}
 use native.Mathlib.Omega.{arith}
 use borrow.Author.Needs.{needs}
 use borrow.Author.Tests.{not-true, not-false}
 use Rattle.counting.proofs.Facts.{both-parts}
-use Rattle.windows.specs.Windows.{sharesTone, barOf}
+use Rattle.windows.specs.Windows.{unitsOfMs, sharesTone}
+use Rattle.windows.specs.Quick.{barOf}
 use Rattle.windows.proofs.Listing.{Numbers, numbers}
 use Rattle.windows.proofs.bar.Statement.{statement}
 use Rattle.windows.proofs.bar.Tie as tie
@@ -25,13 +28,22 @@ bar-spec =
     tie.close
     (tie.spec
     (λ c κs. (c .pre .2, c .pre .3, c .pre .4))
-    (λ c κs. search needs)
-    (λ c. rw (sym (c .before .before .concerns .ensures) ∙ not-true _ (c .before .if1 .taken)) (c .idle .ensures))
+    (λ c κs. (c .before .before .pre .0, c .before .before .pre .1))
+    (λ c.
+    rw (sym (c .before .before .concerns .ensures) ∙ not-true _ (c .before .if1 .taken)) (λ j. record { period = c .over-ms .ensures j; phase = 0; closed = 0 }))
     (λ c. search needs)
+    (λ c κs. (c .before .before .pre .0, c .before .before .pre .1))
+    (λ c. omega (arith, numbered (c .before) .startTo))
+    (λ c κs. let a = c .before .before .before in (a .pre .0, a .pre .1))
     (λ c. search needs)
-    (λ c. omega (arith, numbered c .startTo))
-    (λ c. search needs)
-    (λ c. search needs)
-    (λ c. omega (arith, numbered c .lengthTo, c .before .before .pre .1))
-    (λ c. search needs)
-    (λ c. rw (concerned c) refl))
+    (λ c. let e = c .before .before in omega (arith, numbered e .lengthTo, e .before .before .pre .1))
+    (λ c κs. let a = c .before .before .before .before in (a .pre .0, a .pre .1))
+    (λ c.
+    let d = c .before in
+    let b = d .before in
+    let a = b .before .before .before .args in
+    rw (concerned (b .before)) (λ j. record {
+      period = b .over-ms2 .ensures j;
+      phase = d .over-ms3 .ensures j;
+      closed = (c .over-ms4 .ensures ∙ div-div-eq-div-mul (a .w .length + (unitsOfMs * a .ms - 1)) unitsOfMs (a .ms)) j;
+    })))

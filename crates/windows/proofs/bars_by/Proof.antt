@@ -1,5 +1,5 @@
 use mathlib.Core.Path.{_≡_}
-use Rattle.windows.specs.Windows.{barsOf}
+use Rattle.windows.specs.Quick.{barsOf}
 use Rattle.windows.proofs.Listing.{listed-1, listed-2, listed-3, listed-4}
 use Rattle.windows.proofs.bars_by.Statement.{statement}
 use Rattle.windows.proofs.bars_by.Tie as tie

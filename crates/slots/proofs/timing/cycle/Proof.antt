@@ -1,11 +1,6 @@
-use Prim.Native.Nat.{_*_, _/_, _%_}
+use mathlib.Core.Path.{refl}
 use native.Mathlib.Omega.{arith}
-use lib.Dec.{eqb, ltb}
-use borrow.Author.Tests.{eqb-true, ltb-true}
-use Rattle.counting.proofs.Facts.{both-parts}
-use Rattle.slots.specs.Timing.{round}
-use borrow.Author.Needs.{needs}
-use Rattle.slots.proofs.Grouped.{some-round, short-again, long-again}
+use Rattle.slots.proofs.Grouped.{cycle-repeats}
 use Rattle.slots.proofs.timing.cycle.Statement.{statement}
 use Rattle.slots.proofs.timing.cycle.Tie as tie
 
@@ -13,14 +8,9 @@ pub cycle-spec : {M : Type 1} → statement M
 cycle-spec =
     tie.close
     (tie.spec
-    (λ c. search needs)
-    (λ c. search needs)
-    (λ c κs. search needs)
-    (λ c. omega (arith, c .longest .ensures, c .before .pre .shortSmall))
-    (λ c. some-round (c .before .args .s) (c .before .pre))
+    (λ c. omega (arith, c .pre .2 .stacked .sorted .usable .u4 .periodSmall))
+    (λ c κs. c .pre .2 .stacked)
+    (λ c. let s = c .before in omega (arith, c .clear-in-longest .ensures .1, s .pre .2 .stacked .sorted .usable .u4 .periodSmall))
     (λ c.
-    let a = c .before .before in
-    let t = both-parts (ltb 0 (37 * c .before .longest .result)) (eqb (37 * c .before .longest .result % (round (a .args .s) / a .args .s .group)) 0) (c .if1 .taken) in
-    short-again (a .args .s) (a .pre) _ (c .before .longest .ensures) (ltb-true _ _ (t .0)) (eqb-true _ _ (t .1)))
-    (λ c. omega (arith, long-again (c .before .before .args .s) (c .before .before .pre) .small))
-    (λ c. long-again (c .before .before .args .s) (c .before .before .pre)))
+    let s = c .before in
+    cycle-repeats (s .args .s) (s .pre .0) (s .args .ls .bars) (s .pre .1) (s .args .ls) (s .pre .2) refl _ (c .clear-in-longest .ensures .0)))
