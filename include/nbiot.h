@@ -82,15 +82,15 @@ enum {
 };
 
 /*
- * Random access windows, which push uplink slots aside: a count up to 4, then four windows; those past the count are not read, but
+ * Random access windows, which postpone uplink slots: a count up to 4, then four windows; those past the count are not read, but
  * the buffer has all 17 numbers. A buffer of no numbers is no window. The windows are lent with each uplink call.
  * Window i, from 0, has its numbers from NBIOT_WINDOWS_FIRST + i * NBIOT_WINDOW_NUMBERS on.
  */
 enum {
     NBIOT_WINDOW_PERIOD, /* 40, 80, 160, 320, 640, 1280 or 2560 ms */
-    NBIOT_WINDOW_START,  /* 8 to 1024 ms, a power of two: windows begin at every t equal to it modulo the period */
+    NBIOT_WINDOW_START,  /* 8 to 1024 ms, a power of two: windows begin at every t, below 0 too, equal to it modulo the period */
     NBIOT_WINDOW_LENGTH, /* in 1/30720 ms: 172032 or 196608, times a power of two up to 64 */
-    NBIOT_WINDOW_TONE,   /* the first of 12 tones at 3.75 kHz, 0 to 36 */
+    NBIOT_WINDOW_TONE,   /* the first of 12 tones at 3.75 kHz, 0 to 36; a 15 kHz tone k covers 4k to 4k + 3 */
     NBIOT_WINDOW_NUMBERS
 };
 

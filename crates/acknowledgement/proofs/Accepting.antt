@@ -1,10 +1,10 @@
 -- What acceptance says of an acknowledgement's numbers, and that its shape then fits.
 use mathlib.Core.Bool.{Bool, true, false, cond, _&&_}
 use mathlib.Core.Path.{_≡_, refl, sym, ap, _∙_}
-use Prim.Native.Nat.{ℕ, zero, suc, _+_, _-_, _%_, _≤_, _/_}
+use Prim.Native.Nat.{ℕ, zero, suc, _+_, _-_, _%_, _≤_}
 use native.Mathlib.Nat.{mod-one}
 use native.Mathlib.Omega.{arith}
-use lib.Dec.{T, eqb, leb, ltb, leb→le, eqb→eq}
+use lib.Dec.{T, eqb, leb, ltb, leb→le}
 use borrow.Author.Tests.{ltb-false, le-ltb}
 use Rattle.counting.proofs.Facts.{passed, after-first, first-alone, either-parts, each, each-at}
 use Rattle.grid.specs.Grid.{uplinkSubcarriers}
@@ -13,19 +13,23 @@ use Rattle.grid.proofs.Rules.{parts, uplink-copies-bounds}
 use Rattle.slots.specs.Timing.{allOpen}
 use Rattle.slots.specs.Fits.{Fits, Leaves}
 use Rattle.slots.specs.Quick.{sized}
-use Rattle.slots.proofs.Spacing.{first-bound, by-spacing-bounds, spaced}
-use Rattle.windows.specs.declared.Verdict.{Verdict}
+use Rattle.numerology.proofs.Spacing.{first-bound, by-spacing-bounds, spaced}
+use Rattle.sending.specs.declared.Back.{Back}
+use Rattle.slots.specs.declared.Shape.{Shape}
+use Rattle.slots.specs.declared.UplinkPlan.{UplinkPlan}
+use Rattle.slots.specs.declared.UplinkPlace.{UplinkPlace}
+use Rattle.slots.specs.Answers.{planAnswer, forwardAnswer, backwardAnswer}
 use Rattle.windows.specs.Windows.{none}
-use Rattle.slots.specs.Numerology.{groupMs}
-use Rattle.windows.specs.Quick.{Judged}
-use Rattle.slots.specs.Quick.{Parted}
-use Rattle.windows.proofs.Spaced.{leaves, parted, none-refuses, none-closes}
+use Rattle.windows.proofs.Spaced.{none-refuses, none-closes}
+use Rattle.windowed.specs.Beside.{refusalBeside, openBeside, Spaced}
+use Rattle.windowed.proofs.Beside.{leaves, first-refuses, plan-beside, forward-beside, backward-beside, shape-beside}
 use Rattle.acknowledgement.specs.declared.AckFields.{AckFields}
-use Rattle.acknowledgement.specs.Quick.{fieldsOf, unwindowed}
+use Rattle.acknowledgement.specs.Unwindowed.{fieldsOf, unwindowed}
 use Rattle.acknowledgement.specs.declared.AckGrant.{AckGrant}
 use Rattle.acknowledgement.specs.Fields.{toneOf, delayOf}
-use Rattle.acknowledgement.specs.Refusals.{lastSubframe, aboveLargest, windowed, fieldsRefusal, refusal}
+use Rattle.acknowledgement.specs.Refusals.{lastSubframe, aboveLargest, windowsNumber, fieldsRefusal, refusal}
 use Rattle.acknowledgement.specs.Shaping.{unitSlots, shapeOf, openOf}
+use Rattle.acknowledgement.specs.Questions.{planOf, forwardOf, backwardOf}
 
 -- every number in its range
 pub record InRange (g : AckGrant) : Type 0 where
@@ -37,7 +41,7 @@ pub record InRange (g : AckGrant) : Type 0 where
 -- and the windows not refused
 pub record Accepted (g : AckGrant) : Type 0 where
   pub range : InRange g
-  pub windows : windowed g ≡ 0
+  pub windows : windowsNumber g ≡ 0
 
 module _ (g : AckGrant) where
   pub ranged : fieldsRefusal g ≡ 0 → InRange g
@@ -67,7 +71,7 @@ module _ (g : AckGrant) where
 
   pub accepted : refusal g ≡ 0 → Accepted g
   unfolding refusal
-  accepted e = let p = after-first (fieldsRefusal g) (windowed g) e in record { range = ranged (p .0); windows = p .1 }
+  accepted e = let p = after-first (fieldsRefusal g) (windowsNumber g) e in record { range = ranged (p .0); windows = p .1 }
 
   pub accepts : Accepted g → refusal g ≡ 0
   unfolding refusal
@@ -108,82 +112,136 @@ whole-groups : (b : Bool) → unitSlots % cond b 1 2 ≡ 0
 whole-groups true = refl
 whole-groups false = refl
 
+pub fits-in : (g : AckGrant) → InRange g → Fits (shapeOf g)
+unfolding shapeOf
+fits-in g a =
+    let f = named (g .spacing) (g .field) (a .spacing) (a .field) in
+    let copies = uplink-copies-bounds (g .copies) (omega (arith, a .copies)) in
+    let reference = by-spacing-bounds (g .spacing) 0 2 in
+    let by = spaced (g .spacing) (g .n + delayOf (g .spacing) (g .field) - 1) in
+    record {
+      block = by .block;
+      tones = omega arith;
+      codeword = omega arith;
+      copies = copies .0;
+      row = omega arith;
+      group = by .group;
+      references = omega arith;
+      withinSymbols = omega (arith, reference .1);
+      withinTones = f .inside;
+      passes = mod-one (entry uplinkCopies (g .copies));
+      groups = whole-groups (eqb (g .spacing) 0);
+      wholeFirst = by .wholeFirst;
+      wholeBlock = by .wholeBlock;
+      wholeGap = by .wholeGap;
+      firstSmall = omega (arith, a .early, first-bound (g .spacing) (g .n + delayOf (g .spacing) (g .field) - 1), f .small);
+      blockSmall = by .blockSmall;
+      gapSmall = by .gapSmall;
+      subcarriersSmall = by .subcarriersSmall;
+      codewordSmall = omega arith;
+      copiesSmall = omega (arith, copies .1);
+      rowSmall = omega arith;
+      groupSmall = by .groupSmall;
+    }
+
+-- its numbers by its spacing
+pub spaced-of : (g : AckGrant) → InRange g → Spaced (g .spacing) (shapeOf g)
+unfolding shapeOf
+spaced-of g a = record { listed = a .spacing; subcarriers = refl; block = refl; gap = refl; group = refl }
+
 module _ (g : AckGrant) (e : refusal g ≡ 0) where
   pub fits : Fits (shapeOf g)
-  unfolding shapeOf
-  fits =
-      let a = accepted g e .range in
-      let f = named (g .spacing) (g .field) (a .spacing) (a .field) in
-      let copies = uplink-copies-bounds (g .copies) (omega (arith, a .copies)) in
-      let reference = by-spacing-bounds (g .spacing) 0 2 in
-      let by = spaced (g .spacing) (g .n + delayOf (g .spacing) (g .field) - 1) in
-      record {
-        block = by .block;
-        tones = omega arith;
-        codeword = omega arith;
-        copies = copies .0;
-        row = omega arith;
-        group = by .group;
-        references = omega arith;
-        withinSymbols = omega (arith, reference .1);
-        withinTones = f .inside;
-        passes = mod-one (entry uplinkCopies (g .copies));
-        groups = whole-groups (eqb (g .spacing) 0);
-        wholeFirst = by .wholeFirst;
-        wholeBlock = by .wholeBlock;
-        wholeGap = by .wholeGap;
-        firstSmall = omega (arith, a .early, first-bound (g .spacing) (g .n + delayOf (g .spacing) (g .field) - 1), f .small);
-        blockSmall = by .blockSmall;
-        gapSmall = by .gapSmall;
-        subcarriersSmall = by .subcarriersSmall;
-        codewordSmall = omega arith;
-        copiesSmall = omega (arith, copies .1);
-        rowSmall = omega arith;
-        groupSmall = by .groupSmall;
-      }
+  fits = fits-in g (accepted g e .range)
 
   -- what the windows leave
   pub leaves-open : Leaves (shapeOf g) (openOf g)
   unfolding shapeOf
-  leaves-open =
-      let a = accepted g e in
-      leaves (shapeOf g) (g .spacing) (toneOf (g .spacing) (g .field)) 1 (g .windows) (a .range .spacing) refl refl refl (a .windows)
+  leaves-open = let a = accepted g e in leaves (g .spacing) (shapeOf g) (spaced-of g (a .range)) (g .windows) (a .windows)
 
--- its rounds, in parts of 8 ms
-pub parted-of : (g : AckGrant) → Parted (shapeOf g) (8 / groupMs (g .spacing))
+-- its size and its order are 1
+pub sized-own : (g : AckGrant) → sized (shapeOf g) 1 1 ≡ shapeOf g
 unfolding shapeOf
-parted-of g = parted (shapeOf g) (g .spacing) refl refl refl
+sized-own g = refl
 
--- ---- a grant by its fields
+-- ---- a grant by its fields, and the number that these have
 
-module _ (g : AckGrant) where
-  pub same-fields : fieldsRefusal (unwindowed (fieldsOf g)) ≡ fieldsRefusal g
+module _ (g : AckGrant) (f : AckFields) (h : f ≡ fieldsOf g) (n : ℕ) (e : n ≡ fieldsRefusal (unwindowed f)) where
+  pub fields-number : n ≡ fieldsRefusal g
   unfolding fieldsRefusal
-  same-fields = refl
+  fields-number = e ∙ ap (λ (x : AckFields). fieldsRefusal (unwindowed x)) h
 
-  -- its size and its order are 1
-  pub sized-own : sized (shapeOf g) 1 1 ≡ shapeOf g
-  unfolding shapeOf
-  sized-own = refl
+  pub refused-by : (n ≡ 0 → ⊥) → n ≡ refusal g
+  unfolding refusal
+  refused-by z = first-refuses n (fieldsRefusal g) (windowsNumber g) fields-number z
 
-  module _ (f : AckFields) (h : f ≡ fieldsOf g) where
-    -- its shape
-    pub same-shape : shapeOf (unwindowed f) ≡ sized (shapeOf g) 1 1
+  -- its shape, asked beside its windows
+  module _ (z : n ≡ 0) (s : Shape) (own : s ≡ shapeOf (unwindowed f)) where
+    in-range : InRange g
+    in-range = ranged g (sym fields-number ∙ z)
+
+    own-shape : s ≡ sized (shapeOf g) 1 1
     unfolding shapeOf
-    same-shape = ap (λ (x : AckFields). shapeOf (unwindowed x)) h
+    own-shape = own ∙ ap (λ (x : AckFields). shapeOf (unwindowed x)) h
 
-    -- accepted by its verdict, so its fields are
-    pub fields-clear : (v : Verdict) → Judged (8 / groupMs (g .spacing)) (refusal g) (openOf g) v → v .no ≡ 0 → fieldsRefusal (unwindowed f) ≡ 0
-    fields-clear v j z =
-        ap (λ (x : AckFields). fieldsRefusal (unwindowed x)) h ∙ same-fields
-        ∙ in-range-passes g (accepted g (sym (j .number) ∙ z) .range)
+    spacing-is : f .spacing ≡ g .spacing
+    spacing-is = ap (λ (x : AckFields). x .spacing) h
+
+    pub ready : Fits s × Spaced (f .spacing) s
+    ready =
+        rw spacing-is
+        (shape-beside (fieldsRefusal g) (g .spacing) (shapeOf g) (g .windows) (sym fields-number ∙ z) s 1 1 own-shape (fits-in g in-range) (spaced-of g in-range))
+
+    pub plan-is : (r : UplinkPlan) → r ≡ planAnswer (refusalBeside (f .spacing) s (g .windows)) s (openBeside (f .spacing) s (g .windows)) → r ≡ planOf g
+    unfolding planOf refusal shapeOf
+    plan-is r h = h ∙ rw spacing-is (plan-beside (fieldsRefusal g) (g .spacing) (shapeOf g) (g .windows) (sym fields-number ∙ z) s 1 1 own-shape (sized-own g))
+
+    pub forward-is : (p : ℕ) (r : UplinkPlace)
+        → r ≡ forwardAnswer (refusalBeside (f .spacing) s (g .windows)) s (openBeside (f .spacing) s (g .windows)) p → r ≡ forwardOf g p
+    unfolding forwardOf refusal shapeOf
+    forward-is p r h = h ∙ rw spacing-is (forward-beside (fieldsRefusal g) (g .spacing) (shapeOf g) (g .windows) (sym fields-number ∙ z) s 1 1 own-shape p)
+
+    pub backward-is : (slot l k : ℕ) (r : Back)
+        → r ≡ backwardAnswer (refusalBeside (f .spacing) s (g .windows)) s (openBeside (f .spacing) s (g .windows)) slot l k → r ≡ backwardOf g slot l k
+    unfolding backwardOf refusal shapeOf
+    backward-is slot l k r h =
+        h ∙ rw spacing-is (backward-beside (fieldsRefusal g) (g .spacing) (shapeOf g) (g .windows) (sym fields-number ∙ z) s 1 1 own-shape slot l k)
 
 -- ---- fields with no window
 
 module _ (f : AckFields) where
   pub plain-refusal : fieldsRefusal (unwindowed f) ≡ refusal (unwindowed f)
   unfolding refusal
-  plain-refusal = first-alone (fieldsRefusal (unwindowed f)) (windowed (unwindowed f)) (none-refuses (f .spacing) _ _ none refl)
+  plain-refusal = first-alone (fieldsRefusal (unwindowed f)) (windowsNumber (unwindowed f)) (none-refuses (f .spacing) _ _ none refl)
 
   pub plain-open : (u : ℕ) → allOpen u ≡ openOf (unwindowed f) u
   plain-open u = none-closes (f .spacing) _ _ none refl u
+
+-- ---- a grant whose windows are none by their count: that of its fields
+
+module _ (g : AckGrant) (z : g .windows .count ≡ 0) where
+  abbrev plain : AckGrant
+  plain = unwindowed (fieldsOf g)
+
+  same-refusal : refusal plain ≡ refusal g
+  unfolding refusal fieldsRefusal
+  same-refusal =
+      ap (λ (n : ℕ). cond (eqb (fieldsRefusal g) 0) n (fieldsRefusal g))
+      (none-refuses (g .spacing) _ _ none refl ∙ sym (none-refuses (g .spacing) _ _ (g .windows) z))
+
+  each-open : (u : ℕ) → openOf plain u ≡ openOf g u
+  each-open u = sym (none-closes (g .spacing) _ _ none refl u) ∙ none-closes (g .spacing) _ _ (g .windows) z u
+
+  same-open : openOf plain ≡ openOf g
+  same-open i u = each-open u i
+
+  pub plan-uncounted : planOf plain ≡ planOf g
+  unfolding planOf shapeOf
+  plan-uncounted i = planAnswer (same-refusal i) (shapeOf g) (same-open i)
+
+  pub forward-uncounted : (p : ℕ) → forwardOf plain p ≡ forwardOf g p
+  unfolding forwardOf shapeOf
+  forward-uncounted p i = forwardAnswer (same-refusal i) (shapeOf g) (same-open i) p
+
+  pub backward-uncounted : (slot l k : ℕ) → backwardOf plain slot l k ≡ backwardOf g slot l k
+  unfolding backwardOf shapeOf
+  backward-uncounted slot l k i = backwardAnswer (same-refusal i) (shapeOf g) (same-open i) slot l k

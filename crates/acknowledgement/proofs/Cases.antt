@@ -6,11 +6,11 @@ use Prim.Native.Nat.{ℕ, _+_, _-_, _*_, _/_, _^_, _≤_, _<_}
 use native.Mathlib.Omega.{arith}
 use borrow.Author.Tests.{lt-ltb, le-ltb}
 use Rattle.counting.specs.Counting.{rank, next, select}
-use Rattle.slots.specs.Numerology.{firstAfter}
+use Rattle.numerology.specs.Numerology.{firstAfter}
 use Rattle.slots.specs.Timing.{inBlock, active, sentSlots, slotAt}
 use Rattle.slots.specs.Elements.{carriesData, slotData, elementAt}
 use Rattle.slots.specs.Answers.{refusedPlan, shapePlan, shapeForward, planAnswer, forwardAnswer}
-use Rattle.slots.proofs.Spacing.{first-wide}
+use Rattle.numerology.proofs.Spacing.{first-wide}
 use Rattle.slots.proofs.Judging.{plan-accepted, refused-plan-is}
 use Rattle.slots.proofs.Rounds.{slot-plain}
 use Rattle.windows.specs.Windows.{none, areListed, isClear, windowsRefusal}
@@ -19,7 +19,7 @@ use Rattle.acknowledgement.specs.declared.AckGrant.{AckGrant}
 use Rattle.acknowledgement.specs.Fields.{toneOf, delayOf}
 use Rattle.acknowledgement.specs.Refusals.{lastSubframe, fieldsRefusal, refusal}
 use Rattle.acknowledgement.specs.Shaping.{startOf, shapeOf, openOf}
-use Rattle.acknowledgement.specs.Quick.{fieldsOf}
+use Rattle.acknowledgement.specs.Unwindowed.{fieldsOf}
 use Rattle.acknowledgement.specs.Questions.{planOf, forwardOf}
 use Rattle.acknowledgement.specs.Cases.{grant, oneCopy, symbolsFrom, toneOfFirst, AckCases}
 use Rattle.acknowledgement.proofs.Accepting.{accepts, fits, plain-open}

@@ -15,8 +15,8 @@ abbrev pub aboveLargest : AckGrant → Bool
 aboveLargest g = ltb 1 (g .spacing) || (ltb 15 (g .field) || ltb 7 (g .copies))
 
 -- the random access windows' refusal on the grant's tone, 19 or 20, or 0
-abbrev pub windowed : AckGrant → ℕ
-windowed g = refusalOn (g .spacing) (toneOf (g .spacing) (g .field)) 1 (g .windows)
+abbrev pub windowsNumber : AckGrant → ℕ
+windowsNumber g = refusalOn (g .spacing) (toneOf (g .spacing) (g .field)) 1 (g .windows)
 
 -- the number of the fields, or 0
 unfoldable pub fieldsRefusal : AckGrant → ℕ
@@ -24,4 +24,4 @@ fieldsRefusal g = cond (ltb lastSubframe (g .n)) 9 (cond (aboveLargest g) 10 0)
 
 -- the number, or 0: the windows' after those of the fields
 unfoldable pub refusal : AckGrant → ℕ
-refusal g = cond (eqb (fieldsRefusal g) 0) (windowed g) (fieldsRefusal g)
+refusal g = cond (eqb (fieldsRefusal g) 0) (windowsNumber g) (fieldsRefusal g)

@@ -4,7 +4,7 @@ use Prim.Native.Nat.{ℕ, _+_, _-_}
 use Rattle.grid.specs.Grid.{uplinkSubcarriers}
 use Rattle.grid.specs.Tables.{entry, uplinkCopies}
 use Rattle.slots.specs.declared.Shape.{Shape}
-use Rattle.slots.specs.Numerology.{bySpacing, slotsIn, firstAfter, groupOf}
+use Rattle.numerology.specs.Numerology.{bySpacing, slotsIn, firstAfter, groupOf}
 use Rattle.windows.specs.Windows.{openTo}
 use Rattle.acknowledgement.specs.declared.AckGrant.{AckGrant}
 use Rattle.acknowledgement.specs.Fields.{toneOf, delayOf}

@@ -1,22 +1,19 @@
 // Acknowledgements on NPUSCH format 2: the grant's refusals, its shape, and the questions on it.
 ghost use mathlib.Core.Path.{_≡_};
-ghost use Prim.Native.Nat.{_≤_, _/_};
+ghost use Prim.Native.Nat.{_≤_};
 ghost use Rattle.acknowledgement.specs.Fields.{toneOf, delayOf};
-ghost use Rattle.acknowledgement.specs.Quick.{fieldsOf, unwindowed};
-ghost use Rattle.acknowledgement.specs.Refusals.{aboveLargest, fieldsRefusal, refusal};
-ghost use Rattle.slots.specs.Numerology.{groupMs};
-ghost use Rattle.windows.specs.Quick.{Judged};
-ghost use Rattle.acknowledgement.specs.Shaping.{startOf, referenceOf, shapeOf, openOf};
+ghost use Rattle.acknowledgement.specs.Unwindowed.{fieldsOf, unwindowed};
+ghost use Rattle.acknowledgement.specs.Refusals.{aboveLargest, fieldsRefusal};
+ghost use Rattle.acknowledgement.specs.Shaping.{startOf, referenceOf, shapeOf};
 ghost use Rattle.acknowledgement.specs.Questions.{planOf, forwardOf, backwardOf};
 use grid::UplinkGrid;
 use sending::Back;
 use slots::Shape;
 use slots::UplinkPlace;
 use slots::UplinkPlan;
-use windows::Verdict;
 use windows::Windows;
 
-// The NPDSCH that is answered ends in subframe n; the rest are fields, one of them the 4-bit field of tone and delay,
+// The NPDSCH that is acknowledged ends in subframe n; the rest are fields, one of them the 4-bit field of tone and delay,
 // and the random access windows that it has to keep clear of.
 pub struct AckGrant {
     pub n: u64,
@@ -76,23 +73,11 @@ fn judge_fields(f: AckFields) -> u64
     0
 }
 
-// The verdict on a grant: the fields' number, or the windows' verdict.
-fn judge(g: AckGrant) -> Verdict
-    ensures { λ r. ⌜ Judged (8 / groupMs (g .spacing)) (refusal g) (openOf g) r ⌝ }
-{
-    let spacing = g.spacing;
-    let no = judge_fields(fields_of(g));
-    if no != 0 {
-        return windows::unbarred(no);
-    }
-    windows::judge(spacing, tone(spacing, g.field), 1, g.windows)
-}
-
 // The tone that the field names.
 fn tone(spacing: u64, field: u64) -> u64
     ensures { λ r. ⌜ r ≡ toneOf spacing field ⌝ }
 {
-    slots::by_spacing(spacing, 38 + field % 8, field % 4)
+    numerology::by_spacing(spacing, 38 + field % 8, field % 4)
 }
 
 // The delay that it names, in subframes.
@@ -102,7 +87,7 @@ fn delay(spacing: u64, field: u64) -> u64
 {
     let narrow = NARROW_DELAYS[(field / 8) as usize];
     let wide = WIDE_DELAYS[(field / 4) as usize];
-    slots::by_spacing(spacing, narrow, wide)
+    numerology::by_spacing(spacing, narrow, wide)
 }
 
 // The first slot.
@@ -112,14 +97,14 @@ fn start(f: AckFields) -> u64
 {
     let n = f.n;
     let spacing = f.spacing;
-    slots::first_after(spacing, n + delay(spacing, f.field) - 1)
+    numerology::first_after(spacing, n + delay(spacing, f.field) - 1)
 }
 
 // The first reference symbol.
 fn reference(spacing: u64) -> u64
     ensures { λ r. ⌜ r ≡ referenceOf spacing ⌝ }
 {
-    slots::by_spacing(spacing, 0, 2)
+    numerology::by_spacing(spacing, 0, 2)
 }
 
 // The shape of accepted fields.
@@ -131,14 +116,14 @@ fn shape(f: AckFields) -> Shape
     Shape {
         first: start(f),
         subcarriers: UplinkGrid::subcarriers(spacing),
-        block: slots::block(spacing),
-        gap: slots::gap(spacing),
+        block: numerology::block(spacing),
+        gap: numerology::gap(spacing),
         tone: tone(spacing, f.field),
         tones: 1,
         codeword: 4,
         copies: grid::uplink_copies(f.copies),
         row: 1,
-        group: slots::group(spacing),
+        group: numerology::group(spacing),
         reference: reference(spacing),
         references: 3,
         size: 1,
@@ -150,11 +135,12 @@ fn shape(f: AckFields) -> Shape
 pub fn plan(g: AckGrant) -> UplinkPlan
     ensures { λ r. ⌜ r ≡ planOf g ⌝ }
 {
-    let v = judge(g);
-    if v.no != 0 {
-        return slots::refused_plan(v.no);
+    let f = fields_of(g);
+    let no = judge_fields(f);
+    if no != 0 {
+        return slots::refused_plan(no);
     }
-    slots::plan(shape(fields_of(g)), v.levels)
+    windowed::plan(f.spacing, shape(f), g.windows)
 }
 
 pub fn plain_plan(f: AckFields) -> UplinkPlan
@@ -171,13 +157,12 @@ pub fn plain_plan(f: AckFields) -> UplinkPlan
 pub fn forward(g: AckGrant, p: u64) -> UplinkPlace
     ensures { λ r. ⌜ r ≡ forwardOf g p ⌝ }
 {
-    let v = judge(g);
-    if v.no != 0 {
-        return slots::refused_place(v.no);
+    let f = fields_of(g);
+    let no = judge_fields(f);
+    if no != 0 {
+        return slots::refused_place(no);
     }
-    let s = shape(fields_of(g));
-    let at = slots::taken_apart(s, p);
-    slots::forward(s, p, at, slots::slot_at(s, v.levels, at.i))
+    windowed::forward(f.spacing, shape(f), g.windows, p)
 }
 
 pub fn plain_forward(f: AckFields, p: u64) -> UplinkPlace
@@ -196,12 +181,12 @@ pub fn plain_forward(f: AckFields, p: u64) -> UplinkPlace
 pub fn backward(g: AckGrant, slot: u64, l: u64, k: u64) -> Back
     ensures { λ r. ⌜ r ≡ backwardOf g slot l k ⌝ }
 {
-    let v = judge(g);
-    if v.no != 0 {
-        return sending::refused(v.no);
+    let f = fields_of(g);
+    let no = judge_fields(f);
+    if no != 0 {
+        return sending::refused(no);
     }
-    let s = shape(fields_of(g));
-    slots::backward(s, slot, slots::locate(s, v.levels, slot), l, k)
+    windowed::backward(f.spacing, shape(f), g.windows, slot, l, k)
 }
 
 pub fn plain_backward(f: AckFields, slot: u64, l: u64, k: u64) -> Back

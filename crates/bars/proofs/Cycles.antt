@@ -4,12 +4,11 @@ use mathlib.Core.Path.{_≡_, refl, sym, ap, _∙_}
 use Prim.Native.Nat.{ℕ, _+_, _-_, _*_, _/_, _≤_, _<_}
 use native.Mathlib.Nat.{div-mul-le-self, mod-lt, mod-eq-sub-div-mul, mul-le-mul-left}
 use native.Mathlib.Omega.{arith}
-use Rattle.counting.specs.Counting.{rank, select, Nth}
+use Rattle.counting.specs.Counting.{rank, select}
 use Rattle.counting.proofs.Rank.{rank-le, rank-not, rank-mono, rank-strict}
 use Rattle.counting.proofs.Select.{nth-of}
 use Rattle.counting.proofs.Period.{rank-period, rank-periods, repeats-times, is-select}
 use Rattle.bars.specs.declared.Sight.{Sight}
-use Rattle.bars.specs.declared.Standing.{Standing}
 use Rattle.bars.specs.declared.Cycle.{Cycle}
 use Rattle.bars.specs.Quick.{Repeats, Scanned, Stands}
 

@@ -1,9 +1,9 @@
 -- Counting bar over bar: where N counts what the bars below leave, the next level counts what its bar leaves of that; and back from a count to its number.
 use mathlib.Core.Bool.{Bool, true, false, not, cond, _&&_}
-use mathlib.Core.Path.{_≡_, refl, sym, ap, ap₂, subst, _∙_}
+use mathlib.Core.Path.{_≡_, refl, sym, ap, ap₂, _∙_}
 use mathlib.Core.Logic.{⊎-elim}
 use Prim.Native.Nat.{ℕ, zero, suc, _+_, _-_, _*_, _/_, _%_, max, _^_, _≤_, _<_}
-use native.Mathlib.Nat.{zero-add, add-zero, one-mul, add-mul, mod-lt, div-add-mod', add-mul-mod-self-right, mod-self}
+use native.Mathlib.Nat.{one-mul, add-mul, mod-lt, div-add-mod', add-mul-mod-self-right, mod-self}
 use native.Mathlib.Numerals.{add-one}
 use native.Mathlib.Omega.{arith}
 use lib.Dec.{eqb, ltb, lit<}
@@ -11,9 +11,8 @@ use lib.Arith.{digits-div, digits-mod}
 use borrow.Author.Tests.{lt-ltb, le-ltb, eq-eqb, ne-eqb}
 use mir.Val.{boolByte}
 use Rattle.counting.specs.Counting.{rank}
-use Rattle.counting.proofs.Facts.{order, truth, both, both-parts, not-true-is}
-use Rattle.counting.proofs.Range.{and-none}
-use Rattle.counting.proofs.Rank.{rank-zero, rank-on, rank-yes, rank-no, rank-mono, rank-strict, rank-not}
+use Rattle.counting.proofs.Facts.{order, truth, both-parts}
+use Rattle.counting.proofs.Rank.{rank-zero, rank-yes, rank-no, rank-mono, rank-strict, rank-not}
 use Rattle.counting.proofs.Period.{repeats-times}
 use Rattle.bars.specs.declared.Bar.{Bar}
 use Rattle.bars.specs.declared.Bars.{Bars}
@@ -22,7 +21,7 @@ use Rattle.bars.specs.declared.Levels.{Levels}
 use Rattle.bars.specs.declared.Mark.{Mark}
 use Rattle.bars.specs.declared.Goal.{Goal}
 use Rattle.bars.specs.Bars.{shut, leaves, clear, idle}
-use Rattle.bars.specs.Quick.{raised, Counts, Slow, Over, Ranged, Sorted, Stacked, first, second, third, beforeOf, passOf, liftOf, Lifts, Reached}
+use Rattle.bars.specs.Quick.{raised, Counts, Slow, Over, Ranged, Sorted, Stacked, first, second, third, beforeOf, passOf, liftOf, Lifts}
 
 -- ---- a count and ranks
 
@@ -520,11 +519,3 @@ module _ (ls : Levels) (st : Stacked ls) where
                 lifted3 .moved,
                 lifted4 .moved,
               )
-
--- the count goes up where something passes
-pub some-counted : (u : ℕ → Bool) (N : ℕ → ℕ) → Counts u N → (n a b : ℕ) → a ≡ N 0 → b ≡ N n → ltb a b ≡ ltb 0 (rank u n)
-some-counted u N k n a b ha hb =
-    ⊎-elim
-    (λ (h : a < b). lt-ltb a b h ∙ sym (lt-ltb 0 (rank u n) (omega (arith, counted u N k n))))
-    (λ (h : b ≤ a). le-ltb a b h ∙ sym (le-ltb 0 (rank u n) (omega (arith, counted u N k n))))
-    (order a b)

@@ -1,14 +1,11 @@
 -- A period of the fifth bar from where it is open: first all that is clear is free, then nothing is.
-use mathlib.Core.Bool.{Bool, true, false, not, _&&_}
+use mathlib.Core.Bool.{Bool, true, false}
 use mathlib.Core.Path.{_≡_, refl, sym, ap, _∙_}
-use mathlib.Core.Logic.{⊎-elim}
 use Prim.Native.Nat.{ℕ, _+_, _-_, _%_, min, _^_, _≤_, _<_}
 use native.Mathlib.Nat.{mod-lt, mod-eq-of-lt, mod-add-mod, add-mod-right}
 use native.Mathlib.Omega.{arith}
-use lib.Dec.{ltb}
 use borrow.Author.Tests.{lt-ltb, le-ltb}
 use Rattle.counting.specs.Counting.{rank, count, select, Nth}
-use Rattle.counting.proofs.Facts.{order, both}
 use Rattle.counting.proofs.Rank.{rank-count, count-same, rank-none, rank-later}
 use Rattle.counting.proofs.Select.{select-within, nth-of}
 use Rattle.bars.specs.declared.Bar.{Bar}

@@ -4,7 +4,7 @@ use mathlib.Core.Bool.{Bool, true, false, not, _&&_}
 use mathlib.Core.Path.{_≡_, refl, sym, ap, ap₂, _∙_}
 use mathlib.Core.Logic.{⊎-elim}
 use Prim.Native.Nat.{ℕ, zero, suc, _+_, _-_, _*_, _/_, _%_, _≤_, _<_}
-use native.Mathlib.Nat.{zero-add, zero-mul, mul-zero, mul-one, add-mul, mul-add, one-mul, mul-assoc, mul-comm, mod-lt, add-mul-div-right, mul-le-mul-right}
+use native.Mathlib.Nat.{zero-add, zero-mul, mul-zero, mul-one, add-mul, mul-add, one-mul, mul-assoc, mod-lt, add-mul-div-right, mul-le-mul-right}
 use native.Mathlib.Numerals.{add-one}
 use native.Mathlib.Omega.{arith}
 use lib.Dec.{ltb}
@@ -13,7 +13,7 @@ use borrow.Author.Tests.{lt-ltb, le-ltb}
 use mir.Val.{boolByte}
 use Rattle.counting.specs.Counting.{rank, count}
 use Rattle.counting.proofs.Facts.{order, truth}
-use Rattle.counting.proofs.Rank.{rank-zero, rank-suc, rank-count, count-split, rank-none, rank-same, count-from-zero}
+use Rattle.counting.proofs.Rank.{rank-zero, rank-suc, rank-count, rank-none, rank-same}
 use Rattle.counting.proofs.Range.{and-none}
 use Rattle.counting.proofs.Period.{repeats-times}
 use Rattle.bars.specs.declared.Bar.{Bar}

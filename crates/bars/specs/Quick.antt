@@ -138,11 +138,12 @@ pub record Stacked (ls : Levels) : Type 0 where
   pub o3 : 0 < ls .bars .b3 .closed → Over (ls .bars .b3) (second ls) (ls .c3)
   pub o4 : 0 < ls .bars .b4 .closed → Over (ls .bars .b4) (third ls) (ls .c4)
 
--- levels over bars: they close the same numbers, and the longest period is one of theirs
+-- levels over bars: they close the same numbers, the longest period is one of theirs, and its clear numbers are counted
 pub record LevelsOf (b : Bars) (ls : Levels) : Type 0 where
   pub stacked : Stacked ls
   pub same : (t : ℕ) → clear (ls .bars) t ≡ clear b t
   pub longest : OneOfTheirs b (ls .bars .b4 .period)
+  pub counted : ls .clear ≡ rank (clear (ls .bars)) (ls .bars .b4 .period)
 
 -- one bar on the way down to the first: what it counts, and where N goes on
 unfoldable pub passOf : Bar → Count → Mark → Mark

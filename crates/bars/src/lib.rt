@@ -2,7 +2,6 @@
 // beside a fifth, whose period fits none of theirs, the search goes by its periods, whole cycles by division.
 ghost use mathlib.Core.Bool.{true};
 ghost use mathlib.Core.Path.{_≡_};
-ghost use lib.Dec.{ltb};
 ghost use Prim.Native.Nat.{ℕ, _+_, _-_, _*_, _/_, _%_, min, max, _^_, _<_, _≤_};
 ghost use Rattle.counting.specs.Counting.{rank, select};
 ghost use Rattle.bars.specs.Bars.{leaves, clear, isFree, idle, noBars};
@@ -31,13 +30,14 @@ pub struct Count {
     pub least: u64,
 }
 
-// Bars by their periods, each of which divides the next one's, and their counts.
+// Bars by their periods, each of which divides the next one's, and their counts; and how many numbers of the longest period are clear.
 pub struct Levels {
     pub bars: Bars,
     pub c1: Count,
     pub c2: Count,
     pub c3: Count,
     pub c4: Count,
+    pub clear: u64,
 }
 
 // On the way down through the levels: a number, and what was counted.
@@ -80,7 +80,7 @@ pub struct Standing {
 }
 
 // A bar that closes nothing.
-pub fn idle() -> Bar
+fn idle() -> Bar
     ensures { λ r. ⌜ r ≡ idle ⌝ }
 {
     Bar {
@@ -90,7 +90,7 @@ pub fn idle() -> Bar
     }
 }
 
-pub fn none() -> Bars
+fn none() -> Bars
     ensures { λ r. ⌜ r ≡ noBars ⌝ }
 {
     Bars {
@@ -241,6 +241,15 @@ fn level(b: Bar, below: Levels) -> Count
     }
 }
 
+// How many numbers of the longest period are clear.
+fn in_longest(ls: Levels) -> u64
+    requires { ⌜ Stacked ls ⌝ }
+    ensures { λ r. ⌜ r ≡ rank (clear (ls .bars)) (ls .bars .b4 .period) ⌝ }
+{
+    let longest = ls.bars.b4.period;
+    before(ls, longest) - before(ls, 0)
+}
+
 // Bars in order, with their counts.
 fn stack(b: Bars) -> Levels
     requires { ⌜ Sorted b ⌝ }
@@ -259,6 +268,7 @@ fn stack(b: Bars) -> Levels
             c2: zero,
             c3: zero,
             c4: zero,
+            clear: 0,
         },
     );
     let c2 = level(
@@ -274,6 +284,7 @@ fn stack(b: Bars) -> Levels
             c2: zero,
             c3: zero,
             c4: zero,
+            clear: 0,
         },
     );
     let c3 = level(
@@ -289,6 +300,7 @@ fn stack(b: Bars) -> Levels
             c2,
             c3: zero,
             c4: zero,
+            clear: 0,
         },
     );
     let c4 = level(
@@ -304,6 +316,7 @@ fn stack(b: Bars) -> Levels
             c2,
             c3,
             c4: zero,
+            clear: 0,
         },
     );
     Levels {
@@ -312,20 +325,7 @@ fn stack(b: Bars) -> Levels
         c2,
         c3,
         c4,
-    }
-}
-
-// Levels of bars that close nothing.
-pub fn no_levels() -> Levels
-    ensures { λ r. ⌜ Stacked r × (r .bars ≡ noBars) ⌝ }
-{
-    let zero = no_count();
-    Levels {
-        bars: none(),
-        c1: zero,
-        c2: zero,
-        c3: zero,
-        c4: zero,
+        clear: 0,
     }
 }
 
@@ -334,15 +334,10 @@ pub fn levels_of(b: Bars) -> Levels
     requires { ⌜ AllUsable b × Chained b ⌝ }
     ensures { λ r. ⌜ LevelsOf b r ⌝ }
 {
-    stack(ordered(b))
-}
-
-// Some number is clear: some before the end of a cycle.
-pub fn is_some(ls: Levels, cycle: u64) -> bool
-    requires { ⌜ Stacked ls × (cycle < 2 ^ 48) ⌝ }
-    ensures { λ r. ⌜ r ≡ ltb 0 (rank (clear (ls .bars)) cycle) ⌝ }
-{
-    before(ls, 0) < before(ls, cycle)
+    let mut ls = stack(ordered(b));
+    let clear = in_longest(ls);
+    ls.clear = clear;
+    ls
 }
 
 // One bar on the way to a number that is looked for: whole periods by division.
@@ -454,15 +449,6 @@ fn count_free(gap: Bar, ls: Levels, t: u64, n: u64) -> u64
     ensures { λ r. ⌜ (rank (isFree gap (ls .bars)) t + r ≡ rank (isFree gap (ls .bars)) (t + n)) × (r ≤ n) ⌝ }
 {
     n - scan(gap, ls, t, n, n).left
-}
-
-// How many numbers of the longest period are clear.
-pub fn clear_in_longest(ls: Levels) -> u64
-    requires { ⌜ Stacked ls ⌝ }
-    ensures { λ r. ⌜ (r ≡ rank (clear (ls .bars)) (ls .bars .b4 .period)) × (r ≤ ls .bars .b4 .period) ⌝ }
-{
-    let longest = ls.bars.b4.period;
-    before(ls, longest) - before(ls, 0)
 }
 
 // The j-th free number from t on, counted from 0.

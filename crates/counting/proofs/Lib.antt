@@ -5,4 +5,5 @@ pub mod Rows
 pub mod Select
 pub mod Period
 pub mod Ones
+pub mod Powers
 mod Fours

@@ -1,6 +1,6 @@
 -- The ones of a mask are the numbers of a span that pass.
 use mathlib.Core.Bool.{Bool, true, false, _&&_}
-use mathlib.Core.Path.{_≡_, refl, sym, ap, ap₂, _∙_}
+use mathlib.Core.Path.{_≡_, refl, sym, ap, _∙_}
 use mathlib.Core.Logic.{_⊎_, inl, inr, ⊎-elim}
 use Prim.Native.Nat.{ℕ, zero, suc, _+_, _-_, _*_, _/_, _%_, _^_, _≤_, _<_}
 use native.Mathlib.Nat.{add-zero, add-comm, zero-add, mod-lt, mod-eq-of-lt, mod-one, div-one, div-eq-of-lt, div-div-eq-div-mul, div-add-mod', pow-succ'}
@@ -12,11 +12,10 @@ use lib.Count.{ones, ones-step, ones-cat}
 use lib.Arith.{digits-lt}
 use lib.Pow.{mod-pow-add, mod-mod-pow, shr-shr, field, low, high, pow-mono, pow-add, pow-pos}
 use mir.Val.{boolByte}
-use borrow.Author.Tests.{eq-eqb}
 use Rattle.counting.specs.Counting.{rank, count}
 use Rattle.counting.specs.Bits.{bitAt, NthOne}
 use Rattle.counting.proofs.Facts.{order}
-use Rattle.counting.proofs.Rank.{rank-count, rank-on, rank-suc, count-same, count-from-zero}
+use Rattle.counting.proofs.Rank.{rank-count, rank-suc, count-same, count-from-zero}
 
 byte-digit : (d : ℕ) → d < 2 → boolByte (eqb d 1) ≡ d
 byte-digit zero h = refl

@@ -1,14 +1,14 @@
 -- A test that repeats with a period of p numbers: a period adds a constant, and where one number passes, the j-th exists for every j.
-use mathlib.Core.Bool.{Bool, true, false}
-use mathlib.Core.Path.{_≡_, refl, sym, ap, _∙_}
+use mathlib.Core.Bool.{Bool, true}
+use mathlib.Core.Path.{_≡_, sym, ap, _∙_}
 use mathlib.Core.Logic.{⊎-elim}
 use Prim.Native.Nat.{ℕ, zero, suc, _+_, _-_, _*_, _/_, _%_, _≤_, _<_}
 use native.Mathlib.Nat.{add-zero, suc-add, zero-add, add-assoc, mod-lt, mod-add-div', zero-mul, suc-mul, mul-le-mul-left, sub-zero}
 use native.Mathlib.Omega.{arith}
 use mir.Val.{boolByte}
 use Rattle.counting.specs.Counting.{rank, count, next, select, amongFirst, Nth, Lists}
-use Rattle.counting.proofs.Facts.{order, byte-some}
-use Rattle.counting.proofs.Rank.{rank-zero, rank-suc, rank-on, rank-yes, rank-count, rank-strict, rank-later, count-between, count-from-zero}
+use Rattle.counting.proofs.Facts.{order}
+use Rattle.counting.proofs.Rank.{rank-zero, rank-suc, rank-yes, rank-count, rank-strict, rank-later, count-between, count-from-zero}
 use Rattle.counting.proofs.Select.{nth-of, nth-unique, next-is, among, among-parts, choice-rank}
 
 module _ (u : ℕ → Bool) (p : ℕ) (repeats : (t : ℕ) → u (t + p) ≡ u t) where

@@ -10,7 +10,7 @@ use mir.Val.{boolByte}
 use borrow.Author.Tests.{le-leb, lt-ltb, leb-true, ltb-true}
 use Rattle.counting.specs.Counting.{rank, count, next, select, amongFirst, Nth, Lists}
 use Rattle.counting.proofs.Facts.{order, byte-some, both, both-parts}
-use Rattle.counting.proofs.Rank.{rank-zero, rank-suc, rank-on, rank-yes, rank-no, rank-mono, rank-strict, rank-later, rank-unique, rank-none, count-from-zero}
+use Rattle.counting.proofs.Rank.{rank-zero, rank-on, rank-yes, rank-no, rank-mono, rank-strict, rank-later, rank-unique, rank-none, count-from-zero}
 
 module _ (u : ℕ → Bool) where
   -- it passes, and has j more before it than f has: then it lies from f on

@@ -1,7 +1,7 @@
 -- The binary digits of a number, the lowest first.
-use mathlib.Core.Bool.{Bool, true}
+use mathlib.Core.Bool.{Bool, true, false, _||_}
 use mathlib.Core.Path.{_≡_}
-use Prim.Native.Nat.{ℕ, _/_, _%_, _^_}
+use Prim.Native.Nat.{ℕ, zero, suc, _/_, _%_, _^_}
 use lib.Dec.{eqb}
 use Rattle.counting.specs.Counting.{rank}
 
@@ -13,3 +13,8 @@ bitAt m i = eqb (m / 2 ^ i % 2) 1
 pub record NthOne (m k r : ℕ) : Type 0 where
   pub set : bitAt m r ≡ true
   pub before : rank (bitAt m) r ≡ k
+
+-- x is one of 2^0 to 2^(n - 1)
+abbrev pub powerBelow : ℕ → ℕ → Bool
+powerBelow zero x = false
+powerBelow (suc n) x = eqb x (2 ^ n) || powerBelow n x

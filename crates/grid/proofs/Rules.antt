@@ -1,18 +1,15 @@
 -- The rules of the tables, each by one computed test.
-use mathlib.Core.Bool.{Bool, true, false, cond, _&&_, _||_}
-use mathlib.Core.List.{List, [], _∷_}
-use mathlib.Core.Path.{_≡_, refl, sym, ap, _∙_}
-use mathlib.Core.Logic.{⊎-elim}
-use Prim.Native.Nat.{ℕ, zero, suc, _+_, _*_, _/_, _%_, _^_, _≤_, _<_}
-use native.Mathlib.Nat.{pow-succ'}
+use mathlib.Core.Bool.{Bool, true, false, cond, _&&_}
+use mathlib.Core.List.{List}
+use mathlib.Core.Path.{_≡_, refl}
+use Prim.Native.Nat.{ℕ, _+_, _/_, _%_, _≤_, _<_}
 use native.Mathlib.Omega.{arith}
 use lib.Count.{ones}
 use lib.Dec.{T, leb, ltb, eqb, leb→le, eqb→eq}
-use lib.ListN.{getD}
-use lib.Pow.{pow-mono, pow-pos}
-use borrow.Author.Tests.{le-leb, lt-leb, ne-eqb, ltb-true, eqb-true}
-use Rattle.counting.proofs.Facts.{order, each, each-at, alike, alike-eq, either-case}
-use Rattle.grid.specs.Tables.{entry, lengths, downlinkCopies, shortDelays, longDelays, downlinkDelay, uplinkCopies, uplinkDelays, singleToneRows, powerBelow, isRepetition, upToFour}
+use borrow.Author.Tests.{ltb-true}
+use Rattle.counting.proofs.Facts.{each, each-at}
+use Rattle.counting.proofs.Powers.{one-digit-below, power-bounds}
+use Rattle.grid.specs.Tables.{entry, lengths, downlinkCopies, shortDelays, longDelays, downlinkDelay, uplinkCopies, uplinkDelays, singleToneRows, isRepetition, upToFour}
 
 -- a test that holds at each field of a row holds at any field below its length
 row-at : (row : List ℕ) (n : ℕ) (f : ℕ → Bool) → T (each n (λ k. f (entry row k))) → (k : ℕ) → k < n → T (f (entry row k))
@@ -90,39 +87,10 @@ row-pos R h = by (ltb R 4)
 
 -- ---- powers of two
 
-no-power : (n x : ℕ) → 2 ^ n < 2 * x → powerBelow n x ≡ false
-no-power zero x h = refl
-no-power (suc n) x h = rw (ne-eqb x (2 ^ n) (λ e. omega (arith, pow-succ' 2 n)), no-power n x (omega (arith, pow-succ' 2 n))) refl
-
--- up to 2048, a number with one digit set is a power of two
-one-digit-table : T (each 2049 (λ x. alike (eqb (ones x) 1) (powerBelow 12 x)))
-unfolding ones
-one-digit-table = tt
-
 pub one-digit : (x : ℕ) → (leb x 2048 && eqb (ones x) 1) ≡ isRepetition x
 unfolding isRepetition
-one-digit x = ⊎-elim above below (order 2048 x)
-  where
-    above : 2048 < x → (leb x 2048 && eqb (ones x) 1) ≡ powerBelow 12 x
-    above h = rw (lt-leb x 2048 h) (sym (no-power 12 x (omega arith)))
-
-    below : x ≤ 2048 → (leb x 2048 && eqb (ones x) 1) ≡ powerBelow 12 x
-    below h = rw (le-leb x 2048 h) (alike-eq (eqb (ones x) 1) (powerBelow 12 x) (each-at 2049 (λ x. alike (eqb (ones x) 1) (powerBelow 12 x)) one-digit-table x (omega arith)))
-
-power-bounds : (n x : ℕ) → powerBelow n x ≡ true → (1 ≤ x) × (2 * x ≤ 2 ^ n)
-power-bounds zero x h = let z : _≡_ {A = ℕ} 0 1 = cc in absurd (omega arith)
-power-bounds (suc n) x h =
-    ⊎-elim
-    (λ e.
-    let f = eqb-true x (2 ^ n) e in
-    (omega (arith, pow-pos n), omega (arith, pow-succ' 2 n)))
-    (λ r.
-    let b = power-bounds n x r in
-    (b .0, omega (arith, b .1, pow-succ' 2 n)))
-    (either-case (eqb x (2 ^ n)) (powerBelow n x) h)
+one-digit x = one-digit-below x
 
 pub repetition-bounds : (x : ℕ) → isRepetition x ≡ true → (1 ≤ x) × (x ≤ 2048)
 unfolding isRepetition
-repetition-bounds x h =
-    let b = power-bounds 12 x h in
-    (b .0, omega (arith, b .1))
+repetition-bounds x h = let b = power-bounds 12 x h in (b .0, omega (arith, b .1))

@@ -1,9 +1,10 @@
 -- The constant tables of 01: TS 36.213 clauses 16.4.1 and 16.5.1.
-use mathlib.Core.Bool.{Bool, false, cond, _||_}
+use mathlib.Core.Bool.{Bool, cond}
 use mathlib.Core.List.{List, [], _∷_}
-use Prim.Native.Nat.{ℕ, zero, suc, _^_}
-use lib.Dec.{eqb, ltb}
+use Prim.Native.Nat.{ℕ}
+use lib.Dec.{ltb}
 use lib.ListN.{getD}
+use Rattle.counting.specs.Bits.{powerBelow}
 
 -- entry k of a row; 0 past its end
 abbrev pub entry : List ℕ → ℕ → ℕ
@@ -58,11 +59,6 @@ singleToneOrders = 1 ∷ 1 ∷ 2 ∷ 2 ∷ 2 ∷ []
 -- how often a unit goes out in a row, at the most four times (TS 36.211 clauses 10.1.3.6 and 10.2.3.4): min(x, 4)
 abbrev pub upToFour : ℕ → ℕ
 upToFour x = cond (ltb x 4) x 4
-
--- x is one of 2^0 to 2^(n - 1)
-abbrev pub powerBelow : ℕ → ℕ → Bool
-powerBelow zero x = false
-powerBelow (suc n) x = eqb x (2 ^ n) || powerBelow n x
 
 -- a power of two, 1 to 2048: Rmax, and the copies of an NPDCCH
 unfoldable pub isRepetition : ℕ → Bool

@@ -3,9 +3,9 @@ ghost use mathlib.Core.Path.{_≡_};
 ghost use Rattle.cell.specs.Judge.{judgeOf, inForceOf, causeOf};
 ghost use Rattle.subframes.specs.Cells.{elementCountOf};
 ghost use Rattle.uplink.specs.Questions as up;
-ghost use Rattle.uplink.specs.Quick as fields;
+ghost use Rattle.uplink.specs.Unwindowed as fields;
 ghost use Rattle.acknowledgement.specs.Questions as ack;
-ghost use Rattle.acknowledgement.specs.Quick as ack-fields;
+ghost use Rattle.acknowledgement.specs.Unwindowed as ack-fields;
 ghost use Rattle.downlink.specs.Questions as down;
 ghost use Rattle.control.specs.Questions as control;
 use acknowledgement::AckFields;
@@ -186,8 +186,8 @@ pub fn plain_backward_ack(f: AckFields, slot: u64, l: u64, k: u64) -> Back
 }
 
 // One step of a walk, the caller's record moved in place; and the same of a record by value.
-pub use walk::step;
-pub use walk::step_value;
+pub use inplace::step;
+pub use inplace::step_value;
 
 // The numbers of one transmitted subframe of an NPDSCH on one port, and what goes out at one of its elements.
 pub use fill::element;

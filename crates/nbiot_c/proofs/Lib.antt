@@ -1,4 +1,1 @@
-mod Replies
-mod Walked
 pub mod Bitmap
-pub mod Unwindowed

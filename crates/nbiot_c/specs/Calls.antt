@@ -17,7 +17,7 @@ use Rattle.symbol.specs.Outgoing.{numbersOf}
 use Rattle.fill.specs.Refusals.{fillRefusal}
 use Rattle.fill.specs.Fill.{outputOf}
 use Rattle.fill.specs.Element.{elementAnswer}
-use Rattle.nbiot_c.specs.Buffers.{cellOf, upGrantOf, ackGrantOf, downGrantOf, controlGrantOf, upPlanNumbers, downPlanNumbers, upPlaceNumbers, downPlaceNumbers, backNumbers, downBackNumbers, causeNumbers, countNumbers, upWalkOf, ackWalkOf, downWalkOf, controlWalkOf, lacks, windowsShort, tooShort, Reply, replyOf, StepReply, stepReplyOf, FillReply, fillReplyOf, ElementReply, elementReplyOf}
+use Rattle.buffers.specs.Buffers.{cellOf, upGrantOf, ackGrantOf, downGrantOf, controlGrantOf, upPlanNumbers, downPlanNumbers, upPlaceNumbers, downPlaceNumbers, backNumbers, downBackNumbers, causeNumbers, countNumbers, upWalkOf, ackWalkOf, downWalkOf, controlWalkOf, lacks, windowsShort, tooShort, Reply, replyOf, StepReply, stepReplyOf, FillReply, fillReplyOf, ElementReply, elementReplyOf}
 
 unfoldable pub judge : List ℕ → List ℕ → List ℕ → ℕ
 judge cell anchor other = cond (lacks 8 cell) tooShort (judgeOf (cellOf cell) anchor other)

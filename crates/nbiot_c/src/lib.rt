@@ -3,10 +3,6 @@
 ghost use mathlib.Core.Path.{_≡_};
 ghost use Rattle.nbiot_c.specs.Calls as calls;
 
-mod answers;
-mod asked;
-mod buffers;
-
 const TOO_SHORT: u64 = 255;
 
 // Judge a cell: the refusal number, or 0.
@@ -82,7 +78,10 @@ pub extern "C" fn nbiot_plan_up(grant: &[u64], windows: &[u64], answer: &mut [u6
     if buffers::short_up(7, 7, grant.len(), answer.len(), windows) {
         return TOO_SHORT;
     }
-    answers::plan_up(grant, windows, answer)
+    if buffers::no_window(windows) {
+        return lent::plain_plan_up(grant, answer);
+    }
+    lent::plan_up(grant, windows, answer)
 }
 
 // First and last slot, copies, places, size and order.
@@ -93,7 +92,10 @@ pub extern "C" fn nbiot_plan_ack(grant: &[u64], windows: &[u64], answer: &mut [u
     if buffers::short_up(4, 7, grant.len(), answer.len(), windows) {
         return TOO_SHORT;
     }
-    answers::plan_ack(grant, windows, answer)
+    if buffers::no_window(windows) {
+        return lent::plain_plan_ack(grant, answer);
+    }
+    lent::plan_ack(grant, windows, answer)
 }
 
 // First and last subframe, copies and places.
@@ -110,7 +112,7 @@ pub extern "C" fn nbiot_plan_down(
     if buffers::short3(8, 5, 5, cell.len(), grant.len(), answer.len()) {
         return TOO_SHORT;
     }
-    answers::plan_down(cell, anchor, other, grant, answer)
+    lent::plan_down(cell, anchor, other, grant, answer)
 }
 
 // First and last subframe, copies and places.
@@ -127,7 +129,7 @@ pub extern "C" fn nbiot_plan_control(
     if buffers::short3(8, 4, 5, cell.len(), grant.len(), answer.len()) {
         return TOO_SHORT;
     }
-    answers::plan_control(cell, anchor, other, grant, answer)
+    lent::plan_control(cell, anchor, other, grant, answer)
 }
 
 // The place of position p, and the symbol there.
@@ -143,7 +145,10 @@ pub extern "C" fn nbiot_forward_up(
     if buffers::short_up(7, 5, grant.len(), answer.len(), windows) {
         return TOO_SHORT;
     }
-    answers::place_up(grant, windows, p, answer)
+    if buffers::no_window(windows) {
+        return lent::plain_place_up(grant, p, answer);
+    }
+    lent::place_up(grant, windows, p, answer)
 }
 
 // The place of position p, and the symbol there.
@@ -159,7 +164,10 @@ pub extern "C" fn nbiot_forward_ack(
     if buffers::short_up(4, 5, grant.len(), answer.len(), windows) {
         return TOO_SHORT;
     }
-    answers::place_ack(grant, windows, p, answer)
+    if buffers::no_window(windows) {
+        return lent::plain_place_ack(grant, p, answer);
+    }
+    lent::place_ack(grant, windows, p, answer)
 }
 
 // The place of position p, and the symbol there.
@@ -177,7 +185,7 @@ pub extern "C" fn nbiot_forward_down(
     if buffers::short3(8, 5, 6, cell.len(), grant.len(), answer.len()) {
         return TOO_SHORT;
     }
-    answers::place_down(cell, anchor, other, grant, p, answer)
+    lent::place_down(cell, anchor, other, grant, p, answer)
 }
 
 // The place of position p, and the symbol there.
@@ -195,7 +203,7 @@ pub extern "C" fn nbiot_forward_control(
     if buffers::short3(8, 4, 6, cell.len(), grant.len(), answer.len()) {
         return TOO_SHORT;
     }
-    answers::place_control(cell, anchor, other, grant, p, answer)
+    lent::place_control(cell, anchor, other, grant, p, answer)
 }
 
 // What stands at symbol l and subcarrier k of a slot.
@@ -326,12 +334,12 @@ pub extern "C" fn nbiot_step_up(walk: &mut [u64], windows: &[u64], answer: &mut 
     if buffers::short_up(8, 7, walk.len(), answer.len(), windows) {
         return TOO_SHORT;
     }
-    let no = answers::walked_up(walk, windows, answer);
+    let no = lent::walked_up(walk, windows, answer);
     if no == 0 {
-        return answers::moved(walk);
+        return lent::moved(walk);
     }
-    let end = answers::ended_up(walk, windows, answer);
-    answers::stopped(no, end, answer)
+    let end = lent::ended_up(walk, windows, answer);
+    lent::stopped(no, end, answer)
 }
 
 // One step of a walk: the answer at its position, which moves on.
@@ -342,12 +350,12 @@ pub extern "C" fn nbiot_step_ack(walk: &mut [u64], windows: &[u64], answer: &mut
     if buffers::short_up(5, 7, walk.len(), answer.len(), windows) {
         return TOO_SHORT;
     }
-    let no = answers::walked_ack(walk, windows, answer);
+    let no = lent::walked_ack(walk, windows, answer);
     if no == 0 {
-        return answers::moved(walk);
+        return lent::moved(walk);
     }
-    let end = answers::ended_ack(walk, windows, answer);
-    answers::stopped(no, end, answer)
+    let end = lent::ended_ack(walk, windows, answer);
+    lent::stopped(no, end, answer)
 }
 
 // One step of a walk: the answer at its position, which moves on.
@@ -363,12 +371,12 @@ pub extern "C" fn nbiot_step_down(
     if buffers::short2(14, 7, walk.len(), answer.len()) {
         return TOO_SHORT;
     }
-    let no = answers::walked_down(walk, anchor, other, answer);
+    let no = lent::walked_down(walk, anchor, other, answer);
     if no == 0 {
-        return answers::moved(walk);
+        return lent::moved(walk);
     }
-    let end = answers::ended_down(walk, anchor, other, answer);
-    answers::stopped(no, end, answer)
+    let end = lent::ended_down(walk, anchor, other, answer);
+    lent::stopped(no, end, answer)
 }
 
 // One step of a walk: the answer at its position, which moves on.
@@ -384,12 +392,12 @@ pub extern "C" fn nbiot_step_control(
     if buffers::short2(13, 7, walk.len(), answer.len()) {
         return TOO_SHORT;
     }
-    let no = answers::walked_control(walk, anchor, other, answer);
+    let no = lent::walked_control(walk, anchor, other, answer);
     if no == 0 {
-        return answers::moved(walk);
+        return lent::moved(walk);
     }
-    let end = answers::ended_control(walk, anchor, other, answer);
-    answers::stopped(no, end, answer)
+    let end = lent::ended_control(walk, anchor, other, answer);
+    lent::stopped(no, end, answer)
 }
 
 // The 336 numbers of transmitted subframe i.

@@ -1,8 +1,8 @@
 -- P1 to P11 and the cases of L1 hold.
-use mathlib.Core.Bool.{Bool, true, false, cond, not}
+use mathlib.Core.Bool.{Bool, true, false, cond}
 use mathlib.Core.List.{List, [], _∷_, map}
-use mathlib.Core.Path.{_≡_, refl, sym, ap, ap₂, _∙_}
-use Prim.Native.Nat.{ℕ, _*_, _%_, _<_}
+use mathlib.Core.Path.{_≡_, refl, ap, ap₂, _∙_}
+use Prim.Native.Nat.{ℕ, _*_, _%_}
 use native.Mathlib.Omega.{arith}
 use lib.Dec.{T, eqb, ltb, eqb→eq}
 use Rattle.counting.specs.Counting.{rank, count, next, select, amongFirst}
@@ -15,7 +15,6 @@ use Rattle.cell.specs.Judge.{numbersRefusal, formRefusal, useRefusal, cellRefus
 use Rattle.cell.proofs.Cases as cell
 use Rattle.elements.specs.Elements.{nrs, crs, eligible, used, countOf}
 use Rattle.subframes.specs.declared.Burst.{Burst}
-use Rattle.subframes.specs.declared.DownlinkPlan.{DownlinkPlan}
 use Rattle.subframes.specs.declared.DownlinkPlace.{DownlinkPlace}
 use Rattle.subframes.specs.Cells.{layoutOf, fieldsRefusal, questionRefusal}
 use Rattle.subframes.specs.Answers.{burstPlan, burstForward, planAnswer, forwardAnswer}
@@ -24,7 +23,7 @@ use Rattle.downlink.specs.Questions.{planOf, forwardOf}
 use Rattle.uplink.proofs.Cases as uplink
 use Rattle.uplink.proofs.WindowCases.{window-cases}
 use Rattle.acknowledgement.proofs.Cases as ack
-use Rattle.promises.specs.Cases.{elementsOf, standalone, inBand, eightSubframes, sentIn, Cases}
+use Rattle.promises.specs.Cases.{elementsOf, standalone, eightSubframes, Cases}
 
 -- ---- P1: E reads the identity by its remainder mod 6 alone
 

@@ -28,7 +28,8 @@ use Rattle.bars.proofs.Spreading.{spread-free}
 use Rattle.slots.specs.declared.Shape.{Shape}
 use Rattle.slots.specs.Fits.{Fits, Leaves}
 use Rattle.slots.specs.Timing.{round, rounds, inBlock, groupAt, active, period, slotAt}
-use Rattle.slots.specs.Quick.{gapBar, Searchable, TurnOf}
+use Rattle.slots.specs.declared.timing.Course.{Course}
+use Rattle.slots.specs.Quick.{gapBar, Searchable, Runs, TurnOf}
 use Rattle.slots.proofs.Rounds.{whole, whole-round-groups, repeats}
 
 and-true : (b : Bool) → (b && true) ≡ b
@@ -297,45 +298,47 @@ module _ (s : Shape) (f : Fits s) (bars : Bars) (o : Leaves s (clear bars)) wher
   same-select c a j =
       select-same left (c .length) (rounds * (round s / s .group)) (a .again) (again s f bars o) (a .some) (cyclic s f bars o .0) (s .first / s .group) j
 
--- ---- with the gap's bar and the cycle as the code has worked them out
+-- ---- with the first group, the gap's bar and the cycle as the code has worked them out
 
-module _ (s : Shape) (f : Fits s) (bars : Bars) (o : Leaves s (clear bars)) (bar : Bar) (cycle : Cycle) (eb : bar ≡ gapBar s)
-    (ec : Repeats (isFree (gapBar s) bars) cycle) where
-  pub usable : Usable bar
-  usable = subst Usable (sym eb) (gap-usable s f)
+module _ (s : Shape) (f : Fits s) (ls : Levels) (o : Leaves s (clear (ls .bars))) (c : Course) (r : Runs s ls c) where
+  pub usable : Usable (c .gap)
+  usable = subst Usable (sym (r .gap)) (gap-usable s f)
 
   -- a round begins with the first group
-  pub begins : (u : ℕ) → u ≡ s .first / s .group → Begins bar u
-  begins u h = rw (h, eb) (gap-begins s f)
+  pub begins : Begins (c .gap) (c .from)
+  begins = rw (r .from, r .gap) (gap-begins s f)
 
-  pub cycles : Repeats (isFree bar bars) cycle
-  cycles = subst (λ (b : Bar). Repeats (isFree b bars) cycle) (sym eb) ec
+  pub cycles : Repeats (isFree (c .gap) (ls .bars)) (c .cycle)
+  cycles = subst (λ (b : Bar). Repeats (isFree b (ls .bars)) (c .cycle)) (sym (r .gap)) (r .cycle)
 
-  pub first-group-small : (u : ℕ) → u ≡ s .first / s .group → u < 2 ^ 40
-  first-group-small u h = omega (arith, div-le-self (s .first) (s .group), f .firstSmall)
+  pub first-group-small : c .from < 2 ^ 40
+  first-group-small = omega (arith, r .from, div-le-self (s .first) (s .group), f .firstSmall)
 
-  by-groups : (i at : ℕ) → at ≡ select (isFree bar bars) (cycle .length) (s .first / s .group) (i / s .group)
-      → at * s .group + (i - i / s .group * s .group) ≡ slotAt s (clear bars) i
+  pub groups-within : (i j : ℕ) → j ≡ i / s .group → j * s .group ≤ i
+  groups-within i j e = rw e (div-mul-le-self i (s .group))
+
+  by-groups : (i at : ℕ) → at ≡ select (isFree (gapBar s) (ls .bars)) (c .cycle .length) (s .first / s .group) (i / s .group)
+      → at * s .group + (i - i / s .group * s .group) ≡ slotAt s (clear (ls .bars)) i
   by-groups i at e =
-      slot-is s f bars o i (i / s .group) (i - i / s .group * s .group) at (omega (arith, div-mul-le-self i (s .group)))
+      slot-is s f (ls .bars) o i (i / s .group) (i - i / s .group * s .group) at (omega (arith, div-mul-le-self i (s .group)))
       (omega (arith, mod-eq-sub-div-mul i (s .group), mod-lt i (f .group)))
-      (e ∙ ap (λ (b : Bar). select (isFree b bars) (cycle .length) (s .first / s .group) (i / s .group)) eb ∙ same-select s f bars o cycle ec (i / s .group))
+      (e ∙ same-select s f (ls .bars) o (c .cycle) (r .cycle) (i / s .group))
 
-  pub slot-found : (i j u at : ℕ) → j ≡ i / s .group → u ≡ s .first / s .group → at ≡ select (isFree bar bars) (cycle .length) u j
-      → at * s .group + (i - j * s .group) ≡ slotAt s (clear bars) i
-  slot-found i j u at hj hu e =
+  pub slot-found : (i j at : ℕ) → j ≡ i / s .group → at ≡ select (isFree (c .gap) (ls .bars)) (c .cycle .length) (c .from) j
+      → at * s .group + (i - j * s .group) ≡ slotAt s (clear (ls .bars)) i
+  slot-found i j at hj e =
       ap (λ (x : ℕ). at * s .group + (i - x * s .group)) hj
-      ∙ by-groups i at (e ∙ ap₂ (λ (x y : ℕ). select (isFree bar bars) (cycle .length) x y) hu hj)
+      ∙ by-groups i at (rw (r .gap, r .from, hj) at e)
 
-  module _ (x y u : ℕ) (r : Standing) (hy : y ≡ x / s .group) (hu : u ≡ s .first / s .group) (st : Stands (isFree bar bars) u y r) where
-    st' : Stands (isFree (gapBar s) bars) (s .first / s .group) y r
-    st' = subst (λ (b : Bar). Stands (isFree b bars) (s .first / s .group) y r) eb (subst (λ (v : ℕ). Stands (isFree bar bars) v y r) hu st)
+  module _ (x y : ℕ) (t : Standing) (hy : y ≡ x / s .group) (st : Stands (isFree (c .gap) (ls .bars)) (c .from) y t) where
+    stands : Stands (isFree (gapBar s) (ls .bars)) (s .first / s .group) y t
+    stands = rw (r .gap, r .from) at st
 
     parts : (x ≡ y * s .group + (x - y * s .group)) × (x - y * s .group < s .group)
     parts = rw hy (omega (arith, div-mul-le-self x (s .group)), omega (arith, mod-eq-sub-div-mul x (s .group), mod-lt x (f .group)))
 
-    pub turn-found-fits : r .index * s .group + (x - y * s .group) ≤ x
-    turn-found-fits = turn-fits s f bars o x y (x - y * s .group) r (parts .0) (parts .1) st'
+    pub turn-found-fits : t .index * s .group + (x - y * s .group) ≤ x
+    turn-found-fits = turn-fits s f (ls .bars) o x y (x - y * s .group) t (parts .0) (parts .1) stands
 
-    pub turn-found : TurnOf s (clear bars) x (record { sent = r .free; i = r .index * s .group + (x - y * s .group) })
-    turn-found = turn-is s f bars o x y (x - y * s .group) r (parts .0) (parts .1) st'
+    pub turn-found : TurnOf s (clear (ls .bars)) x (record { sent = t .free; i = t .index * s .group + (x - y * s .group) })
+    turn-found = turn-is s f (ls .bars) o x y (x - y * s .group) t (parts .0) (parts .1) stands

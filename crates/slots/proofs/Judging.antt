@@ -1,16 +1,16 @@
 -- The answers of a judged grant: those of its shape, or its number and zeros.
 use mathlib.Core.Bool.{Bool, cond}
-use mathlib.Core.Path.{_≡_, refl, sym, ap₂, subst, _∙_}
+use mathlib.Core.Path.{_≡_, refl, sym, ap₂, _∙_}
 use Prim.Native.Nat.{ℕ}
 use native.Mathlib.Decide.{ℕ-discrete}
 use lib.Dec.{eqb}
 use borrow.Author.Tests.{eq-eqb, ne-eqb}
 use Rattle.sending.specs.Answer.{refusedBack}
 use Rattle.slots.specs.declared.Shape.{Shape}
-use Rattle.slots.specs.Fits.{Fits, Leaves}
+use Rattle.slots.specs.Fits.{Fits}
 use Rattle.slots.specs.Quick.{sized}
 use Rattle.slots.specs.Answers.{refusedPlan, refusedPlace, shapePlan, shapeForward, shapeBackward, planAnswer, forwardAnswer, backwardAnswer}
-use Rattle.slots.proofs.Sizes.{fits-sized, leaves-sized, forward-sized, backward-sized}
+use Rattle.slots.proofs.Sizes.{fits-sized, forward-sized, backward-sized}
 
 -- ---- the answers of an accepted grant
 
@@ -60,9 +60,6 @@ module _ (g s : Shape) (size order : ℕ) (own : s ≡ sized g size order) where
   module _ (isOpen tested : ℕ → Bool) (same : (u : ℕ) → tested u ≡ isOpen u) where
     is-tested : isOpen ≡ tested
     is-tested = λ i u. sym (same u) i
-
-    pub leaves-asked : Leaves g isOpen → Leaves s tested
-    leaves-asked o = subst (Leaves s) is-tested (rw own (leaves-sized g size order isOpen o))
 
     module _ (refusal : ℕ) (e : refusal ≡ 0) where
       pub plan-asked : sized g size order ≡ g → shapePlan s tested ≡ planAnswer refusal g isOpen

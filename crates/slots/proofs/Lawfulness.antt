@@ -14,7 +14,7 @@ use Rattle.sending.proofs.Demand.{sound}
 use Rattle.slots.specs.declared.Shape.{Shape}
 use Rattle.slots.specs.Fits.{Fits, Leaves}
 use Rattle.slots.specs.Timing.{groupAt, isSent}
-use Rattle.slots.specs.Elements.{isReference, isGranted, carriesData, slotData, elementAt}
+use Rattle.slots.specs.Elements.{isReference, carriesData, slotData, elementAt}
 use Rattle.slots.specs.Mapping.{sendingOf, places}
 use Rattle.slots.specs.Answers.{placeOf, shapeForward, shapeBackward}
 use Rattle.slots.proofs.Rounds.{slots-listed}
@@ -60,9 +60,6 @@ module _ (s : Shape) (isOpen : ℕ → Bool) (f : Fits s) (o : Leaves s isOpen) 
 
   pub place-symbol : (p : ℕ) → p < places s → (shapeForward s isOpen p .l < symbols) × (isReference s (shapeForward s isOpen p .l) ≡ false)
   place-symbol p h = rw (forward-place p h) (data-symbol-parts s f _ (data-parts s f _ (place-data p) .0))
-
-  pub place-granted : (p : ℕ) → p < places s → isGranted s (shapeForward s isOpen p .k) ≡ true
-  place-granted p h = rw (forward-place p h) (data-parts s f _ (place-data p) .1)
 
   pub place-subcarrier : (p : ℕ) → p < places s → shapeForward s isOpen p .k < s .subcarriers
   place-subcarrier p h =

@@ -1,4 +1,3 @@
-pub mod Spacing
 pub mod Rounds
 pub mod Grouped
 pub mod Leaving

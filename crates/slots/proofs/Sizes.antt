@@ -3,7 +3,7 @@ use mathlib.Core.Bool.{Bool}
 use mathlib.Core.Path.{_≡_, refl}
 use Prim.Native.Nat.{ℕ}
 use Rattle.slots.specs.declared.Shape.{Shape}
-use Rattle.slots.specs.Fits.{Fits, Leaves}
+use Rattle.slots.specs.Fits.{Fits}
 use Rattle.slots.specs.Timing.{inBlock, active, slotAt, isSent, indexOf}
 use Rattle.slots.specs.Elements.{carriesData, carriesReference, slotData, elementAt, numberOf}
 use Rattle.slots.specs.Answers.{shapeForward, shapeBackward}
@@ -43,7 +43,3 @@ module _ (s : Shape) (size order : ℕ) where
     rowSmall = f .rowSmall;
     groupSmall = f .groupSmall;
   }
-
-  pub leaves-sized : (isOpen : ℕ → Bool) → Leaves s isOpen → Leaves (sized s size order) isOpen
-  unfolding active inBlock
-  leaves-sized isOpen o = record { again = o .again; some = o .some }

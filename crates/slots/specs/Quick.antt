@@ -6,7 +6,7 @@ use lib.Dec.{ltb}
 use Rattle.counting.specs.Counting.{rank}
 use Rattle.bars.specs.declared.Bar.{Bar}
 use Rattle.bars.specs.declared.Levels.{Levels}
-use Rattle.bars.specs.Bars.{isFree}
+use Rattle.bars.specs.Bars.{clear, isFree}
 use Rattle.bars.specs.Quick.{Stacked, Repeats}
 use Rattle.grid.specs.Grid.{uplinkSymbolOf, uplinkSubcarrierOf}
 use Rattle.slots.specs.declared.Shape.{Shape}
@@ -52,12 +52,14 @@ pub record Spread (part : ℕ) (ls : Levels) : Type 0 where
 -- levels that can be searched beside the gaps of a shape
 pub record Searchable (s : Shape) (ls : Levels) : Type 0 where
   pub stacked : Stacked ls
+  pub counted : ls .clear ≡ rank (clear (ls .bars)) (ls .bars .b4 .period)
   pub part : ℕ
   pub parted : Parted s part
   pub spread : Spread part ls
 
--- the gaps of a shape, and a cycle of what it may send
+-- a shape's first group, its gaps, and a cycle of what it may send
 pub record Runs (s : Shape) (ls : Levels) (c : Course) : Type 0 where
+  pub from : c .from ≡ s .first / s .group
   pub gap : c .gap ≡ gapBar s
   pub cycle : Repeats (isFree (gapBar s) (ls .bars)) (c .cycle)
 

@@ -14,17 +14,9 @@ use grid::UplinkGrid;
 use sending::Back;
 
 mod data;
-mod numerology;
 mod timing;
 
 pub use data::split as taken_apart;
-pub use numerology::block;
-pub use numerology::by_spacing;
-pub use numerology::first_after;
-pub use numerology::gap;
-pub use numerology::group;
-pub use numerology::group_ms;
-pub use numerology::narrow_tones;
 
 // Slots from `first` on, in blocks of sending with a gap after each; `tones` of the grid's `subcarriers` from `tone` on; `codeword` slots,
 // sent `copies` times, each group of `group` slots `row` times in a row; `references` reference symbols from `reference` on; the transport

@@ -13,8 +13,9 @@ use bars::Bar;
 use bars::Cycle;
 use bars::Levels;
 
-// The groups of the gaps, and after how many groups all repeats.
+// The first slot's group, the groups of the gaps, and after how many groups all repeats.
 pub struct Course {
+    from: u64,
     gap: Bar,
     cycle: Cycle,
 }
@@ -57,18 +58,16 @@ fn over_group(group: u64, n: u64) -> u64
     n / group
 }
 
-// The groups of the gaps.
-fn gap_bar(s: Shape) -> Bar
-    requires { ⌜ Fits s ⌝ }
+// The groups of the gaps, from the first slot's group on.
+fn gap_bar(s: Shape, from: u64) -> Bar
+    requires { ⌜ Fits s × (from ≡ s .first / s .group) ⌝ }
     ensures { λ r. ⌜ r ≡ gapBar s ⌝ }
 {
-    let first = s.first;
     let block = s.block;
     let gap = s.gap;
     let group = s.group;
     let closed = over_group(group, gap);
     let period = over_group(group, block + gap);
-    let from = over_group(group, first);
     Bar {
         period,
         phase: closed + (period - from % period),
@@ -83,9 +82,10 @@ fn cycle(s: Shape, ls: Levels) -> Cycle
     ensures { λ r. ⌜ Repeats (isFree (gapBar s) (ls .bars)) r ⌝ }
 {
     let longest = ls.bars.b4.period;
+    let clear = ls.clear;
     Cycle {
         length: 37 * longest,
-        free: 32 * bars::clear_in_longest(ls),
+        free: 32 * clear,
     }
 }
 
@@ -94,8 +94,11 @@ pub fn course_of(s: Shape, ls: Levels) -> Course
     requires { ⌜ Fits s × Leaves s (clear (ls .bars)) × Searchable s ls ⌝ }
     ensures { λ r. ⌜ Runs s ls r ⌝ }
 {
+    let first = s.first;
+    let from = over_group(s.group, first);
     Course {
-        gap: gap_bar(s),
+        from,
+        gap: gap_bar(s, from),
         cycle: cycle(s, ls),
     }
 }
@@ -105,11 +108,9 @@ pub fn slot_on(s: Shape, ls: Levels, course: Course, i: u64) -> u64
     requires { ⌜ Fits s × Leaves s (clear (ls .bars)) × Searchable s ls × Runs s ls course × (i < 2 ^ 32) ⌝ }
     ensures { λ r. ⌜ r ≡ slotAt s (clear (ls .bars)) i ⌝ }
 {
-    let first = s.first;
     let group = s.group;
     let j = over_group(group, i);
-    let from = over_group(group, first);
-    let at = bars::nth(course.gap, ls, course.cycle, from, j);
+    let at = bars::nth(course.gap, ls, course.cycle, course.from, j);
     at * group + (i - j * group)
 }
 
@@ -118,11 +119,9 @@ pub fn turn_on(s: Shape, ls: Levels, course: Course, x: u64) -> Turn
     requires { ⌜ Fits s × Leaves s (clear (ls .bars)) × Searchable s ls × Runs s ls course ⌝ }
     ensures { λ r. ⌜ TurnOf s (clear (ls .bars)) x r ⌝ }
 {
-    let first = s.first;
     let group = s.group;
     let y = over_group(group, x);
-    let from = over_group(group, first);
-    let at = bars::stand_of(course.gap, ls, course.cycle, from, y);
+    let at = bars::stand_of(course.gap, ls, course.cycle, course.from, y);
     Turn {
         sent: at.free,
         i: at.index * group + (x - y * group),

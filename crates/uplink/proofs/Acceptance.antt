@@ -1,28 +1,35 @@
 -- What acceptance says of a grant's numbers, and that its shape then fits.
+use mathlib.Core.Bool.{cond}
 use mathlib.Core.Path.{_≡_, refl, sym, ap, _∙_}
-use Prim.Native.Nat.{ℕ, _+_, _^_, _≤_, _<_, _/_}
+use Prim.Native.Nat.{ℕ, _+_, _^_, _≤_, _<_}
 use native.Mathlib.Nat.{mul-pos, mul-le-mul}
 use native.Mathlib.Omega.{arith}
-use lib.Dec.{ltb}
+use lib.Dec.{eqb, ltb}
 use borrow.Author.Tests.{ltb-false, leb-false, le-ltb, lt-leb}
 use Rattle.counting.proofs.Facts.{passed, after-first, first-alone, either-parts}
 use Rattle.grid.specs.Tables.{entry, lengths, uplinkDelays}
 use Rattle.grid.proofs.Rules.{length-bounds, uplink-copies-bounds, uplink-delay-bound}
 use Rattle.slots.specs.Timing.{allOpen}
 use Rattle.slots.specs.Fits.{Fits, Leaves}
-use Rattle.slots.proofs.Spacing.{first-bound, by-spacing-bounds, spaced}
-use Rattle.windows.specs.declared.Verdict.{Verdict}
+use Rattle.numerology.proofs.Spacing.{first-bound, by-spacing-bounds, spaced}
+use Rattle.sending.specs.declared.Back.{Back}
+use Rattle.slots.specs.declared.Shape.{Shape}
+use Rattle.slots.specs.declared.UplinkPlan.{UplinkPlan}
+use Rattle.slots.specs.declared.UplinkPlace.{UplinkPlace}
+use Rattle.slots.specs.Answers.{planAnswer, forwardAnswer, backwardAnswer}
+use Rattle.slots.specs.Quick.{sized}
 use Rattle.windows.specs.Windows.{none}
-use Rattle.windows.specs.Quick.{Judged}
-use Rattle.slots.specs.Quick.{Parted}
-use Rattle.windows.proofs.Spaced.{leaves, parted, none-refuses, none-closes}
+use Rattle.windows.proofs.Spaced.{none-refuses, none-closes}
+use Rattle.windowed.specs.Beside.{refusalBeside, openBeside, Spaced}
+use Rattle.windowed.proofs.Beside.{leaves, first-refuses, plan-beside, forward-beside, backward-beside, shape-beside}
 use Rattle.uplink.specs.declared.UplinkFields.{UplinkFields}
-use Rattle.uplink.specs.Quick.{fieldsOf, unwindowed}
+use Rattle.uplink.specs.Unwindowed.{fieldsOf, unwindowed}
 use Rattle.uplink.specs.declared.UplinkGrant.{UplinkGrant}
-use Rattle.slots.specs.Numerology.{groupOf, groupMs}
-use Rattle.uplink.specs.Fields.{toneFields, tonesOf, firstTone, unitSlots}
-use Rattle.uplink.specs.Refusals.{lastSubframe, aboveLargest, namesNoTone, aboveMcs, windowed, fieldsRefusal, refusalWithin, refusal}
+use Rattle.numerology.specs.Numerology.{groupOf}
+use Rattle.uplink.specs.Fields.{toneFields, tonesOf, unitSlots}
+use Rattle.uplink.specs.Refusals.{lastSubframe, aboveLargest, namesNoTone, aboveMcs, windowsNumber, fieldsRefusal, refusalWithin, refusal}
 use Rattle.uplink.specs.Shaping.{shapeOf, openOf}
+use Rattle.uplink.specs.Questions.{planOf, forwardOf, backwardOf}
 use Rattle.uplink.proofs.Fielded.{tone-field, whole-groups, row-splits, row-bounds}
 
 -- every number in its range
@@ -39,7 +46,7 @@ pub record InRange (limit : ℕ) (g : UplinkGrant) : Type 0 where
 -- and the windows not refused
 pub record Accepted (limit : ℕ) (g : UplinkGrant) : Type 0 where
   pub range : InRange limit g
-  pub windows : windowed g ≡ 0
+  pub windows : windowsNumber g ≡ 0
 
 module _ (limit : ℕ) (g : UplinkGrant) where
   pub ranged : fieldsRefusal limit g ≡ 0 → InRange limit g
@@ -83,7 +90,7 @@ module _ (limit : ℕ) (g : UplinkGrant) where
 
   pub accepted : refusalWithin limit g ≡ 0 → Accepted limit g
   unfolding refusalWithin
-  accepted e = let p = after-first (fieldsRefusal limit g) (windowed g) e in record { range = ranged (p .0); windows = p .1 }
+  accepted e = let p = after-first (fieldsRefusal limit g) (windowsNumber g) e in record { range = ranged (p .0); windows = p .1 }
 
   pub accepts : Accepted limit g → refusalWithin limit g ≡ 0
   unfolding refusalWithin
@@ -130,6 +137,11 @@ module _ (limit : ℕ) (g : UplinkGrant) where
         groupSmall = by .groupSmall;
       }
 
+-- its numbers by its spacing
+pub spaced-of : (g : UplinkGrant) → InRange lastSubframe g → Spaced (g .spacing) (shapeOf g)
+unfolding shapeOf
+spaced-of g a = record { listed = a .spacing; subcarriers = refl; block = refl; gap = refl; group = refl }
+
 module _ (g : UplinkGrant) (e : refusal g ≡ 0) where
   pub fits : Fits (shapeOf g)
   fits = fits-within lastSubframe g (omega arith) (accepted lastSubframe g e .range)
@@ -137,40 +149,92 @@ module _ (g : UplinkGrant) (e : refusal g ≡ 0) where
   -- what the windows leave
   pub leaves-open : Leaves (shapeOf g) (openOf g)
   unfolding shapeOf
-  leaves-open =
-      let a = accepted lastSubframe g e in
-      leaves (shapeOf g) (g .spacing) (firstTone (g .spacing) (g .subcarrier)) (tonesOf (g .spacing) (g .subcarrier)) (g .windows) (a .range .spacing) refl refl refl (a .windows)
+  leaves-open = let a = accepted lastSubframe g e in leaves (g .spacing) (shapeOf g) (spaced-of g (a .range)) (g .windows) (a .windows)
 
--- its rounds, in parts of 8 ms
-pub parted-of : (g : UplinkGrant) → Parted (shapeOf g) (8 / groupMs (g .spacing))
-unfolding shapeOf
-parted-of g = parted (shapeOf g) (g .spacing) refl refl refl
+-- ---- a grant by its fields, and the number that these have
 
--- ---- a grant by its fields
-
-module _ (g : UplinkGrant) where
-  pub same-fields : fieldsRefusal lastSubframe (unwindowed (fieldsOf g)) ≡ fieldsRefusal lastSubframe g
+module _ (g : UplinkGrant) (f : UplinkFields) (h : f ≡ fieldsOf g) (n : ℕ) (e : n ≡ fieldsRefusal lastSubframe (unwindowed f)) where
+  pub fields-number : n ≡ fieldsRefusal lastSubframe g
   unfolding fieldsRefusal
-  same-fields = refl
+  fields-number = e ∙ ap (λ (x : UplinkFields). fieldsRefusal lastSubframe (unwindowed x)) h
 
-  module _ (f : UplinkFields) (h : f ≡ fieldsOf g) where
-    -- its shape
-    pub same-shape : shapeOf (unwindowed f) ≡ shapeOf g
+  pub refused-by : (n ≡ 0 → ⊥) → n ≡ refusal g
+  unfolding refusalWithin
+  refused-by z = first-refuses n (fieldsRefusal lastSubframe g) (windowsNumber g) fields-number z
+
+  -- its shape, but for size and order, asked beside its windows
+  module _ (z : n ≡ 0) (s : Shape) (size order : ℕ) (own : s ≡ sized (shapeOf (unwindowed f)) size order) where
+    in-range : InRange lastSubframe g
+    in-range = ranged lastSubframe g (sym fields-number ∙ z)
+
+    own-shape : s ≡ sized (shapeOf g) size order
     unfolding shapeOf
-    same-shape = ap (λ (x : UplinkFields). shapeOf (unwindowed x)) h
+    own-shape = own ∙ ap (λ (x : UplinkFields). sized (shapeOf (unwindowed x)) size order) h
 
-    -- accepted by its verdict, so its fields are
-    pub fields-clear : (v : Verdict) → Judged (8 / groupMs (g .spacing)) (refusal g) (openOf g) v → v .no ≡ 0 → fieldsRefusal lastSubframe (unwindowed f) ≡ 0
-    fields-clear v j z =
-        ap (λ (x : UplinkFields). fieldsRefusal lastSubframe (unwindowed x)) h ∙ same-fields
-        ∙ in-range-passes lastSubframe g (accepted lastSubframe g (sym (j .number) ∙ z) .range)
+    spacing-is : f .spacing ≡ g .spacing
+    spacing-is = ap (λ (x : UplinkFields). x .spacing) h
+
+    pub ready : Fits s × Spaced (f .spacing) s
+    ready =
+        rw spacing-is
+        (shape-beside (fieldsRefusal lastSubframe g) (g .spacing) (shapeOf g) (g .windows) (sym fields-number ∙ z) s size order own-shape
+        (fits-within lastSubframe g (omega arith) in-range) (spaced-of g in-range))
+
+    pub plan-is : sized (shapeOf g) size order ≡ shapeOf g
+        → (r : UplinkPlan) → r ≡ planAnswer (refusalBeside (f .spacing) s (g .windows)) s (openBeside (f .spacing) s (g .windows)) → r ≡ planOf g
+    unfolding planOf refusalWithin shapeOf
+    plan-is k r h =
+        h ∙ rw spacing-is (plan-beside (fieldsRefusal lastSubframe g) (g .spacing) (shapeOf g) (g .windows) (sym fields-number ∙ z) s size order own-shape k)
+
+    pub forward-is : (p : ℕ) (r : UplinkPlace)
+        → r ≡ forwardAnswer (refusalBeside (f .spacing) s (g .windows)) s (openBeside (f .spacing) s (g .windows)) p → r ≡ forwardOf g p
+    unfolding forwardOf refusalWithin shapeOf
+    forward-is p r h =
+        h ∙ rw spacing-is (forward-beside (fieldsRefusal lastSubframe g) (g .spacing) (shapeOf g) (g .windows) (sym fields-number ∙ z) s size order own-shape p)
+
+    pub backward-is : (slot l k : ℕ) (r : Back)
+        → r ≡ backwardAnswer (refusalBeside (f .spacing) s (g .windows)) s (openBeside (f .spacing) s (g .windows)) slot l k → r ≡ backwardOf g slot l k
+    unfolding backwardOf refusalWithin shapeOf
+    backward-is slot l k r h =
+        h
+        ∙ rw spacing-is (backward-beside (fieldsRefusal lastSubframe g) (g .spacing) (shapeOf g) (g .windows) (sym fields-number ∙ z) s size order own-shape slot l k)
 
 -- ---- fields with no window
 
 module _ (f : UplinkFields) where
   pub plain-refusal : fieldsRefusal lastSubframe (unwindowed f) ≡ refusal (unwindowed f)
   unfolding refusalWithin
-  plain-refusal = first-alone (fieldsRefusal lastSubframe (unwindowed f)) (windowed (unwindowed f)) (none-refuses (f .spacing) _ _ none refl)
+  plain-refusal = first-alone (fieldsRefusal lastSubframe (unwindowed f)) (windowsNumber (unwindowed f)) (none-refuses (f .spacing) _ _ none refl)
 
   pub plain-open : (u : ℕ) → allOpen u ≡ openOf (unwindowed f) u
   plain-open u = none-closes (f .spacing) _ _ none refl u
+
+-- ---- a grant whose windows are none by their count: that of its fields
+
+module _ (g : UplinkGrant) (z : g .windows .count ≡ 0) where
+  abbrev plain : UplinkGrant
+  plain = unwindowed (fieldsOf g)
+
+  same-refusal : refusal plain ≡ refusal g
+  unfolding refusalWithin fieldsRefusal
+  same-refusal =
+      ap (λ (n : ℕ). cond (eqb (fieldsRefusal lastSubframe g) 0) n (fieldsRefusal lastSubframe g))
+      (none-refuses (g .spacing) _ _ none refl ∙ sym (none-refuses (g .spacing) _ _ (g .windows) z))
+
+  each-open : (u : ℕ) → openOf plain u ≡ openOf g u
+  each-open u = sym (none-closes (g .spacing) _ _ none refl u) ∙ none-closes (g .spacing) _ _ (g .windows) z u
+
+  same-open : openOf plain ≡ openOf g
+  same-open i u = each-open u i
+
+  pub plan-uncounted : planOf plain ≡ planOf g
+  unfolding planOf shapeOf
+  plan-uncounted i = planAnswer (same-refusal i) (shapeOf g) (same-open i)
+
+  pub forward-uncounted : (p : ℕ) → forwardOf plain p ≡ forwardOf g p
+  unfolding forwardOf shapeOf
+  forward-uncounted p i = forwardAnswer (same-refusal i) (shapeOf g) (same-open i) p
+
+  pub backward-uncounted : (slot l k : ℕ) → backwardOf plain slot l k ≡ backwardOf g slot l k
+  unfolding backwardOf shapeOf
+  backward-uncounted slot l k i = backwardAnswer (same-refusal i) (shapeOf g) (same-open i) slot l k

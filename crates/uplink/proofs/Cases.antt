@@ -17,11 +17,11 @@ use Rattle.slots.specs.Answers.{refusedPlan, shapePlan, shapeForward}
 use Rattle.windows.specs.Windows.{none, isClear}
 use Rattle.windows.proofs.Spaced.{none-refuses}
 use Rattle.uplink.specs.declared.UplinkGrant.{UplinkGrant}
-use Rattle.slots.specs.Numerology.{firstAfter}
+use Rattle.numerology.specs.Numerology.{firstAfter}
 use Rattle.uplink.specs.Fields.{toneFields, tonesOf, firstTone, unitSlots, rowOf}
 use Rattle.uplink.specs.Refusals.{lastSubframe, fieldsRefusal, refusalWithin, refusal}
 use Rattle.uplink.specs.Shaping.{shapeOf, openOf}
-use Rattle.uplink.specs.Quick.{fieldsOf}
+use Rattle.uplink.specs.Unwindowed.{fieldsOf}
 use Rattle.uplink.specs.Questions.{planOf, forwardOf}
 use Rattle.uplink.specs.Cases.{grant, Sends, upTo, carriedSlots, firstPass, UplinkCases}
 use Rattle.uplink.proofs.Acceptance.{accepts, fits, plain-open}

@@ -6,9 +6,10 @@ use Rattle.grid.specs.Tables.{entry, lengths, uplinkDelays}
 use Rattle.slots.specs.declared.Shape.{Shape}
 use Rattle.uplink.specs.declared.UplinkGrant.{UplinkGrant}
 use Rattle.uplink.specs.declared.Sizes.{Sizes}
-use Rattle.uplink.specs.Quick.{fieldsOf, sizesOf}
+use Rattle.uplink.specs.Unwindowed.{fieldsOf}
+use Rattle.uplink.specs.Quick.{sizesOf}
 use Rattle.slots.specs.Quick.{sized}
-use Rattle.slots.specs.Numerology.{slotsIn, firstAfter, groupOf}
+use Rattle.numerology.specs.Numerology.{slotsIn, firstAfter, groupOf}
 use Rattle.uplink.specs.Fields.{firstTone, unitSlots, rowOf, referenceOf}
 use Rattle.uplink.specs.Shaping.{grantTones, grantCopies, shapeOf}
 

@@ -1,8 +1,8 @@
 -- The cases of L4 hold: everything computes.
 use mathlib.Core.Path.{_≡_, refl}
-use Prim.Native.Nat.{ℕ, _*_}
+use Prim.Native.Nat.{_*_}
 use Rattle.counting.specs.Counting.{rank, next, select}
-use Rattle.slots.specs.Numerology.{firstAfter}
+use Rattle.numerology.specs.Numerology.{firstAfter}
 use Rattle.slots.specs.Timing.{inBlock, active, slotAt}
 use Rattle.slots.specs.Answers.{refusedPlan, shapePlan, planAnswer}
 use Rattle.windows.specs.Windows.{isListed, areListed, overlaps, isClear, windowsRefusal}

@@ -25,8 +25,8 @@ abbrev pub aboveMcs : UplinkGrant → Bool
 aboveMcs g = ltb 4 (g .mcs)
 
 -- the random access windows' refusal on the grant's tones, 19 or 20, or 0
-abbrev pub windowed : UplinkGrant → ℕ
-windowed g = refusalOn (g .spacing) (firstTone (g .spacing) (g .subcarrier)) (tonesOf (g .spacing) (g .subcarrier)) (g .windows)
+abbrev pub windowsNumber : UplinkGrant → ℕ
+windowsNumber g = refusalOn (g .spacing) (firstTone (g .spacing) (g .subcarrier)) (tonesOf (g .spacing) (g .subcarrier)) (g .windows)
 
 -- the number of the fields, or 0; limit is the last subframe in which a grant may end
 unfoldable pub fieldsRefusal : ℕ → UplinkGrant → ℕ
@@ -39,7 +39,7 @@ fieldsRefusal limit g =
 
 -- the number, or 0: the windows' after those of the fields
 unfoldable pub refusalWithin : ℕ → UplinkGrant → ℕ
-refusalWithin limit g = cond (eqb (fieldsRefusal limit g) 0) (windowed g) (fieldsRefusal limit g)
+refusalWithin limit g = cond (eqb (fieldsRefusal limit g) 0) (windowsNumber g) (fieldsRefusal limit g)
 
 abbrev pub refusal : UplinkGrant → ℕ
 refusal g = refusalWithin lastSubframe g

@@ -4,7 +4,7 @@ use Prim.Native.Nat.{ℕ, _+_, _*_}
 use Rattle.grid.specs.Grid.{uplinkSubcarriers}
 use Rattle.grid.specs.Tables.{entry, lengths, uplinkCopies, uplinkDelays}
 use Rattle.slots.specs.declared.Shape.{Shape}
-use Rattle.slots.specs.Numerology.{slotsIn, firstAfter, groupOf}
+use Rattle.numerology.specs.Numerology.{slotsIn, firstAfter, groupOf}
 use Rattle.windows.specs.Windows.{openTo}
 use Rattle.uplink.specs.declared.UplinkGrant.{UplinkGrant}
 use Rattle.uplink.specs.Fields.{tonesOf, firstTone, unitSlots, rowOf, referenceOf, blockSize, orderOf}

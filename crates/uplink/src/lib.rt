@@ -1,19 +1,16 @@
 // NPUSCH format 1: an uplink grant's refusals, its shape, and the questions on it.
 ghost use mathlib.Core.Path.{_≡_};
-ghost use Prim.Native.Nat.{_/_};
 ghost use Rattle.slots.specs.Quick.{sized};
-ghost use Rattle.slots.specs.Numerology.{groupMs};
-ghost use Rattle.windows.specs.Quick.{Judged};
-ghost use Rattle.uplink.specs.Quick.{fieldsOf, unwindowed, sizesOf};
-ghost use Rattle.uplink.specs.Refusals.{lastSubframe, aboveLargest, fieldsRefusal, refusalWithin, refusal};
-ghost use Rattle.uplink.specs.Shaping.{shapeOf, openOf};
+ghost use Rattle.uplink.specs.Unwindowed.{fieldsOf, unwindowed};
+ghost use Rattle.uplink.specs.Quick.{sizesOf};
+ghost use Rattle.uplink.specs.Refusals.{lastSubframe, aboveLargest, fieldsRefusal};
+ghost use Rattle.uplink.specs.Shaping.{shapeOf};
 ghost use Rattle.uplink.specs.Questions.{planOf, forwardOf, backwardOf};
 use grid::UplinkGrid;
 use sending::Back;
 use slots::Shape;
 use slots::UplinkPlace;
 use slots::UplinkPlan;
-use windows::Verdict;
 use windows::Windows;
 
 mod fields;
@@ -94,21 +91,6 @@ fn judge_fields(limit: u64, f: UplinkFields) -> u64
     0
 }
 
-// The verdict on a grant: the fields' number, or the windows' verdict.
-fn judge(g: UplinkGrant) -> Verdict
-    ensures { λ r. ⌜ Judged (8 / groupMs (g .spacing)) (refusal g) (openOf g) r ⌝ }
-{
-    let spacing = g.spacing;
-    let subcarrier = g.subcarrier;
-    let no = judge_fields(LAST_SUBFRAME, fields_of(g));
-    if no != 0 {
-        return windows::unbarred(no);
-    }
-    let tone = fields::first_tone(spacing, subcarrier);
-    let tones = fields::tones(spacing, subcarrier);
-    windows::judge(spacing, tone, tones, g.windows)
-}
-
 // The shape of accepted fields, with a size and an order: only a plan asks for the grant's own.
 fn shape(f: UplinkFields, size: u64, order: u64) -> Shape
     requires { ⌜ fieldsRefusal lastSubframe (unwindowed f) ≡ 0 ⌝ }
@@ -121,14 +103,14 @@ fn shape(f: UplinkFields, size: u64, order: u64) -> Shape
     Shape {
         first: fields::start(spacing, f.n, f.delay),
         subcarriers: UplinkGrid::subcarriers(spacing),
-        block: slots::block(spacing),
-        gap: slots::gap(spacing),
+        block: numerology::block(spacing),
+        gap: numerology::gap(spacing),
         tone: fields::first_tone(spacing, f.subcarrier),
         tones,
         codeword: fields::codeword(tones, units),
         copies,
         row: fields::row(tones, copies),
-        group: slots::group(spacing),
+        group: numerology::group(spacing),
         reference: fields::reference(spacing),
         references: 1,
         size,
@@ -157,13 +139,13 @@ fn sizes_of(f: UplinkFields) -> Sizes
 pub fn plan(g: UplinkGrant) -> UplinkPlan
     ensures { λ r. ⌜ r ≡ planOf g ⌝ }
 {
-    let v = judge(g);
-    if v.no != 0 {
-        return slots::refused_plan(v.no);
-    }
     let f = fields_of(g);
+    let no = judge_fields(LAST_SUBFRAME, f);
+    if no != 0 {
+        return slots::refused_plan(no);
+    }
     let own = sizes_of(f);
-    slots::plan(shape(f, own.size, own.order), v.levels)
+    windowed::plan(f.spacing, shape(f, own.size, own.order), g.windows)
 }
 
 pub fn plain_plan(f: UplinkFields) -> UplinkPlan
@@ -181,13 +163,12 @@ pub fn plain_plan(f: UplinkFields) -> UplinkPlan
 pub fn forward(g: UplinkGrant, p: u64) -> UplinkPlace
     ensures { λ r. ⌜ r ≡ forwardOf g p ⌝ }
 {
-    let v = judge(g);
-    if v.no != 0 {
-        return slots::refused_place(v.no);
+    let f = fields_of(g);
+    let no = judge_fields(LAST_SUBFRAME, f);
+    if no != 0 {
+        return slots::refused_place(no);
     }
-    let s = shape(fields_of(g), 0, 0);
-    let at = slots::taken_apart(s, p);
-    slots::forward(s, p, at, slots::slot_at(s, v.levels, at.i))
+    windowed::forward(f.spacing, shape(f, 0, 0), g.windows, p)
 }
 
 pub fn plain_forward(f: UplinkFields, p: u64) -> UplinkPlace
@@ -206,12 +187,12 @@ pub fn plain_forward(f: UplinkFields, p: u64) -> UplinkPlace
 pub fn backward(g: UplinkGrant, slot: u64, l: u64, k: u64) -> Back
     ensures { λ r. ⌜ r ≡ backwardOf g slot l k ⌝ }
 {
-    let v = judge(g);
-    if v.no != 0 {
-        return sending::refused(v.no);
+    let f = fields_of(g);
+    let no = judge_fields(LAST_SUBFRAME, f);
+    if no != 0 {
+        return sending::refused(no);
     }
-    let s = shape(fields_of(g), 0, 0);
-    slots::backward(s, slot, slots::locate(s, v.levels, slot), l, k)
+    windowed::backward(f.spacing, shape(f, 0, 0), g.windows, slot, l, k)
 }
 
 pub fn plain_backward(f: UplinkFields, slot: u64, l: u64, k: u64) -> Back

@@ -1,9 +1,9 @@
-// The walk: the places of a grant one after the other, in a record of the caller's own.
+// The walk: the places of a grant one after the other, by a record of the caller's own. The step on values; `inplace` moves the record.
 ghost use mathlib.Core.Bool.{_&&_};
 ghost use mathlib.Core.Path.{_≡_};
 ghost use lib.Dec.{eqb};
 ghost use Prim.Native.Nat.{_^_, _<_};
-ghost use Rattle.walk.specs.Step.{fromUplink, fromDownlink, refusedStep, finishedStep, askedOf, isEnd, onward, unmoved, movedOf, steppedOf};
+ghost use Rattle.walk.specs.Step.{fromUplink, fromDownlink, refusedStep, finishedStep, askedOf, isEnd, onward, unmoved, movedOf};
 ghost use Rattle.walk.specs.Quick.{stoppedAt};
 use acknowledgement::AckGrant;
 use cell::Cell;
@@ -39,9 +39,9 @@ pub struct WalkPlace {
 }
 
 // A step's answer, and the position after it.
-struct Moved {
-    answer: WalkPlace,
-    p: u64,
+pub struct Moved {
+    pub answer: WalkPlace,
+    pub p: u64,
 }
 
 // A step's answer, and the record after it.
@@ -181,7 +181,7 @@ fn at_end(w: Walk, anchor: &[u8], other: &[u8]) -> bool
 }
 
 // The step on values. Forward judges the record and answers; where it refuses, plan tells the end from a refusal.
-fn advance(w: Walk, anchor: &[u8], other: &[u8]) -> Moved
+pub fn advance(w: Walk, anchor: &[u8], other: &[u8]) -> Moved
     ensures { λ r. ⌜ r ≡ movedOf w (now (anchor .entry)) (now (other .entry)) ⌝ }
 {
     let p = w.p;
@@ -191,22 +191,4 @@ fn advance(w: Walk, anchor: &[u8], other: &[u8]) -> Moved
     }
     let end = at_end(w, anchor, other);
     unmoved(stopped(answer.no, end), p)
-}
-
-// One step: the answer at p, and p moved on. A refused or finished walk stays as it is.
-pub fn step(w: &mut Walk, anchor: &[u8], other: &[u8]) -> WalkPlace
-    ensures { λ r. ⌜ (r ≡ steppedOf (now (w .entry)) (now (anchor .entry)) (now (other .entry)) .answer) × (now (w .exit) ≡ steppedOf (now (w .entry)) (now (anchor .entry)) (now (other .entry)) .walk) ⌝ }
-{
-    let moved = advance(*w, anchor, other);
-    w.p = moved.p;
-    moved.answer
-}
-
-// The step of a record by value, for callers that lend none.
-pub fn step_value(w: Walk, anchor: &[u8], other: &[u8]) -> Stepped
-    ensures { λ r. ⌜ r ≡ steppedOf w (now (anchor .entry)) (now (other .entry)) ⌝ }
-{
-    let mut v = w;
-    let answer = step(&mut v, anchor, other);
-    Stepped { answer, walk: v }
 }

@@ -3,23 +3,26 @@ use mathlib.Core.Bool.{Bool, true, false, cond, not, _&&_}
 use mathlib.Core.Path.{_≡_, refl, sym, ap, ap₂, _∙_}
 use mathlib.Core.Logic.{_⊎_, inl, inr, ⊎-elim}
 use Prim.Native.Nat.{ℕ, _+_, _-_, _*_, _/_, _%_, _≤_, _<_}
-use native.Mathlib.Nat.{zero-add, div-one}
+use native.Mathlib.Nat.{zero-add, mul-zero, div-one}
 use native.Mathlib.Omega.{arith}
 use lib.Arith.{mod-mul}
 use lib.Dec.{ltb, lit<}
 use borrow.Author.Tests.{lt-ltb, le-ltb, lt-leb}
 use Rattle.counting.specs.Counting.{rank}
 use Rattle.counting.proofs.Facts.{order, both-parts}
+use Rattle.counting.proofs.Rank.{rank-zero, rank-mono, rank-same}
 use Rattle.counting.proofs.Range.{rank-all}
+use Rattle.counting.proofs.Period.{rank-split}
 use Rattle.bars.specs.declared.Bar.{Bar}
 use Rattle.bars.specs.Bars.{shut, leaves, clear}
-use Rattle.bars.specs.Quick.{Usable, AllUsable, OneOfTheirs, Chained}
-use Rattle.bars.proofs.Leveling.{idle-leaves, leaves-again}
+use Rattle.bars.specs.declared.Levels.{Levels}
+use Rattle.bars.specs.Quick.{Usable, AllUsable, OneOfTheirs, Chained, LevelsOf}
+use Rattle.bars.proofs.Leveling.{idle-leaves, leaves-again, clear-repeats}
 use Rattle.windows.specs.declared.Window.{Window}
 use Rattle.windows.specs.declared.Windows.{Windows}
 use Rattle.windows.specs.Windows.{isOneOf, unitsOfMs, allPeriods, isListed, isRead, areListed, sharesTone, sinceBegin, reach, overlaps, meets, isClear, windowsRefusal}
-use Rattle.windows.specs.Quick.{resting, barOf, barsOf}
-use Rattle.windows.proofs.Listing.{steps, step-divides, Numbers, numbers, listed-1, listed-2, listed-3, listed-4}
+use Rattle.windows.specs.Quick.{resting, barOf, barsOf, steps, Leveled}
+use Rattle.windows.proofs.Listing.{step-divides, whole-periods, Numbers, numbers, listed-1, listed-2, listed-3, listed-4}
 
 -- the bar of a window that concerns the tones
 abbrev closing : ℕ → Window → Bar
@@ -176,6 +179,51 @@ module _ (ms : ℕ) (from : 1 ≤ ms) (to : ms ≤ 2) where
       p3 = bar-step a n (isRead ws 3) (ws .w3) (listed-3 ws l);
       p4 = bar-step a n (isRead ws 4) (ws .w4) (listed-4 ws l);
     }
+
+    -- levels of the bars: some group of the longest period is clear exactly if one of 2,560 ms is
+    module _ (ls : Levels) (of : LevelsOf (barsOf ms a n ws) ls) where
+      abbrev longest : ℕ
+      longest = ls .bars .b4 .period
+
+      listed : isOneOf (steps (8 / ms)) longest ≡ true
+      listed = bars-longest longest (of .longest)
+
+      same : (u : ℕ) → clear (ls .bars) u ≡ isClear ms a n ws u
+      same u = of .same u ∙ clear-is u
+
+      whole : rank (isClear ms a n ws) (allPeriods / ms) ≡ allPeriods / ms / longest * rank (clear (ls .bars)) longest
+      whole =
+          rank-same _ _ (allPeriods / ms) (λ i h. sym (same i))
+          ∙ omega (
+            arith,
+            rank-split (clear (ls .bars)) longest (clear-repeats (ls .bars) (of .stacked .sorted)) (allPeriods / ms),
+            ap (rank (clear (ls .bars))) (whole-periods ms longest one-or-two listed .0),
+            rank-zero (clear (ls .bars)),
+          )
+
+      some : ltb 0 (ls .clear) ≡ ltb 0 (rank (isClear ms a n ws) (allPeriods / ms))
+      some =
+          ⊎-elim
+          (λ (h : 0 < ls .clear). lt-ltb 0 (ls .clear) h
+          ∙ sym (lt-ltb 0 (rank (isClear ms a n ws) (allPeriods / ms)) (omega (arith, of .counted, all))))
+          (λ (h : ls .clear ≤ 0). le-ltb 0 (ls .clear) h
+          ∙ sym (le-ltb 0 (rank (isClear ms a n ws) (allPeriods / ms))
+          (omega (arith, whole, ap (λ (x : ℕ). allPeriods / ms / longest * x) (none h), mul-zero (allPeriods / ms / longest)))))
+          (order 0 (ls .clear))
+        where
+          none : ls .clear ≤ 0 → rank (clear (ls .bars)) longest ≡ 0
+          none h = omega (arith, of .counted)
+
+          all : rank (clear (ls .bars)) longest ≤ rank (isClear ms a n ws) (allPeriods / ms)
+          all =
+              omega (
+                arith,
+                rank-mono (clear (ls .bars)) longest (allPeriods / ms) (whole-periods ms longest one-or-two listed .1),
+                rank-same (clear (ls .bars)) (isClear ms a n ws) (allPeriods / ms) (λ i h. same i),
+              )
+
+      pub leveled : Leveled ms (isClear ms a n ws) ls
+      leveled = record { same = same; stacked = of .stacked; longest = listed; counted = of .counted; some = some }
 
 -- ---- no window
 

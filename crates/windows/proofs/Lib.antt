@@ -1,4 +1,4 @@
 pub mod Listing
+pub mod Meaning
 pub mod Closing
 pub mod Spaced
-pub mod Asking

@@ -1,19 +1,18 @@
 -- Listed numbers: tests by lists, and what holds of every number of a list.
 use mathlib.Core.Bool.{Bool, true, false, not, _&&_, _||_}
 use mathlib.Core.List.{List, [], _∷_, _++_}
-use mathlib.Core.Path.{_≡_, refl, sym, ap, ap₂, subst, _∙_}
-use mathlib.Core.Logic.{⊎-elim}
+use mathlib.Core.Path.{_≡_, refl, sym, ap, ap₂, _∙_}
+use mathlib.Core.Logic.{_⊎_, ⊎-elim}
 use Prim.Native.Nat.{ℕ, _+_, _*_, _/_, _%_, _≤_, _<_}
-use native.Mathlib.Nat.{mul-assoc, mul-mod-left, mod-lt, mod-add-mod, div-add-mod', le-of-mul-le-mul-right}
+use native.Mathlib.Nat.{mul-assoc, mul-mod-left, div-add-mod', le-of-mul-le-mul-right}
 use native.Mathlib.Omega.{arith}
-use lib.Dec.{T, eqb, leb, ltb, eqb→eq, lit<}
+use lib.Dec.{eqb, leb}
 use mir.Val.{boolByte}
 use borrow.Author.Tests.{eq-eqb, eqb-true, leb-true, le-leb, lt-leb}
-use Rattle.counting.specs.Counting.{rank}
-use Rattle.counting.proofs.Facts.{order, both-parts, either-case, each, each-at}
-use Rattle.counting.proofs.Rank.{rank-same}
+use Rattle.counting.proofs.Facts.{order, both-parts, either-case}
 use Rattle.windows.specs.declared.Window.{Window}
 use Rattle.windows.specs.declared.Windows.{Windows}
+use Rattle.windows.specs.Quick.{doubles, scaled, steps}
 use Rattle.windows.specs.Windows.{isOneOf, periods, starts, repetitions, lengths, windowTones, carrierTones, isListed, isRead, areListed}
 
 or-none : (b : Bool) → b ≡ (b || false)
@@ -50,27 +49,17 @@ tone-fits t =
 
 -- ---- a test that every number of a list passes
 
-abbrev allPass : (ℕ → Bool) → List ℕ → Bool
+abbrev pub allPass : (ℕ → Bool) → List ℕ → Bool
 allPass test [] = true
 allPass test (n ∷ list) = test n && allPass test list
 
-of-list : (test : ℕ → Bool) (list : List ℕ) → allPass test list ≡ true → (x : ℕ) → isOneOf list x ≡ true → test x ≡ true
+pub of-list : (test : ℕ → Bool) (list : List ℕ) → allPass test list ≡ true → (x : ℕ) → isOneOf list x ≡ true → test x ≡ true
 of-list test [] h x e = absurd (omega (arith, ap boolByte e))
 of-list test (n ∷ list) h x e =
     let p = both-parts (test n) (allPass test list) h in
     ⊎-elim (λ w. ap test (eqb-true x n w) ∙ p .0) (λ w. of-list test list (p .1) x w) (either-case (eqb x n) (isOneOf list x) e)
 
 -- ---- the periods in parts of 8 ms, and in groups: each divides the later ones
-
-abbrev pub doubles : List ℕ
-doubles = 5 ∷ 10 ∷ 20 ∷ 40 ∷ 80 ∷ 160 ∷ 320 ∷ []
-
-abbrev scaled : ℕ → List ℕ → List ℕ
-scaled part [] = []
-scaled part (n ∷ list) = n * part ∷ scaled part list
-
-abbrev pub steps : ℕ → List ℕ
-steps part = scaled part doubles
 
 -- a step is one of the doubles in parts
 pub step-of : (part : ℕ) (list : List ℕ) (p : ℕ) → isOneOf (scaled part list) p ≡ true → (n : ℕ) × (isOneOf list n ≡ true) × (p ≡ n * part)
@@ -102,19 +91,21 @@ step-divides part some p q hp hq h =
     let d : b .0 ≡ b .0 / a .0 * a .0 = omega (arith, double-divides (a .0) (b .0) (a .1) (b .1) l, div-add-mod' (b .0) (a .0)) in
     ap₂ _%_ (b .2 ∙ ap (λ (x : ℕ). x * part) d ∙ mul-assoc (b .0 / a .0) (a .0) part) (a .2) ∙ mul-mod-left (b .0 / a .0) (a .0 * part)
 
--- in 37 of such a period each part comes at each of 37 places once: 32 of them are no gap's
-abbrev evenAt : ℕ → ℕ → Bool
-evenAt times c = eqb (rank (λ k. not (ltb ((c + k * times) % 37) 5)) 37) 32
+-- 2,560 ms are whole periods
+abbrev wholeIn : ℕ → ℕ → Bool
+wholeIn all p = eqb (all % p) 0 && leb p all
 
-all-even : allPass (λ times. each 37 (evenAt times)) doubles ≡ true
-unfolding rank
-all-even = refl
+pub whole-periods : (ms p : ℕ) → (ms ≡ 1) ⊎ (ms ≡ 2) → isOneOf (steps (8 / ms)) p ≡ true → (2560 / ms % p ≡ 0) × (p ≤ 2560 / ms)
+whole-periods ms p h l = ⊎-elim (λ e. one e l) (λ e. two e l) h
+  where
+    parts : (all : ℕ) → wholeIn all p ≡ true → (all % p ≡ 0) × (p ≤ all)
+    parts all h = let b = both-parts (eqb (all % p) 0) (leb p all) h in (eqb-true (all % p) 0 (b .0), leb-true p all (b .1))
 
-pub spread-evenly : (times : ℕ) → isOneOf doubles times ≡ true → (c : ℕ) → rank (λ k. not (ltb ((c + k * times) % 37) 5)) 37 ≡ 32
-spread-evenly times h c =
-    let t : T (each 37 (evenAt times)) = subst T (sym (of-list (λ x. each 37 (evenAt x)) doubles all-even times h)) tt in
-    rank-same _ (λ k. not (ltb ((c % 37 + k * times) % 37) 5)) 37 (λ k l. ap (λ (x : ℕ). not (ltb x 5)) (sym (mod-add-mod c 37 (k * times))))
-    ∙ eqb→eq _ _ (each-at 37 (evenAt times) t (c % 37) (mod-lt c (lit< tt)))
+    one : ms ≡ 1 → isOneOf (steps (8 / ms)) p ≡ true → (2560 / ms % p ≡ 0) × (p ≤ 2560 / ms)
+    one e l = rw e (parts (2560 / 1) (of-list (wholeIn (2560 / 1)) (steps (8 / 1)) refl p (rw e at l)))
+
+    two : ms ≡ 2 → isOneOf (steps (8 / ms)) p ≡ true → (2560 / ms % p ≡ 0) × (p ≤ 2560 / ms)
+    two e l = rw e (parts (2560 / 2) (of-list (wholeIn (2560 / 2)) (steps (8 / 2)) refl p (rw e at l)))
 
 pub period-step : (p : ℕ) → isOneOf periods p ≡ true → (isOneOf (steps 8) (p / 1) ≡ true) × (isOneOf (steps 4) (p / 2) ≡ true)
 period-step p h = (of-list (λ x. isOneOf (steps 8) (x / 1)) periods refl p h, of-list (λ x. isOneOf (steps 4) (x / 2)) periods refl p h)

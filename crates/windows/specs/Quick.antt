@@ -1,16 +1,18 @@
--- What the quick code works out: windows as bars, and the verdict on them. No definition of 01 or 02 and no public contract cites this.
-use mathlib.Core.Bool.{Bool, cond, _&&_}
+-- What the quick code works out: windows as bars. No definition of 01 or 02 and no public contract cites this.
+use mathlib.Core.Bool.{Bool, true, cond, _&&_}
+use mathlib.Core.List.{List, [], _∷_}
 use mathlib.Core.Path.{_≡_}
 use Prim.Native.Nat.{ℕ, _+_, _-_, _*_, _/_}
+use lib.Dec.{ltb}
+use Rattle.counting.specs.Counting.{rank}
 use Rattle.bars.specs.declared.Bar.{Bar}
 use Rattle.bars.specs.declared.Bars.{Bars}
+use Rattle.bars.specs.declared.Levels.{Levels}
 use Rattle.bars.specs.Bars.{clear}
 use Rattle.bars.specs.Quick.{Stacked}
-use Rattle.slots.specs.Quick.{Spread}
 use Rattle.windows.specs.declared.Window.{Window}
 use Rattle.windows.specs.declared.Windows.{Windows}
-use Rattle.windows.specs.declared.Verdict.{Verdict}
-use Rattle.windows.specs.Windows.{unitsOfMs, allPeriods, isRead, sharesTone}
+use Rattle.windows.specs.Windows.{isOneOf, unitsOfMs, allPeriods, isRead, sharesTone}
 
 -- a bar that closes nothing, with the shortest period
 abbrev pub resting : ℕ → Bar
@@ -35,9 +37,22 @@ barsOf ms a n ws = record {
   b4 = barOf ms a n (isRead ws 4) (ws .w4);
 }
 
--- a verdict: the refusal's number, and if that is 0, levels of bars that leave open what the test does; `part` groups last 8 ms
-pub record Judged (part refusal : ℕ) (isOpen : ℕ → Bool) (v : Verdict) : Type 0 where
-  pub number : v .no ≡ refusal
-  pub same : v .no ≡ 0 → (u : ℕ) → clear (v .levels .bars) u ≡ isOpen u
-  pub stacked : v .no ≡ 0 → Stacked (v .levels)
-  pub spread : v .no ≡ 0 → Spread part (v .levels)
+-- the periods in parts of 8 ms, and in groups, of which `part` last 8 ms
+abbrev pub doubles : List ℕ
+doubles = 5 ∷ 10 ∷ 20 ∷ 40 ∷ 80 ∷ 160 ∷ 320 ∷ []
+
+abbrev pub scaled : ℕ → List ℕ → List ℕ
+scaled part [] = []
+scaled part (n ∷ list) = n * part ∷ scaled part list
+
+abbrev pub steps : ℕ → List ℕ
+steps part = scaled part doubles
+
+-- levels of bars that leave open the groups of ms that a test does; the longest period is one of theirs, its clear groups are counted, and there are some if there are
+-- any in 2,560 ms
+pub record Leveled (ms : ℕ) (isOpen : ℕ → Bool) (ls : Levels) : Type 0 where
+  pub same : (u : ℕ) → clear (ls .bars) u ≡ isOpen u
+  pub stacked : Stacked ls
+  pub longest : isOneOf (steps (8 / ms)) (ls .bars .b4 .period) ≡ true
+  pub counted : ls .clear ≡ rank (clear (ls .bars)) (ls .bars .b4 .period)
+  pub some : ltb 0 (ls .clear) ≡ ltb 0 (rank isOpen (allPeriods / ms))

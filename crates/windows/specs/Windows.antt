@@ -4,11 +4,11 @@ use mathlib.Core.List.{List, [], _∷_, _++_}
 use Prim.Native.Nat.{ℕ, _+_, _-_, _*_, _/_, _%_}
 use lib.Dec.{eqb, leb, ltb}
 use Rattle.counting.specs.Counting.{rank}
-use Rattle.slots.specs.Numerology.{groupOf, groupMs, narrowTones}
+use Rattle.numerology.specs.Numerology.{groupOf, groupMs, narrowTones}
 use Rattle.windows.specs.declared.Window.{Window}
 use Rattle.windows.specs.declared.Windows.{Windows}
 
--- no window
+-- an entry of zeros; no window
 abbrev pub blank : Window
 blank = record { period = 0; start = 0; length = 0; tone = 0 }
 
@@ -72,7 +72,7 @@ areListed ws =
 abbrev pub sharesTone : ℕ → ℕ → Window → Bool
 sharesTone a n w = ltb a (w .tone + windowTones) && ltb (w .tone) (a + n)
 
--- a group ends `e` ms after time 0: so many ms before that the last window began that begins before it; windows begin below 0 too
+-- before time e, in ms, windows begin at every t equal to the start modulo the period, below 0 too: how long before e the last of them begins
 abbrev pub sinceBegin : Window → ℕ → ℕ
 sinceBegin w e = (e + allPeriods - 1 - w .start) % w .period + 1
 

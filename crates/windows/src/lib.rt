@@ -1,10 +1,10 @@
-// Random access windows, which push uplink slots aside: their refusals, and the groups of slots that they close.
+// Random access windows, which postpone uplink slots: their numbers, and the groups of slots that they close.
 ghost use mathlib.Core.Bool.{true, not, _&&_, _||_};
 ghost use mathlib.Core.Path.{_≡_};
 ghost use Prim.Native.Nat.{_+_, _/_, _^_, _<_, _≤_};
-ghost use Rattle.slots.specs.Numerology.{groupMs};
-ghost use Rattle.windows.specs.Windows.{isOneOf, periods, starts, repetitions, isListed, areListed, sharesTone, isClear, windowsRefusal, openTo, refusalOn};
-ghost use Rattle.windows.specs.Quick.{barOf, barsOf, Judged};
+ghost use Rattle.numerology.specs.Numerology.{groupMs};
+ghost use Rattle.windows.specs.Windows.{isOneOf, periods, starts, repetitions, isListed, areListed, sharesTone, openTo};
+ghost use Rattle.windows.specs.Quick.{barOf, barsOf, Leveled};
 ghost use Rattle.grid.specs.Grid.{uplinkSubcarriers};
 use bars::Bar;
 use bars::Bars;
@@ -26,12 +26,6 @@ pub struct Windows {
     pub w2: Window,
     pub w3: Window,
     pub w4: Window,
-}
-
-// A refusal's number, or 0 and the groups that the windows close.
-pub struct Verdict {
-    pub no: u64,
-    pub levels: Levels,
 }
 
 // The shortest period, which divides every other.
@@ -89,7 +83,7 @@ fn is_sound(read: bool, w: Window) -> bool
 }
 
 // At most four windows, and each that is read is listed.
-fn are_listed(ws: Windows) -> bool
+pub fn are_listed(ws: Windows) -> bool
     ensures { λ r. ⌜ r ≡ areListed ws ⌝ }
 {
     let count = ws.count;
@@ -158,36 +152,12 @@ fn bars_by(ms: u64, tone: u64, tones: u64, ws: Windows) -> Bars
     }
 }
 
-// A number alone.
-pub fn unbarred(no: u64) -> Verdict
-    ensures { λ r. ⌜ r .no ≡ no ⌝ }
+// The groups that listed windows close to the tones of a grant, by its spacing, as levels of bars.
+pub fn levels(spacing: u64, tone: u64, tones: u64, ws: Windows) -> Levels
+    requires { ⌜ (tone + tones ≤ uplinkSubcarriers spacing) × (areListed ws ≡ true) ⌝ }
+    ensures { λ r. ⌜ Leveled (groupMs spacing) (openTo spacing tone tones ws) r ⌝ }
 {
-    Verdict {
-        no,
-        levels: bars::no_levels(),
-    }
-}
-
-// 19, 20, or 0 with the groups that the windows close.
-fn judge_by(ms: u64, tone: u64, tones: u64, ws: Windows) -> Verdict
-    requires { ⌜ (1 ≤ ms) × (ms ≤ 2) × (tone ≤ 48) × (tones ≤ 48) ⌝ }
-    ensures { λ r. ⌜ Judged (8 / ms) (windowsRefusal ms tone tones ws) (isClear ms tone tones ws) r ⌝ }
-{
-    if !are_listed(ws) {
-        return unbarred(19);
-    }
-    let levels = bars::levels_of(bars_by(ms, tone, tones, ws));
-    if bars::is_some(levels, ALL_PERIODS / ms) {
-        return Verdict { no: 0, levels };
-    }
-    unbarred(20)
-}
-
-// The windows' verdict on the tones of a grant, by its spacing.
-pub fn judge(spacing: u64, tone: u64, tones: u64, ws: Windows) -> Verdict
-    requires { ⌜ tone + tones ≤ uplinkSubcarriers spacing ⌝ }
-    ensures { λ r. ⌜ Judged (8 / groupMs spacing) (refusalOn spacing tone tones ws) (openTo spacing tone tones ws) r ⌝ }
-{
-    let scale = slots::narrow_tones(spacing);
-    judge_by(slots::group_ms(spacing), scale * tone, scale * tones, ws)
+    let scale = numerology::narrow_tones(spacing);
+    let ms = numerology::group_ms(spacing);
+    bars::levels_of(bars_by(ms, scale * tone, scale * tones, ws))
 }

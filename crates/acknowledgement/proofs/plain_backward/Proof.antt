@@ -1,14 +1,14 @@
-use mathlib.Core.Path.{_≡_, refl, sym, _∙_}
+use mathlib.Core.Path.{_≡_, sym, _∙_}
 use Rattle.slots.specs.Fits.{Fits}
 use Rattle.slots.specs.Timing.{allOpen}
 use Rattle.slots.specs.Quick.{sized}
 use Rattle.slots.proofs.Judging.{refused-back-is, fits-asked, backward-asked}
 use Rattle.acknowledgement.specs.declared.AckFields.{AckFields}
-use Rattle.acknowledgement.specs.Quick.{unwindowed}
+use Rattle.acknowledgement.specs.Unwindowed.{unwindowed}
 use Rattle.acknowledgement.specs.Refusals.{refusal}
 use Rattle.acknowledgement.specs.Shaping.{shapeOf, openOf}
 use Rattle.acknowledgement.specs.Questions.{backwardOf}
-use Rattle.acknowledgement.proofs.Accepting.{fits, plain-refusal, plain-open, same-shape}
+use Rattle.acknowledgement.proofs.Accepting.{fits, plain-refusal, plain-open, sized-own}
 use Rattle.acknowledgement.proofs.plain_backward.Statement.{statement}
 use Rattle.acknowledgement.proofs.plain_backward.Tie as tie
 
@@ -24,7 +24,7 @@ module _ (c : tie.After-shape) where
   accepted = sym (number (c .before .before)) ∙ c .before .if1 .left
 
   own : c .shape .result ≡ sized (shapeOf (unwindowed f)) 1 1
-  own = c .shape .ensures ∙ same-shape (unwindowed f) f refl
+  own = c .shape .ensures ∙ sym (sized-own (unwindowed f))
 
   fitting : Fits (c .shape .result)
   fitting = fits-asked (shapeOf (unwindowed f)) _ 1 1 own (fits (unwindowed f) accepted)

@@ -1,11 +1,11 @@
-use mathlib.Core.Path.{_≡_, refl, sym, _∙_}
+use mathlib.Core.Path.{_≡_, sym, _∙_}
 use Rattle.slots.specs.Timing.{allOpen}
 use Rattle.slots.proofs.Judging.{refused-plan-is, fits-asked, plan-asked}
-use Rattle.acknowledgement.specs.Quick.{unwindowed}
+use Rattle.acknowledgement.specs.Unwindowed.{unwindowed}
 use Rattle.acknowledgement.specs.Refusals.{refusal}
 use Rattle.acknowledgement.specs.Shaping.{shapeOf, openOf}
 use Rattle.acknowledgement.specs.Questions.{planOf}
-use Rattle.acknowledgement.proofs.Accepting.{fits, plain-refusal, plain-open, same-shape, sized-own}
+use Rattle.acknowledgement.proofs.Accepting.{fits, plain-refusal, plain-open, sized-own}
 use Rattle.acknowledgement.proofs.plain_plan.Statement.{statement}
 use Rattle.acknowledgement.proofs.plain_plan.Tie as tie
 
@@ -30,7 +30,7 @@ returns-2 c =
     let f = e .before .before .args .f in
     let g = unwindowed f in
     c .plain-plan .ensures
-    ∙ plan-asked (shapeOf g) _ 1 1 (c .before .shape .ensures ∙ same-shape g f refl) (openOf g) allOpen (plain-open f) (refusal g) (accepted e) (sized-own g)
+    ∙ plan-asked (shapeOf g) _ 1 1 (c .before .shape .ensures ∙ sym (sized-own g)) (openOf g) allOpen (plain-open f) (refusal g) (accepted e) (sized-own g)
 
 pub plain-plan-spec : {M : Type 1} → statement M
 plain-plan-spec =
@@ -43,5 +43,5 @@ plain-plan-spec =
     (λ c κs.
     let f = c .before .before .before .args .f in
     let g = unwindowed f in
-    fits-asked (shapeOf g) _ 1 1 (c .shape .ensures ∙ same-shape g f refl) (fits g (accepted (c .before))))
+    fits-asked (shapeOf g) _ 1 1 (c .shape .ensures ∙ sym (sized-own g)) (fits g (accepted (c .before))))
     returns-2)

@@ -1,5 +1,5 @@
 use native.Mathlib.Omega.{arith}
-use Rattle.acknowledgement.specs.Quick.{unwindowed}
+use Rattle.acknowledgement.specs.Unwindowed.{unwindowed}
 use Rattle.acknowledgement.specs.Shaping.{shapeOf}
 use Rattle.acknowledgement.proofs.Accepting.{ranged}
 use Rattle.acknowledgement.proofs.shape.Statement.{statement}

@@ -1,8 +1,8 @@
 use mathlib.Core.Path.{ap, _∙_}
 use Prim.Native.Nat.{ℕ, _+_, _-_}
 use native.Mathlib.Omega.{arith}
-use Rattle.slots.specs.Numerology.{firstAfter}
-use Rattle.acknowledgement.specs.Quick.{unwindowed}
+use Rattle.numerology.specs.Numerology.{firstAfter}
+use Rattle.acknowledgement.specs.Unwindowed.{unwindowed}
 use Rattle.acknowledgement.proofs.Accepting.{InRange, ranged, Named, named}
 use Rattle.acknowledgement.proofs.start.Statement.{statement}
 use Rattle.acknowledgement.proofs.start.Tie as tie

@@ -1,5 +1,4 @@
 use mathlib.Core.Path.{_≡_, sym, ap, ap₂, subst, _∙_}
-use Rattle.bars.specs.declared.Bar.{Bar}
 use Rattle.bars.specs.declared.Bars.{Bars}
 use Rattle.bars.specs.Bars.{clear}
 use Rattle.bars.specs.Quick.{cappedOf, lowerOf, upperOf, networkOf, orderedOf, OneOfTheirs, Sorted}

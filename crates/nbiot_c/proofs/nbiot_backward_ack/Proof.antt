@@ -1,8 +1,8 @@
 use mathlib.Core.Path.{ap, _∙_}
 use borrow.Author.Needs.{needs}
-use Rattle.nbiot_c.specs.Buffers.{backNumbers}
+use Rattle.buffers.specs.Buffers.{backNumbers}
 use Rattle.nbiot_c.specs.Calls as calls
-use Rattle.nbiot_c.proofs.Replies.{unread, replied}
+use Rattle.buffers.proofs.Replies.{unread, replied}
 use Rattle.nbiot_c.proofs.nbiot_backward_ack.Statement.{statement}
 use Rattle.nbiot_c.proofs.nbiot_backward_ack.Tie as tie
 

@@ -1,9 +1,9 @@
 use mathlib.Core.Path.{_∙_}
 use borrow.Author.Needs.{needs}
 use Rattle.control.specs.Questions as control
-use Rattle.nbiot_c.specs.Buffers.{cellOf, controlGrantOf}
+use Rattle.buffers.specs.Buffers.{cellOf, controlGrantOf}
 use Rattle.nbiot_c.specs.Calls as calls
-use Rattle.nbiot_c.proofs.Replies.{unread, replied, back-with}
+use Rattle.buffers.proofs.Replies.{unread, replied, back-with}
 use Rattle.nbiot_c.proofs.nbiot_backward_control.Statement.{statement}
 use Rattle.nbiot_c.proofs.nbiot_backward_control.Tie as tie
 

@@ -1,9 +1,9 @@
 use mathlib.Core.Path.{_∙_}
 use borrow.Author.Needs.{needs}
 use Rattle.downlink.specs.Questions as down
-use Rattle.nbiot_c.specs.Buffers.{cellOf, downGrantOf}
+use Rattle.buffers.specs.Buffers.{cellOf, downGrantOf}
 use Rattle.nbiot_c.specs.Calls as calls
-use Rattle.nbiot_c.proofs.Replies.{unread, replied, back-with}
+use Rattle.buffers.proofs.Replies.{unread, replied, back-with}
 use Rattle.nbiot_c.proofs.nbiot_backward_down.Statement.{statement}
 use Rattle.nbiot_c.proofs.nbiot_backward_down.Tie as tie
 

@@ -3,7 +3,7 @@ use borrow.Author.Needs.{needs}
 use Rattle.cell.specs.declared.Cell.{Cell}
 use Rattle.nbiot_c.specs.Calls as calls
 use Rattle.nbiot_c.proofs.Bitmap.{refused-numbers, accepted-numbers}
-use Rattle.nbiot_c.proofs.Replies.{unread, replied}
+use Rattle.buffers.proofs.Replies.{unread, replied}
 use Rattle.nbiot_c.proofs.nbiot_bitmap.Statement.{statement}
 use Rattle.nbiot_c.proofs.nbiot_bitmap.Tie as tie
 

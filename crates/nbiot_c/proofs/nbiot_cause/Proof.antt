@@ -1,9 +1,9 @@
 use mathlib.Core.Path.{_∙_}
 use borrow.Author.Needs.{needs}
 use Rattle.cell.specs.Judge.{causeOf}
-use Rattle.nbiot_c.specs.Buffers.{cellOf}
+use Rattle.buffers.specs.Buffers.{cellOf}
 use Rattle.nbiot_c.specs.Calls as calls
-use Rattle.nbiot_c.proofs.Replies.{unread, replied, cause-with}
+use Rattle.buffers.proofs.Replies.{unread, replied, cause-with}
 use Rattle.nbiot_c.proofs.nbiot_cause.Statement.{statement}
 use Rattle.nbiot_c.proofs.nbiot_cause.Tie as tie
 

@@ -2,9 +2,9 @@ use mathlib.Core.Path.{ap, _∙_}
 use borrow.Author.Needs.{needs}
 use Rattle.cell.specs.declared.Cell.{Cell}
 use Rattle.subframes.specs.Cells.{elementCountOf}
-use Rattle.nbiot_c.specs.Buffers.{countNumbers}
+use Rattle.buffers.specs.Buffers.{countNumbers}
 use Rattle.nbiot_c.specs.Calls as calls
-use Rattle.nbiot_c.proofs.Replies.{unread, replied}
+use Rattle.buffers.proofs.Replies.{unread, replied}
 use Rattle.nbiot_c.proofs.nbiot_count.Statement.{statement}
 use Rattle.nbiot_c.proofs.nbiot_count.Tie as tie
 

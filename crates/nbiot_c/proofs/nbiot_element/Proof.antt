@@ -7,7 +7,7 @@ use Rattle.symbol.specs.Outgoing.{numbersOf}
 use Rattle.fill.specs.Element.{elementAnswer}
 use Rattle.counting.proofs.Facts.{either-parts}
 use Rattle.nbiot_c.specs.Calls as calls
-use Rattle.nbiot_c.proofs.Replies.{unread-element, replied-element}
+use Rattle.buffers.proofs.Replies.{unread-element, replied-element}
 use Rattle.nbiot_c.proofs.nbiot_element.Statement.{statement}
 use Rattle.nbiot_c.proofs.nbiot_element.Tie as tie
 

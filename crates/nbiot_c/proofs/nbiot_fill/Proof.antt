@@ -5,7 +5,7 @@ use Rattle.downlink.specs.declared.DownlinkGrant.{DownlinkGrant}
 use Rattle.fill.specs.Refusals.{fillRefusal}
 use Rattle.fill.specs.Fill.{outputOf}
 use Rattle.nbiot_c.specs.Calls as calls
-use Rattle.nbiot_c.proofs.Replies.{unread-fill, replied-fill}
+use Rattle.buffers.proofs.Replies.{unread-fill, replied-fill}
 use Rattle.nbiot_c.proofs.nbiot_fill.Statement.{statement}
 use Rattle.nbiot_c.proofs.nbiot_fill.Tie as tie
 

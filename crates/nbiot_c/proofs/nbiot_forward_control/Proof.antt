@@ -1,7 +1,7 @@
 use mathlib.Core.Path.{refl}
 use borrow.Author.Needs.{needs}
 use Rattle.nbiot_c.specs.Calls as calls
-use Rattle.nbiot_c.proofs.Replies.{unread, replied}
+use Rattle.buffers.proofs.Replies.{unread, replied}
 use Rattle.nbiot_c.proofs.nbiot_forward_control.Statement.{statement}
 use Rattle.nbiot_c.proofs.nbiot_forward_control.Tie as tie
 

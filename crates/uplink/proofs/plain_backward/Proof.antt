@@ -4,7 +4,7 @@ use Rattle.slots.specs.Timing.{allOpen}
 use Rattle.slots.specs.Quick.{sized}
 use Rattle.slots.proofs.Judging.{refused-back-is, fits-asked, backward-asked}
 use Rattle.uplink.specs.declared.UplinkFields.{UplinkFields}
-use Rattle.uplink.specs.Quick.{unwindowed}
+use Rattle.uplink.specs.Unwindowed.{unwindowed}
 use Rattle.uplink.specs.Refusals.{refusal}
 use Rattle.uplink.specs.Shaping.{shapeOf, openOf}
 use Rattle.uplink.specs.Questions.{backwardOf}

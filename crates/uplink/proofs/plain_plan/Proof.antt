@@ -1,7 +1,7 @@
 use mathlib.Core.Path.{_≡_, sym, _∙_}
 use Rattle.slots.specs.Timing.{allOpen}
 use Rattle.slots.proofs.Judging.{refused-plan-is, fits-asked, plan-asked}
-use Rattle.uplink.specs.Quick.{unwindowed}
+use Rattle.uplink.specs.Unwindowed.{unwindowed}
 use Rattle.uplink.specs.Refusals.{refusal}
 use Rattle.uplink.specs.Shaping.{shapeOf, openOf}
 use Rattle.uplink.specs.Questions.{planOf}

@@ -1,6 +1,6 @@
 use native.Mathlib.Omega.{arith}
 use Rattle.grid.proofs.Rules.{uplink-copies-bounds}
-use Rattle.uplink.specs.Quick.{unwindowed}
+use Rattle.uplink.specs.Unwindowed.{unwindowed}
 use Rattle.uplink.specs.Refusals.{lastSubframe}
 use Rattle.uplink.proofs.Acceptance.{InRange, ranged}
 use Rattle.uplink.proofs.Shaped.{shape-is}

@@ -2,7 +2,7 @@ use mathlib.Core.Path.{ap, _∙_}
 use Prim.Native.Nat.{ℕ}
 use native.Mathlib.Omega.{arith}
 use Rattle.uplink.specs.Fields.{blockSize, orderOf}
-use Rattle.uplink.specs.Quick.{unwindowed}
+use Rattle.uplink.specs.Unwindowed.{unwindowed}
 use Rattle.uplink.specs.Refusals.{lastSubframe}
 use Rattle.uplink.proofs.Acceptance.{InRange, ranged}
 use Rattle.uplink.proofs.sizes_of.Statement.{statement}

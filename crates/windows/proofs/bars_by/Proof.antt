@@ -1,4 +1,3 @@
-use mathlib.Core.Path.{_≡_}
 use Rattle.windows.specs.Quick.{barsOf}
 use Rattle.windows.proofs.Listing.{listed-1, listed-2, listed-3, listed-4}
 use Rattle.windows.proofs.bars_by.Statement.{statement}

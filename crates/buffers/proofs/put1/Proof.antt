@@ -1,0 +1,20 @@
+use mathlib.Core.List.{[], _∷_}
+use mathlib.Core.Path.{refl}
+use native.Mathlib.Omega.{arith}
+use lib.ListN.{length-set}
+use Rattle.buffers.proofs.Replies.{stored}
+use Rattle.buffers.proofs.put1.Statement.{statement}
+use Rattle.buffers.proofs.put1.Tie as tie
+
+returns : tie.Need-returns
+returns c =
+    let x = c .args in
+    (refl, stored (x .a ∷ []) (x .s .now) (c .pre))
+
+pub put1-spec : {M : Type 1} → statement M
+put1-spec =
+    tie.close
+    (tie.spec
+    (λ c. omega arith)
+    (λ c. simp length-set)
+    returns)

@@ -1,0 +1,20 @@
+use borrow.Author.Needs.{needs}
+use Rattle.buffers.proofs.up_grant_of.Statement.{statement}
+use Rattle.buffers.proofs.up_grant_of.Tie as tie
+
+returns : tie.Need-returns
+returns c = simp (c .windows-of .ensures)
+
+pub up-grant-of-spec : {M : Type 1} → statement M
+up-grant-of-spec =
+    tie.close
+    (tie.spec
+    (λ c. search needs)
+    (λ c. search needs)
+    (λ c. search needs)
+    (λ c. search needs)
+    (λ c. search needs)
+    (λ c. search needs)
+    (λ c. search needs)
+    (λ c κs. search needs)
+    returns)

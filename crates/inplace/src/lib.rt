@@ -1,0 +1,24 @@
+// The step of a walk in place: the caller's own record is moved.
+ghost use mathlib.Core.Path.{_≡_};
+ghost use Rattle.walk.specs.Step.{steppedOf};
+use walk::Stepped;
+use walk::Walk;
+use walk::WalkPlace;
+
+// One step: the answer at p, and p moved on. A refused or finished walk stays as it is.
+pub fn step(w: &mut Walk, anchor: &[u8], other: &[u8]) -> WalkPlace
+    ensures { λ r. ⌜ (r ≡ steppedOf (now (w .entry)) (now (anchor .entry)) (now (other .entry)) .answer) × (now (w .exit) ≡ steppedOf (now (w .entry)) (now (anchor .entry)) (now (other .entry)) .walk) ⌝ }
+{
+    let moved = walk::advance(*w, anchor, other);
+    w.p = moved.p;
+    moved.answer
+}
+
+// The step of a record by value, for callers that lend none.
+pub fn step_value(w: Walk, anchor: &[u8], other: &[u8]) -> Stepped
+    ensures { λ r. ⌜ r ≡ steppedOf w (now (anchor .entry)) (now (other .entry)) ⌝ }
+{
+    let mut v = w;
+    let answer = step(&mut v, anchor, other);
+    Stepped { answer, walk: v }
+}

@@ -1,0 +1,29 @@
+use mathlib.Core.Path.{ap, _∙_}
+use borrow.Author.Needs.{needs}
+use Rattle.slots.specs.declared.UplinkPlan.{UplinkPlan}
+use Rattle.acknowledgement.specs.declared.AckFields.{AckFields}
+use Rattle.acknowledgement.specs.Unwindowed.{unwindowed}
+use Rattle.acknowledgement.specs.Questions.{planOf}
+use Rattle.buffers.specs.Buffers.{ackFieldsOf, upPlanNumbers}
+use Rattle.buffers.proofs.Replies.{put-is}
+use Rattle.lent.proofs.plain_plan_ack.Statement.{statement}
+use Rattle.lent.proofs.plain_plan_ack.Tie as tie
+
+returns : tie.Need-returns
+returns c =
+    let put = c .before .before in
+    let asked = put .before .before in
+    let x = asked .before .before .before .before .args in
+    put-is (λ (a : UplinkPlan). a .no) upPlanNumbers (planOf (unwindowed (ackFieldsOf (x .grant .now)))) (x .answer .now)
+    (asked .plain-plan-ack .ensures ∙ ap (λ (f : AckFields). planOf (unwindowed f)) (asked .before .ack-fields-of .ensures))
+    (put .put7 .ensures .0) (put .put7 .ensures .1)
+
+pub plain-plan-ack-spec : {M : Type 1} → statement M
+plain-plan-ack-spec =
+    tie.close
+    (tie.spec
+    (λ c κs. search needs)
+    (λ c κs. search needs)
+    (λ c κs. search needs)
+    (λ c. search needs)
+    returns)

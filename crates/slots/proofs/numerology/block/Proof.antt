@@ -1,8 +1,0 @@
-use mathlib.Core.Path.{_∙_}
-use lib.Dec.{eqb}
-use Rattle.slots.proofs.Spacing.{block-is}
-use Rattle.slots.proofs.numerology.block.Statement.{statement}
-use Rattle.slots.proofs.numerology.block.Tie as tie
-
-pub block-spec : {M : Type 1} → statement M
-block-spec = tie.close (tie.spec (λ c κs. tt) (λ c. c .by-spacing .ensures ∙ block-is (eqb (c .before .args .spacing) 0)))

@@ -1,0 +1,59 @@
+// Uplink questions on a shape beside random access windows: refusals 19 and 20, and the slots that the windows leave.
+ghost use mathlib.Core.Path.{_≡_};
+ghost use Rattle.slots.specs.Fits.{Fits};
+ghost use Rattle.slots.specs.Answers.{planAnswer, forwardAnswer, backwardAnswer};
+ghost use Rattle.windowed.specs.Beside.{refusalBeside, openBeside, Spaced};
+use sending::Back;
+use slots::Shape;
+use slots::UplinkPlace;
+use slots::UplinkPlan;
+use windows::Windows;
+
+// A fifth window, a number that is not listed, or tones past 47.
+const NOT_LISTED: u64 = 19;
+
+// No group is ever free on the granted tones.
+const NEVER_FREE: u64 = 20;
+
+pub fn plan(spacing: u64, s: Shape, ws: Windows) -> UplinkPlan
+    requires { ⌜ Fits s × Spaced spacing s ⌝ }
+    ensures { λ r. ⌜ r ≡ planAnswer (refusalBeside spacing s ws) s (openBeside spacing s ws) ⌝ }
+{
+    if !windows::are_listed(ws) {
+        return slots::refused_plan(NOT_LISTED);
+    }
+    let ls = windows::levels(spacing, s.tone, s.tones, ws);
+    if ls.clear == 0 {
+        return slots::refused_plan(NEVER_FREE);
+    }
+    slots::plan(s, ls)
+}
+
+pub fn forward(spacing: u64, s: Shape, ws: Windows, p: u64) -> UplinkPlace
+    requires { ⌜ Fits s × Spaced spacing s ⌝ }
+    ensures { λ r. ⌜ r ≡ forwardAnswer (refusalBeside spacing s ws) s (openBeside spacing s ws) p ⌝ }
+{
+    if !windows::are_listed(ws) {
+        return slots::refused_place(NOT_LISTED);
+    }
+    let ls = windows::levels(spacing, s.tone, s.tones, ws);
+    if ls.clear == 0 {
+        return slots::refused_place(NEVER_FREE);
+    }
+    let at = slots::taken_apart(s, p);
+    slots::forward(s, p, at, slots::slot_at(s, ls, at.i))
+}
+
+pub fn backward(spacing: u64, s: Shape, ws: Windows, slot: u64, l: u64, k: u64) -> Back
+    requires { ⌜ Fits s × Spaced spacing s ⌝ }
+    ensures { λ r. ⌜ r ≡ backwardAnswer (refusalBeside spacing s ws) s (openBeside spacing s ws) slot l k ⌝ }
+{
+    if !windows::are_listed(ws) {
+        return sending::refused(NOT_LISTED);
+    }
+    let ls = windows::levels(spacing, s.tone, s.tones, ws);
+    if ls.clear == 0 {
+        return sending::refused(NEVER_FREE);
+    }
+    slots::backward(s, slot, slots::locate(s, ls, slot), l, k)
+}
