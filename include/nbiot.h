@@ -83,8 +83,9 @@ enum {
 
 /*
  * Random access windows, which postpone uplink slots: a count up to 4, then four windows; those past the count are not read, but
- * the buffer has all 17 numbers. A buffer of no numbers is no window. The windows are lent with each uplink call.
- * Window i, from 0, has its numbers from NBIOT_WINDOWS_FIRST + i * NBIOT_WINDOW_NUMBERS on.
+ * the buffer has all 17 numbers. Window i, from 0, has its numbers from NBIOT_WINDOWS_FIRST + i * NBIOT_WINDOW_NUMBERS on.
+ * Each uplink function is here twice: by its plain name it knows no window; where the name ends in _windows they are lent, after
+ * the grant or the walk. Lent a buffer of no numbers or a count of 0, that one answers what the plain one does.
  */
 enum {
     NBIOT_WINDOW_PERIOD, /* 40, 80, 160, 320, 640, 1280 or 2560 ms */
@@ -191,12 +192,18 @@ enum {
 };
 
 uint64_t nbiot_plan_up(const uint64_t *grant, size_t grant_len,
-                       const uint64_t *windows, size_t windows_len,
                        uint64_t *answer, size_t answer_len);
 
+uint64_t nbiot_plan_up_windows(const uint64_t *grant, size_t grant_len,
+                               const uint64_t *windows, size_t windows_len,
+                               uint64_t *answer, size_t answer_len);
+
 uint64_t nbiot_plan_ack(const uint64_t *grant, size_t grant_len,
-                        const uint64_t *windows, size_t windows_len,
                         uint64_t *answer, size_t answer_len);
+
+uint64_t nbiot_plan_ack_windows(const uint64_t *grant, size_t grant_len,
+                                const uint64_t *windows, size_t windows_len,
+                                uint64_t *answer, size_t answer_len);
 
 uint64_t nbiot_plan_down(const uint64_t *cell, size_t cell_len,
                          const uint8_t *anchor, size_t anchor_len,
@@ -230,13 +237,19 @@ enum {
     NBIOT_PLACE_NUMBERS
 };
 
-uint64_t nbiot_forward_up(const uint64_t *grant, size_t grant_len,
-                          const uint64_t *windows, size_t windows_len, uint64_t p,
+uint64_t nbiot_forward_up(const uint64_t *grant, size_t grant_len, uint64_t p,
                           uint64_t *answer, size_t answer_len);
 
-uint64_t nbiot_forward_ack(const uint64_t *grant, size_t grant_len,
-                           const uint64_t *windows, size_t windows_len, uint64_t p,
+uint64_t nbiot_forward_up_windows(const uint64_t *grant, size_t grant_len,
+                                  const uint64_t *windows, size_t windows_len, uint64_t p,
+                                  uint64_t *answer, size_t answer_len);
+
+uint64_t nbiot_forward_ack(const uint64_t *grant, size_t grant_len, uint64_t p,
                            uint64_t *answer, size_t answer_len);
+
+uint64_t nbiot_forward_ack_windows(const uint64_t *grant, size_t grant_len,
+                                   const uint64_t *windows, size_t windows_len, uint64_t p,
+                                   uint64_t *answer, size_t answer_len);
 
 uint64_t nbiot_forward_down(const uint64_t *cell, size_t cell_len,
                             const uint8_t *anchor, size_t anchor_len,
@@ -266,14 +279,22 @@ enum {
 };
 
 uint64_t nbiot_backward_up(const uint64_t *grant, size_t grant_len,
-                           const uint64_t *windows, size_t windows_len,
                            uint64_t slot, uint64_t l, uint64_t k,
                            uint64_t *answer, size_t answer_len);
 
+uint64_t nbiot_backward_up_windows(const uint64_t *grant, size_t grant_len,
+                                   const uint64_t *windows, size_t windows_len,
+                                   uint64_t slot, uint64_t l, uint64_t k,
+                                   uint64_t *answer, size_t answer_len);
+
 uint64_t nbiot_backward_ack(const uint64_t *grant, size_t grant_len,
-                            const uint64_t *windows, size_t windows_len,
                             uint64_t slot, uint64_t l, uint64_t k,
                             uint64_t *answer, size_t answer_len);
+
+uint64_t nbiot_backward_ack_windows(const uint64_t *grant, size_t grant_len,
+                                    const uint64_t *windows, size_t windows_len,
+                                    uint64_t slot, uint64_t l, uint64_t k,
+                                    uint64_t *answer, size_t answer_len);
 
 uint64_t nbiot_backward_down(const uint64_t *cell, size_t cell_len,
                              const uint8_t *anchor, size_t anchor_len,
@@ -317,12 +338,18 @@ enum {
 };
 
 uint64_t nbiot_step_up(uint64_t *walk, size_t walk_len,
-                       const uint64_t *windows, size_t windows_len,
                        uint64_t *answer, size_t answer_len);
 
+uint64_t nbiot_step_up_windows(uint64_t *walk, size_t walk_len,
+                               const uint64_t *windows, size_t windows_len,
+                               uint64_t *answer, size_t answer_len);
+
 uint64_t nbiot_step_ack(uint64_t *walk, size_t walk_len,
-                        const uint64_t *windows, size_t windows_len,
                         uint64_t *answer, size_t answer_len);
+
+uint64_t nbiot_step_ack_windows(uint64_t *walk, size_t walk_len,
+                                const uint64_t *windows, size_t windows_len,
+                                uint64_t *answer, size_t answer_len);
 
 uint64_t nbiot_step_down(uint64_t *walk, size_t walk_len,
                          const uint8_t *anchor, size_t anchor_len,

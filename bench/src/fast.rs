@@ -10,12 +10,16 @@ mod fill;
 mod timeline;
 mod uplink;
 
-pub use acknowledgement::{backward_ack, forward_ack, plan_ack, step_ack};
+pub use acknowledgement::{
+    backward_ack, backward_ack_windows, forward_ack, forward_ack_windows, plan_ack, plan_ack_windows, step_ack, step_ack_windows,
+};
 pub use cell::{cause, judge};
 pub use elements::count;
 pub use downlink::{backward_control, backward_down, forward_control, forward_down, plan_control, plan_down, step_control, step_down};
 pub use fill::{element, fill};
-pub use uplink::{backward_up, forward_up, plan_up, step_up};
+pub use uplink::{
+    backward_up, backward_up_windows, forward_up, forward_up_windows, plan_up, plan_up_windows, step_up, step_up_windows,
+};
 
 pub type Cell = [u64; 8];
 pub type UpGrant = [u64; 7];

@@ -22,16 +22,16 @@ fn times(scenes: &mut [Scene]) -> [f64; 3] {
     [planned, forward, backward]
 }
 
-/// The same of the uplink.
+/// The same of the uplink, beside windows.
 fn uplink_times(scenes: &mut [Scene]) -> [f64; 3] {
     let (mut plan, mut place, mut back) = ([0; 7], [0; 5], [0; 5]);
-    let (planned, _) = versus(scenes, |s| ours::plan_up(&s.up, &s.windows[0], &mut plan), |_| 0);
-    let (forward, _) = versus(scenes, |s| ours::forward_up(&s.up, &s.windows[0], s.p[0], &mut place), |_| 0);
+    let (planned, _) = versus(scenes, |s| ours::plan_up_windows(&s.up, &s.windows[0], &mut plan), |_| 0);
+    let (forward, _) = versus(scenes, |s| ours::forward_up_windows(&s.up, &s.windows[0], s.p[0], &mut place), |_| 0);
     let (backward, _) = versus(
         scenes,
         |s| {
             let [slot, l, k] = s.at_up;
-            ours::backward_up(&s.up, &s.windows[0], slot, l, k, &mut back)
+            ours::backward_up_windows(&s.up, &s.windows[0], slot, l, k, &mut back)
         },
         |_| 0,
     );

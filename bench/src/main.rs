@@ -3,6 +3,7 @@
 mod fast;
 mod growth;
 mod measure;
+mod none;
 mod ours;
 mod questions;
 mod scene;
@@ -17,6 +18,7 @@ fn main() {
     let mut timed: Vec<Scene> = (0..TIMED).map(|_| Scene::accepted(&mut r)).collect();
     let mut ported: Vec<Scene> = timed.iter().map(|s| s.clone().with_one_port(&mut r)).collect();
     let mut compared: Vec<Scene> = (0..COMPARED).map(|_| Scene::any(&mut r)).collect();
+    none::compare(&compared);
     questions::table(&mut timed, &mut ported, &mut compared);
     let mut w = Random::new(0x2545_f491_4f6c_dd1d);
     let mut timed: Vec<Scene> = timed.into_iter().map(|s| s.beside_windows(&mut w)).collect();

@@ -11,8 +11,10 @@ extern "C" {
         cell: *const u64, cells: usize, anchor: *const u8, anchors: usize, other: *const u8, others: usize, t: u64,
         answer: *mut u64, answers: usize,
     ) -> u64;
-    fn nbiot_step_up(walk: *mut u64, walks: usize, windows: *const u64, lent: usize, answer: *mut u64, answers: usize) -> u64;
-    fn nbiot_step_ack(walk: *mut u64, walks: usize, windows: *const u64, lent: usize, answer: *mut u64, answers: usize) -> u64;
+    fn nbiot_step_up(walk: *mut u64, walks: usize, answer: *mut u64, answers: usize) -> u64;
+    fn nbiot_step_up_windows(walk: *mut u64, walks: usize, windows: *const u64, lent: usize, answer: *mut u64, answers: usize) -> u64;
+    fn nbiot_step_ack(walk: *mut u64, walks: usize, answer: *mut u64, answers: usize) -> u64;
+    fn nbiot_step_ack_windows(walk: *mut u64, walks: usize, windows: *const u64, lent: usize, answer: *mut u64, answers: usize) -> u64;
     fn nbiot_step_down(
         walk: *mut u64, walks: usize, anchor: *const u8, anchors: usize, other: *const u8, others: usize, answer: *mut u64, answers: usize,
     ) -> u64;
@@ -60,18 +62,26 @@ downlink! {
     backward_control nbiot_backward_control (t, slot, l, k) ControlGrant, 6;
 }
 
+/// Each question twice: without windows, and beside those that are lent.
 macro_rules! uplink {
-    ($($name:ident $extern:ident ($($number:ident),*) $grant:ty, $columns:literal;)*) => {
+    ($($name:ident $extern:ident, $beside:ident $windowed:ident ($($number:ident),*) $grant:ty, $columns:literal;)*) => {
         extern "C" {
-            $(fn $extern(
+            $(fn $extern(grant: *const u64, grants: usize, $($number: u64,)* answer: *mut u64, answers: usize) -> u64;
+            fn $windowed(
                 grant: *const u64, grants: usize, windows: *const u64, lent: usize, $($number: u64,)* answer: *mut u64, answers: usize,
             ) -> u64;)*
         }
         $(#[inline(always)]
-        pub fn $name(grant: &$grant, windows: &[u64], $($number: u64,)* answer: &mut [u64; $columns]) -> u64 {
+        pub fn $name(grant: &$grant, $($number: u64,)* answer: &mut [u64; $columns]) -> u64 {
+            // SAFETY: the pointers and lengths are those of slices, and only `answer` is written.
+            unsafe { $extern(grant.as_ptr(), grant.len(), $($number,)* answer.as_mut_ptr(), answer.len()) }
+        }
+
+        #[inline(always)]
+        pub fn $beside(grant: &$grant, windows: &[u64], $($number: u64,)* answer: &mut [u64; $columns]) -> u64 {
             // SAFETY: the pointers and lengths are those of slices, and only `answer` is written.
             unsafe {
-                $extern(
+                $windowed(
                     grant.as_ptr(), grant.len(), windows.as_ptr(), windows.len(), $($number,)* answer.as_mut_ptr(), answer.len(),
                 )
             }
@@ -80,12 +90,12 @@ macro_rules! uplink {
 }
 
 uplink! {
-    plan_up nbiot_plan_up () UpGrant, 7;
-    plan_ack nbiot_plan_ack () AckGrant, 7;
-    forward_up nbiot_forward_up (p) UpGrant, 5;
-    forward_ack nbiot_forward_ack (p) AckGrant, 5;
-    backward_up nbiot_backward_up (slot, l, k) UpGrant, 5;
-    backward_ack nbiot_backward_ack (slot, l, k) AckGrant, 5;
+    plan_up nbiot_plan_up, plan_up_windows nbiot_plan_up_windows () UpGrant, 7;
+    plan_ack nbiot_plan_ack, plan_ack_windows nbiot_plan_ack_windows () AckGrant, 7;
+    forward_up nbiot_forward_up, forward_up_windows nbiot_forward_up_windows (p) UpGrant, 5;
+    forward_ack nbiot_forward_ack, forward_ack_windows nbiot_forward_ack_windows (p) AckGrant, 5;
+    backward_up nbiot_backward_up, backward_up_windows nbiot_backward_up_windows (slot, l, k) UpGrant, 5;
+    backward_ack nbiot_backward_ack, backward_ack_windows nbiot_backward_ack_windows (slot, l, k) AckGrant, 5;
 }
 
 #[inline(always)]
@@ -113,15 +123,31 @@ pub fn cause(cell: &Cell, anchor: &[u8], other: &[u8], t: u64, answer: &mut [u64
 }
 
 #[inline(always)]
-pub fn step_up(walk: &mut UpWalk, windows: &[u64], answer: &mut [u64; 7]) -> u64 {
+pub fn step_up(walk: &mut UpWalk, answer: &mut [u64; 7]) -> u64 {
     // SAFETY: as above; only `walk` and `answer` are written.
-    unsafe { nbiot_step_up(walk.as_mut_ptr(), walk.len(), windows.as_ptr(), windows.len(), answer.as_mut_ptr(), answer.len()) }
+    unsafe { nbiot_step_up(walk.as_mut_ptr(), walk.len(), answer.as_mut_ptr(), answer.len()) }
 }
 
 #[inline(always)]
-pub fn step_ack(walk: &mut AckWalk, windows: &[u64], answer: &mut [u64; 7]) -> u64 {
+pub fn step_up_windows(walk: &mut UpWalk, windows: &[u64], answer: &mut [u64; 7]) -> u64 {
     // SAFETY: as above; only `walk` and `answer` are written.
-    unsafe { nbiot_step_ack(walk.as_mut_ptr(), walk.len(), windows.as_ptr(), windows.len(), answer.as_mut_ptr(), answer.len()) }
+    unsafe {
+        nbiot_step_up_windows(walk.as_mut_ptr(), walk.len(), windows.as_ptr(), windows.len(), answer.as_mut_ptr(), answer.len())
+    }
+}
+
+#[inline(always)]
+pub fn step_ack(walk: &mut AckWalk, answer: &mut [u64; 7]) -> u64 {
+    // SAFETY: as above; only `walk` and `answer` are written.
+    unsafe { nbiot_step_ack(walk.as_mut_ptr(), walk.len(), answer.as_mut_ptr(), answer.len()) }
+}
+
+#[inline(always)]
+pub fn step_ack_windows(walk: &mut AckWalk, windows: &[u64], answer: &mut [u64; 7]) -> u64 {
+    // SAFETY: as above; only `walk` and `answer` are written.
+    unsafe {
+        nbiot_step_ack_windows(walk.as_mut_ptr(), walk.len(), windows.as_ptr(), windows.len(), answer.as_mut_ptr(), answer.len())
+    }
 }
 
 #[inline(always)]

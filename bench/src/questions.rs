@@ -24,7 +24,7 @@ macro_rules! line {
             let no = $ours;
             agreed += (no == answer[0] && answer == $fast) as usize;
         }
-        report(&$name, ours_ns, fast_ns, agreed, $compared.len());
+        report($name, ours_ns, fast_ns, agreed, $compared.len());
     }};
 }
 
@@ -49,10 +49,10 @@ pub fn table(timed: &mut [Scene], ported: &mut [Scene], compared: &mut [Scene]) 
 
 /// The uplink's lines again, of scenes with random access windows.
 pub fn beside_windows(timed: &mut [Scene], compared: &mut [Scene]) {
-    plan_uplink(", windows", timed, compared);
-    forward_uplink(", windows", timed, compared);
-    backward_uplink(", windows", timed, compared);
-    step_uplink(", windows", timed, compared);
+    plans_beside(timed, compared);
+    forwards_beside(timed, compared);
+    backwards_beside(timed, compared);
+    steps_beside(timed, compared);
 }
 
 fn judge(timed: &mut [Scene], compared: &[Scene]) {
@@ -81,21 +81,17 @@ fn cause(timed: &mut [Scene], compared: &mut [Scene]) {
     );
 }
 
-fn plan_uplink(with: &str, timed: &mut [Scene], compared: &mut [Scene]) {
-    line!(
-        format!("plan up{with}"), timed, compared, 7,
-        |s, a| ours::plan_up(&s.up, &s.windows[0], a),
-        fast::plan_up(&s.up, &s.windows[0])
-    );
-    line!(
-        format!("plan ack{with}"), timed, compared, 7,
-        |s, a| ours::plan_ack(&s.ack, &s.windows[1], a),
-        fast::plan_ack(&s.ack, &s.windows[1])
-    );
-}
-
 fn plans(timed: &mut [Scene], compared: &mut [Scene]) {
-    plan_uplink("", timed, compared);
+    line!(
+        "plan up", timed, compared, 7,
+        |s, a| ours::plan_up(&s.up, a),
+        fast::plan_up(&s.up)
+    );
+    line!(
+        "plan ack", timed, compared, 7,
+        |s, a| ours::plan_ack(&s.ack, a),
+        fast::plan_ack(&s.ack)
+    );
     line!(
         "plan down", timed, compared, 5,
         |s, a| ours::plan_down(&s.cell, &s.anchor, &s.other, &s.down, a),
@@ -108,21 +104,30 @@ fn plans(timed: &mut [Scene], compared: &mut [Scene]) {
     );
 }
 
-fn forward_uplink(with: &str, timed: &mut [Scene], compared: &mut [Scene]) {
+fn plans_beside(timed: &mut [Scene], compared: &mut [Scene]) {
     line!(
-        format!("forward up{with}"), timed, compared, 5,
-        |s, a| ours::forward_up(&s.up, &s.windows[0], s.p[0], a),
-        fast::forward_up(&s.up, &s.windows[0], s.p[0])
+        "plan up, windows", timed, compared, 7,
+        |s, a| ours::plan_up_windows(&s.up, &s.windows[0], a),
+        fast::plan_up_windows(&s.up, &s.windows[0])
     );
     line!(
-        format!("forward ack{with}"), timed, compared, 5,
-        |s, a| ours::forward_ack(&s.ack, &s.windows[1], s.p[3], a),
-        fast::forward_ack(&s.ack, &s.windows[1], s.p[3])
+        "plan ack, windows", timed, compared, 7,
+        |s, a| ours::plan_ack_windows(&s.ack, &s.windows[1], a),
+        fast::plan_ack_windows(&s.ack, &s.windows[1])
     );
 }
 
 fn forwards(timed: &mut [Scene], compared: &mut [Scene]) {
-    forward_uplink("", timed, compared);
+    line!(
+        "forward up", timed, compared, 5,
+        |s, a| ours::forward_up(&s.up, s.p[0], a),
+        fast::forward_up(&s.up, s.p[0])
+    );
+    line!(
+        "forward ack", timed, compared, 5,
+        |s, a| ours::forward_ack(&s.ack, s.p[3], a),
+        fast::forward_ack(&s.ack, s.p[3])
+    );
     line!(
         "forward down", timed, compared, 6,
         |s, a| ours::forward_down(&s.cell, &s.anchor, &s.other, &s.down, s.p[1], a),
@@ -135,21 +140,30 @@ fn forwards(timed: &mut [Scene], compared: &mut [Scene]) {
     );
 }
 
-fn backward_uplink(with: &str, timed: &mut [Scene], compared: &mut [Scene]) {
+fn forwards_beside(timed: &mut [Scene], compared: &mut [Scene]) {
     line!(
-        format!("backward up{with}"), timed, compared, 5,
-        |s, a| ours::backward_up(&s.up, &s.windows[0], s.at_up[0], s.at_up[1], s.at_up[2], a),
-        fast::backward_up(&s.up, &s.windows[0], s.at_up)
+        "forward up, windows", timed, compared, 5,
+        |s, a| ours::forward_up_windows(&s.up, &s.windows[0], s.p[0], a),
+        fast::forward_up_windows(&s.up, &s.windows[0], s.p[0])
     );
     line!(
-        format!("backward ack{with}"), timed, compared, 5,
-        |s, a| ours::backward_ack(&s.ack, &s.windows[1], s.at_ack[0], s.at_ack[1], s.at_ack[2], a),
-        fast::backward_ack(&s.ack, &s.windows[1], s.at_ack)
+        "forward ack, windows", timed, compared, 5,
+        |s, a| ours::forward_ack_windows(&s.ack, &s.windows[1], s.p[3], a),
+        fast::forward_ack_windows(&s.ack, &s.windows[1], s.p[3])
     );
 }
 
 fn backwards(timed: &mut [Scene], compared: &mut [Scene]) {
-    backward_uplink("", timed, compared);
+    line!(
+        "backward up", timed, compared, 5,
+        |s, a| ours::backward_up(&s.up, s.at_up[0], s.at_up[1], s.at_up[2], a),
+        fast::backward_up(&s.up, s.at_up)
+    );
+    line!(
+        "backward ack", timed, compared, 5,
+        |s, a| ours::backward_ack(&s.ack, s.at_ack[0], s.at_ack[1], s.at_ack[2], a),
+        fast::backward_ack(&s.ack, s.at_ack)
+    );
     line!(
         "backward down", timed, compared, 6,
         |s, a| {
@@ -168,7 +182,20 @@ fn backwards(timed: &mut [Scene], compared: &mut [Scene]) {
     );
 }
 
-/// A step from the scene's position: the record's position is set before each, and shifted into the answer to compare it too.
+fn backwards_beside(timed: &mut [Scene], compared: &mut [Scene]) {
+    line!(
+        "backward up, windows", timed, compared, 5,
+        |s, a| ours::backward_up_windows(&s.up, &s.windows[0], s.at_up[0], s.at_up[1], s.at_up[2], a),
+        fast::backward_up_windows(&s.up, &s.windows[0], s.at_up)
+    );
+    line!(
+        "backward ack, windows", timed, compared, 5,
+        |s, a| ours::backward_ack_windows(&s.ack, &s.windows[1], s.at_ack[0], s.at_ack[1], s.at_ack[2], a),
+        fast::backward_ack_windows(&s.ack, &s.windows[1], s.at_ack)
+    );
+}
+
+/// A step from the scene's position: the record's position is set before each, and the records that are left are compared too.
 macro_rules! step {
     ($name:expr, $timed:expr, $compared:expr, $walk:ident, $p:literal, |$s:ident, $a:ident| $ours:expr, $fast:expr) => {{
         line!(
@@ -195,21 +222,17 @@ macro_rules! step {
     }};
 }
 
-fn step_uplink(with: &str, timed: &mut [Scene], compared: &mut [Scene]) {
-    step!(
-        format!("step up{with}"), timed, compared, walk_up, 0,
-        |s, a| ours::step_up(&mut s.walk_up, &s.windows[0], a),
-        fast::step_up(&mut s.walk_up, &s.windows[0])
-    );
-    step!(
-        format!("step ack{with}"), timed, compared, walk_ack, 3,
-        |s, a| ours::step_ack(&mut s.walk_ack, &s.windows[1], a),
-        fast::step_ack(&mut s.walk_ack, &s.windows[1])
-    );
-}
-
 fn steps(timed: &mut [Scene], compared: &mut [Scene]) {
-    step_uplink("", timed, compared);
+    step!(
+        "step up", timed, compared, walk_up, 0,
+        |s, a| ours::step_up(&mut s.walk_up, a),
+        fast::step_up(&mut s.walk_up)
+    );
+    step!(
+        "step ack", timed, compared, walk_ack, 3,
+        |s, a| ours::step_ack(&mut s.walk_ack, a),
+        fast::step_ack(&mut s.walk_ack)
+    );
     step!(
         "step down", timed, compared, walk_down, 1,
         |s, a| ours::step_down(&mut s.walk_down, &s.anchor, &s.other, a),
@@ -219,6 +242,19 @@ fn steps(timed: &mut [Scene], compared: &mut [Scene]) {
         "step control", timed, compared, walk_control, 2,
         |s, a| ours::step_control(&mut s.walk_control, &s.anchor, &s.other, a),
         fast::step_control(&mut s.walk_control, &s.anchor, &s.other)
+    );
+}
+
+fn steps_beside(timed: &mut [Scene], compared: &mut [Scene]) {
+    step!(
+        "step up, windows", timed, compared, walk_up, 0,
+        |s, a| ours::step_up_windows(&mut s.walk_up, &s.windows[0], a),
+        fast::step_up_windows(&mut s.walk_up, &s.windows[0])
+    );
+    step!(
+        "step ack, windows", timed, compared, walk_ack, 3,
+        |s, a| ours::step_ack_windows(&mut s.walk_ack, &s.windows[1], a),
+        fast::step_ack_windows(&mut s.walk_ack, &s.windows[1])
     );
 }
 

@@ -153,20 +153,24 @@ impl Scene {
         self.level = 1.0 / (1.0 + r.below(1000) as f32);
     }
 
+    /// How many places each grant has.
+    fn places(&self) -> [u64; 4] {
+        [
+            fast::plan_up_windows(&self.up, &self.windows[0])[4],
+            fast::plan_down(&self.cell, &self.anchor, &self.other, &self.down)[4],
+            fast::plan_control(&self.cell, &self.anchor, &self.other, &self.control)[4],
+            fast::plan_ack_windows(&self.ack, &self.windows[1])[4],
+        ]
+    }
+
     /// Positions below the places, and every other place one that is ours.
     pub fn aim(&mut self, r: &mut Random) {
         let s = &*self;
-        let plans = [
-            fast::plan_up(&s.up, &s.windows[0])[4],
-            fast::plan_down(&s.cell, &s.anchor, &s.other, &s.down)[4],
-            fast::plan_control(&s.cell, &s.anchor, &s.other, &s.control)[4],
-            fast::plan_ack(&s.ack, &s.windows[1])[4],
-        ];
-        let p = plans.map(|places| r.below(places.max(1)));
-        let [_, slot, l, k, _] = fast::forward_up(&s.up, &s.windows[0], p[0]);
+        let p = s.places().map(|places| r.below(places.max(1)));
+        let [_, slot, l, k, _] = fast::forward_up_windows(&s.up, &s.windows[0], p[0]);
         let [_, t, a, b, c, _] = fast::forward_down(&s.cell, &s.anchor, &s.other, &s.down, p[1]);
         let [_, u, d, e, f, _] = fast::forward_control(&s.cell, &s.anchor, &s.other, &s.control, p[2]);
-        let [_, at_ack @ .., _] = fast::forward_ack(&s.ack, &s.windows[1], p[3]);
+        let [_, at_ack @ .., _] = fast::forward_ack_windows(&s.ack, &s.windows[1], p[3]);
         (self.at_up, self.at_ack, self.at_down, self.at_control) = ([slot, l, k], at_ack, [t, a, b, c], [u, d, e, f]);
         if r.below(2) == 0 {
             let (slot, l, k) = (r.below(2), r.below(7), r.below(12));
@@ -188,7 +192,7 @@ impl Scene {
     /// Position p of the uplink grant, and its place.
     pub fn place_up(&mut self, p: u64) {
         self.p[0] = p;
-        let [_, at @ .., _] = fast::forward_up(&self.up, &self.windows[0], p);
+        let [_, at @ .., _] = fast::forward_up_windows(&self.up, &self.windows[0], p);
         self.at_up = at;
     }
 
@@ -218,8 +222,8 @@ impl Scene {
 
     /// The first tone of each uplink grant, at 3.75 kHz.
     fn first_tones(&self) -> [u64; 2] {
-        let up = fast::forward_up(&self.up, &[], 0)[3] << (2 * (self.up[1] & 1));
-        let ack = fast::forward_ack(&self.ack, &[], 0)[3] << (2 * (self.ack[1] & 1));
+        let up = fast::forward_up(&self.up, 0)[3] << (2 * (self.up[1] & 1));
+        let ack = fast::forward_ack(&self.ack, 0)[3] << (2 * (self.ack[1] & 1));
         [up, ack]
     }
 
@@ -228,7 +232,8 @@ impl Scene {
         let [up, ack] = self.first_tones();
         loop {
             self.windows = [windows(r, up), windows(r, ack)];
-            if fast::plan_up(&self.up, &self.windows[0])[0] == 0 && fast::plan_ack(&self.ack, &self.windows[1])[0] == 0 {
+            let no = [fast::plan_up_windows(&self.up, &self.windows[0])[0], fast::plan_ack_windows(&self.ack, &self.windows[1])[0]];
+            if no == [0, 0] {
                 self.aim(r);
                 self.record();
                 return self;
@@ -236,7 +241,7 @@ impl Scene {
         }
     }
 
-    /// Beside any windows: now and then a number that is not listed.
+    /// Beside any windows: now and then a number that is not listed, or the position after the last.
     pub fn beside_any_windows(mut self, r: &mut Random) -> Scene {
         let tones = self.first_tones();
         self.windows = tones.map(|tone| windows(r, tone));
@@ -251,12 +256,14 @@ impl Scene {
             self.p = self.p.map(|p| r.wild(p + 1));
             self.at_up[0] = r.wild(self.at_up[0] + 2);
             self.at_ack[0] = r.wild(self.at_ack[0] + 2);
+        } else if r.below(8) == 0 {
+            self.p = self.places();
         }
         self.record();
         self
     }
 
-    /// Any numbers: now and then a field out of range.
+    /// Any numbers: now and then a field out of range, or the position after the last.
     pub fn any(r: &mut Random) -> Scene {
         let mut scene = Scene::plain(r);
         scene.aim(r);
@@ -284,6 +291,8 @@ impl Scene {
             scene.i = r.wild(scene.i + 1);
             scene.level = f32::from_bits(r.next() as u32);
             scene.bits.truncate(r.wild(scene.bits.len() as u64 + 1) as usize);
+        } else if r.below(8) == 0 {
+            scene.p = scene.places();
         }
         scene.record();
         scene

@@ -124,12 +124,9 @@ static int fill(void)
 /* A window of 22.4 ms at 32, 112, 192 ms and so on, on tones 0 to 11. */
 static const uint64_t windows[NBIOT_WINDOWS_NUMBERS] = {1, 80, 32, 688128, 0};
 
-/* The acknowledgement of an NPDSCH that ends in subframe n: 15 kHz, field 0, one copy. */
-static int acknowledge(const char *name, uint64_t n, const uint64_t *lent, size_t lent_len)
+static int planned(const char *name, uint64_t no, const uint64_t *a)
 {
-    const uint64_t ack[NBIOT_ACK_NUMBERS] = {n, 1, 0, 0};
-    uint64_t a[NBIOT_PLAN_UP_NUMBERS];
-    if (refused(name, nbiot_plan_ack(ack, LEN(ack), lent, lent_len, a, LEN(a)))) {
+    if (refused(name, no)) {
         return 1;
     }
     printf("%s: slots %" PRIu64 " to %" PRIu64 ", places %" PRIu64 "\n",
@@ -137,10 +134,21 @@ static int acknowledge(const char *name, uint64_t n, const uint64_t *lent, size_
     return 0;
 }
 
+/* The acknowledgement of an NPDSCH that ends in subframe n: 15 kHz, field 0, one copy. */
+static int acknowledge(uint64_t n)
+{
+    const uint64_t ack[NBIOT_ACK_NUMBERS] = {n, 1, 0, 0};
+    uint64_t a[NBIOT_PLAN_UP_NUMBERS];
+    uint64_t no = nbiot_plan_ack(ack, LEN(ack), a, LEN(a));
+    if (planned("acknowledgement", no, a)) {
+        return 1;
+    }
+    no = nbiot_plan_ack_windows(ack, LEN(ack), windows, LEN(windows), a, LEN(a));
+    return planned("acknowledgement beside a window", no, a);
+}
+
 int main(void)
 {
     uint64_t first, last, places;
-    return plan(&first, &last, &places) || skipped(first, last) || walk(places) || fill() ||
-           acknowledge("acknowledgement", last, NULL, 0) ||
-           acknowledge("acknowledgement beside a window", last, windows, LEN(windows));
+    return plan(&first, &last, &places) || skipped(first, last) || walk(places) || fill() || acknowledge(last);
 }

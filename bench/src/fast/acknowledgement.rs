@@ -53,7 +53,7 @@ impl Shape {
 
 /// What is asked of an accepted grant and its slots beside windows.
 #[inline(never)]
-fn pushed<const N: usize>(grant: &AckGrant, windows: &[u64], ask: impl Fn(&Shape, &Timeline) -> [u64; N]) -> [u64; N] {
+fn pushed<const N: usize>(grant: &AckGrant, windows: &[u64], ask: impl FnOnce(&Shape, &Timeline) -> [u64; N]) -> [u64; N] {
     shape(grant).map_or_else(refused, |s| {
         let tones = s.tone << (2 * s.wide)..(s.tone + 1) << (2 * s.wide);
         beside(windows, s.wide, s.first, tones, |t| ask(&s, t))
@@ -67,9 +67,14 @@ fn plan(s: &Shape, t: &Timeline) -> [u64; 7] {
 }
 
 #[inline(never)]
-pub fn plan_ack(grant: &AckGrant, windows: &[u64]) -> [u64; 7] {
+pub fn plan_ack(grant: &AckGrant) -> [u64; 7] {
+    shape(grant).map_or_else(refused, |s| plan(&s, &s.plain()))
+}
+
+#[inline(never)]
+pub fn plan_ack_windows(grant: &AckGrant, windows: &[u64]) -> [u64; 7] {
     if windows.is_empty() {
-        return shape(grant).map_or_else(refused, |s| plan(&s, &s.plain()));
+        return plan_ack(grant);
     }
     pushed(grant, windows, plan)
 }
@@ -85,31 +90,37 @@ fn forward(s: &Shape, t: &Timeline, p: u64) -> [u64; 5] {
 }
 
 #[inline(never)]
-pub fn forward_ack(grant: &AckGrant, windows: &[u64], p: u64) -> [u64; 5] {
+pub fn forward_ack(grant: &AckGrant, p: u64) -> [u64; 5] {
+    shape(grant).map_or_else(refused, |s| forward(&s, &s.plain(), p))
+}
+
+#[inline(never)]
+pub fn forward_ack_windows(grant: &AckGrant, windows: &[u64], p: u64) -> [u64; 5] {
     if windows.is_empty() {
-        return shape(grant).map_or_else(refused, |s| forward(&s, &s.plain(), p));
+        return forward_ack(grant, p);
     }
     pushed(grant, windows, |s, t| forward(s, t, p))
 }
 
-/// Forward's answer, and the places.
 #[inline(always)]
-fn reach(s: &Shape, t: &Timeline, p: u64) -> [u64; 6] {
-    let [no, slot, l, k, symbol] = forward(s, t, p);
-    [no, slot, l, k, symbol, 4 * s.sent()]
+fn step(s: &Shape, t: &Timeline, p: &mut u64) -> [u64; 7] {
+    let [no, slot, l, k, symbol] = forward(s, t, *p);
+    stepped(p, no, 4 * s.sent(), [0, slot, l, k, symbol])
 }
 
 #[inline(never)]
-pub fn step_ack(walk: &mut AckWalk, windows: &[u64]) -> [u64; 7] {
+pub fn step_ack(walk: &mut AckWalk) -> [u64; 7] {
     let (p, grant) = walk.split_first_mut().expect("5 numbers");
-    let grant = grant.first_chunk().expect("4 numbers");
-    let at = *p;
-    let [no, slot, l, k, symbol, places] = if windows.is_empty() {
-        shape(grant).map_or_else(refused, |s| reach(&s, &s.plain(), at))
-    } else {
-        pushed(grant, windows, |s, t| reach(s, t, at))
-    };
-    stepped(p, no, places, [0, slot, l, k, symbol])
+    shape(grant.first_chunk().expect("4 numbers")).map_or_else(refused, |s| step(&s, &s.plain(), p))
+}
+
+#[inline(never)]
+pub fn step_ack_windows(walk: &mut AckWalk, windows: &[u64]) -> [u64; 7] {
+    if windows.is_empty() {
+        return step_ack(walk);
+    }
+    let (p, grant) = walk.split_first_mut().expect("5 numbers");
+    pushed(grant.first_chunk().expect("4 numbers"), windows, |s, t| step(s, t, p))
 }
 
 #[inline(always)]
@@ -134,9 +145,14 @@ fn backward(s: &Shape, t: &Timeline, at: [u64; 3]) -> [u64; 5] {
 }
 
 #[inline(never)]
-pub fn backward_ack(grant: &AckGrant, windows: &[u64], at: [u64; 3]) -> [u64; 5] {
+pub fn backward_ack(grant: &AckGrant, at: [u64; 3]) -> [u64; 5] {
+    shape(grant).map_or_else(refused, |s| backward(&s, &s.plain(), at))
+}
+
+#[inline(never)]
+pub fn backward_ack_windows(grant: &AckGrant, windows: &[u64], at: [u64; 3]) -> [u64; 5] {
     if windows.is_empty() {
-        return shape(grant).map_or_else(refused, |s| backward(&s, &s.plain(), at));
+        return backward_ack(grant, at);
     }
     pushed(grant, windows, |s, t| backward(s, t, at))
 }

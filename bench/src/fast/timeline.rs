@@ -223,13 +223,13 @@ impl Timeline<'_> {
         Timeline { wide, first, pushed: None }
     }
 
-    /// Transmitted slot i. Without windows 128 or 512 slots, then 20 or 80 left empty.
+    /// Transmitted slot i. Without windows 128 slots, then 20 left empty; at 15 kHz four times as many of both.
     #[inline(always)]
     pub fn slot(&self, i: u32) -> u64 {
         let x = match self.pushed {
             Some(p) if self.wide == 0 => p.at(2 * i) / 2,
             Some(p) => 2 * p.at(i / 2) + i % 2,
-            None => i + (i >> (7 + 2 * self.wide)) * (20 << (2 * self.wide)),
+            None => i + 20 * (i >> 7 & !(3 * self.wide)),
         };
         self.first + x as u64
     }

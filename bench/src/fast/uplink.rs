@@ -97,7 +97,7 @@ impl Shape {
 
 /// What is asked of an accepted grant and its slots beside windows.
 #[inline(never)]
-fn pushed<const N: usize>(grant: &UpGrant, windows: &[u64], ask: impl Fn(&Shape, &Timeline) -> [u64; N]) -> [u64; N] {
+fn pushed<const N: usize>(grant: &UpGrant, windows: &[u64], ask: impl FnOnce(&Shape, &Timeline) -> [u64; N]) -> [u64; N] {
     shape(grant).map_or_else(refused, |s| beside(windows, s.wide, s.first, s.tones(), |t| ask(&s, t)))
 }
 
@@ -111,9 +111,14 @@ fn plan(s: &Shape, t: &Timeline, grant: &UpGrant) -> [u64; 7] {
 }
 
 #[inline(never)]
-pub fn plan_up(grant: &UpGrant, windows: &[u64]) -> [u64; 7] {
+pub fn plan_up(grant: &UpGrant) -> [u64; 7] {
+    shape(grant).map_or_else(refused, |s| plan(&s, &s.plain(), grant))
+}
+
+#[inline(never)]
+pub fn plan_up_windows(grant: &UpGrant, windows: &[u64]) -> [u64; 7] {
     if windows.is_empty() {
-        return shape(grant).map_or_else(refused, |s| plan(&s, &s.plain(), grant));
+        return plan_up(grant);
     }
     pushed(grant, windows, |s, t| plan(s, t, grant))
 }
@@ -139,31 +144,37 @@ fn forward(s: &Shape, t: &Timeline, p: u64) -> [u64; 5] {
 }
 
 #[inline(never)]
-pub fn forward_up(grant: &UpGrant, windows: &[u64], p: u64) -> [u64; 5] {
+pub fn forward_up(grant: &UpGrant, p: u64) -> [u64; 5] {
+    shape(grant).map_or_else(refused, |s| forward(&s, &s.plain(), p))
+}
+
+#[inline(never)]
+pub fn forward_up_windows(grant: &UpGrant, windows: &[u64], p: u64) -> [u64; 5] {
     if windows.is_empty() {
-        return shape(grant).map_or_else(refused, |s| forward(&s, &s.plain(), p));
+        return forward_up(grant, p);
     }
     pushed(grant, windows, |s, t| forward(s, t, p))
 }
 
-/// Forward's answer, and the places.
 #[inline(always)]
-fn reach(s: &Shape, t: &Timeline, p: u64) -> [u64; 6] {
-    let [no, slot, l, k, symbol] = forward(s, t, p);
-    [no, slot, l, k, symbol, (s.sent() * s.data()) as u64]
+fn step(s: &Shape, t: &Timeline, p: &mut u64) -> [u64; 7] {
+    let [no, slot, l, k, symbol] = forward(s, t, *p);
+    stepped(p, no, (s.sent() * s.data()) as u64, [0, slot, l, k, symbol])
 }
 
 #[inline(never)]
-pub fn step_up(walk: &mut UpWalk, windows: &[u64]) -> [u64; 7] {
+pub fn step_up(walk: &mut UpWalk) -> [u64; 7] {
     let (p, grant) = walk.split_first_mut().expect("8 numbers");
-    let grant = grant.first_chunk().expect("7 numbers");
-    let at = *p;
-    let [no, slot, l, k, symbol, places] = if windows.is_empty() {
-        shape(grant).map_or_else(refused, |s| reach(&s, &s.plain(), at))
-    } else {
-        pushed(grant, windows, |s, t| reach(s, t, at))
-    };
-    stepped(p, no, places, [0, slot, l, k, symbol])
+    shape(grant.first_chunk().expect("7 numbers")).map_or_else(refused, |s| step(&s, &s.plain(), p))
+}
+
+#[inline(never)]
+pub fn step_up_windows(walk: &mut UpWalk, windows: &[u64]) -> [u64; 7] {
+    if windows.is_empty() {
+        return step_up(walk);
+    }
+    let (p, grant) = walk.split_first_mut().expect("8 numbers");
+    pushed(grant.first_chunk().expect("7 numbers"), windows, |s, t| step(s, t, p))
 }
 
 #[inline(always)]
@@ -191,9 +202,14 @@ fn backward(s: &Shape, t: &Timeline, at: [u64; 3]) -> [u64; 5] {
 }
 
 #[inline(never)]
-pub fn backward_up(grant: &UpGrant, windows: &[u64], at: [u64; 3]) -> [u64; 5] {
+pub fn backward_up(grant: &UpGrant, at: [u64; 3]) -> [u64; 5] {
+    shape(grant).map_or_else(refused, |s| backward(&s, &s.plain(), at))
+}
+
+#[inline(never)]
+pub fn backward_up_windows(grant: &UpGrant, windows: &[u64], at: [u64; 3]) -> [u64; 5] {
     if windows.is_empty() {
-        return shape(grant).map_or_else(refused, |s| backward(&s, &s.plain(), at));
+        return backward_up(grant, at);
     }
     pushed(grant, windows, |s, t| backward(s, t, at))
 }

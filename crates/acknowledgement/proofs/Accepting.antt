@@ -1,10 +1,12 @@
 -- What acceptance says of an acknowledgement's numbers, and that its shape then fits.
 use mathlib.Core.Bool.{Bool, true, false, cond, _&&_}
+use mathlib.Core.List.{List, [], _∷_}
 use mathlib.Core.Path.{_≡_, refl, sym, ap, _∙_}
-use Prim.Native.Nat.{ℕ, zero, suc, _+_, _-_, _%_, _≤_}
+use Prim.Native.Nat.{ℕ, zero, suc, _+_, _-_, _/_, _%_, _≤_}
 use native.Mathlib.Nat.{mod-one}
 use native.Mathlib.Omega.{arith}
-use lib.Dec.{T, eqb, leb, ltb, leb→le}
+use lib.Dec.{T, eqb, leb, ltb, leb→le, eqb→eq}
+use lib.ListN.{getD}
 use borrow.Author.Tests.{ltb-false, le-ltb}
 use Rattle.counting.proofs.Facts.{passed, after-first, first-alone, either-parts, each, each-at}
 use Rattle.grid.specs.Grid.{uplinkSubcarriers}
@@ -12,13 +14,14 @@ use Rattle.grid.specs.Tables.{entry, uplinkCopies}
 use Rattle.grid.proofs.Rules.{parts, uplink-copies-bounds}
 use Rattle.slots.specs.Timing.{allOpen}
 use Rattle.slots.specs.Fits.{Fits, Leaves}
-use Rattle.slots.specs.Quick.{sized}
+use Rattle.slots.specs.Quick.{sized, shapeForwardOr, forwardAnswerOr}
+use Rattle.slots.proofs.Judging.{forward-or-14, fits-asked, plan-asked, forward-asked, backward-asked}
 use Rattle.numerology.proofs.Spacing.{first-bound, by-spacing-bounds, spaced}
 use Rattle.sending.specs.declared.Back.{Back}
 use Rattle.slots.specs.declared.Shape.{Shape}
 use Rattle.slots.specs.declared.UplinkPlan.{UplinkPlan}
 use Rattle.slots.specs.declared.UplinkPlace.{UplinkPlace}
-use Rattle.slots.specs.Answers.{planAnswer, forwardAnswer, backwardAnswer}
+use Rattle.slots.specs.Answers.{shapePlan, shapeBackward, planAnswer, backwardAnswer}
 use Rattle.windows.specs.Windows.{none}
 use Rattle.windows.proofs.Spaced.{none-refuses, none-closes}
 use Rattle.windowed.specs.Beside.{refusalBeside, openBeside, Spaced}
@@ -29,6 +32,7 @@ use Rattle.acknowledgement.specs.declared.AckGrant.{AckGrant}
 use Rattle.acknowledgement.specs.Fields.{toneOf, delayOf}
 use Rattle.acknowledgement.specs.Refusals.{lastSubframe, aboveLargest, windowsNumber, fieldsRefusal, refusal}
 use Rattle.acknowledgement.specs.Shaping.{unitSlots, shapeOf, openOf}
+use Rattle.acknowledgement.specs.Quick.{forwardOr}
 use Rattle.acknowledgement.specs.Questions.{planOf, forwardOf, backwardOf}
 
 -- every number in its range
@@ -106,6 +110,27 @@ named spacing field h l =
     let a = parts (leb (toneOf spacing field + 1) (uplinkSubcarriers spacing)) _ (field-fits spacing field h l) in
     let b = parts (leb 1 (delayOf spacing field)) _ (a .1) in
     record { inside = leb→le _ _ (a .0); some = leb→le 1 (delayOf spacing field) (b .0); small = leb→le (delayOf spacing field) 21 (b .1) }
+
+-- ---- the table of delays: at either spacing an entry for every four numbers of the field
+
+abbrev delays : List (List ℕ)
+delays = (13 ∷ 13 ∷ 21 ∷ 21 ∷ []) ∷ (13 ∷ 15 ∷ 17 ∷ 18 ∷ []) ∷ []
+
+abbrev delayStands : ℕ → ℕ → Bool
+delayStands spacing field = eqb (getD (getD delays spacing []) (field / 4) 0) (delayOf spacing field)
+
+narrow-delays : T (each 16 (delayStands 0))
+unfolding delayOf
+narrow-delays = tt
+
+wide-delays : T (each 16 (delayStands 1))
+unfolding delayOf
+wide-delays = tt
+
+pub delays-are : (spacing field : ℕ) → spacing ≤ 1 → field ≤ 15 → getD (getD delays spacing []) (field / 4) 0 ≡ delayOf spacing field
+delays-are zero field h l = eqb→eq _ _ (each-at 16 (delayStands 0) narrow-delays field (omega arith))
+delays-are (suc zero) field h l = eqb→eq _ _ (each-at 16 (delayStands 1) wide-delays field (omega arith))
+delays-are (suc (suc spacing)) field h l = absurd (omega arith)
 
 -- four slots are whole groups
 whole-groups : (b : Bool) → unitSlots % cond b 1 2 ≡ 0
@@ -195,10 +220,11 @@ module _ (g : AckGrant) (f : AckFields) (h : f ≡ fieldsOf g) (n : ℕ) (e : n 
     unfolding planOf refusal shapeOf
     plan-is r h = h ∙ rw spacing-is (plan-beside (fieldsRefusal g) (g .spacing) (shapeOf g) (g .windows) (sym fields-number ∙ z) s 1 1 own-shape (sized-own g))
 
-    pub forward-is : (p : ℕ) (r : UplinkPlace)
-        → r ≡ forwardAnswer (refusalBeside (f .spacing) s (g .windows)) s (openBeside (f .spacing) s (g .windows)) p → r ≡ forwardOf g p
-    unfolding forwardOf refusal shapeOf
-    forward-is p r h = h ∙ rw spacing-is (forward-beside (fieldsRefusal g) (g .spacing) (shapeOf g) (g .windows) (sym fields-number ∙ z) s 1 1 own-shape p)
+    pub forward-is : (end p : ℕ) (r : UplinkPlace)
+        → r ≡ forwardAnswerOr end (refusalBeside (f .spacing) s (g .windows)) s (openBeside (f .spacing) s (g .windows)) p → r ≡ forwardOr end g p
+    unfolding forwardOr refusal shapeOf
+    forward-is end p r h =
+        h ∙ rw spacing-is (forward-beside (fieldsRefusal g) (g .spacing) (shapeOf g) (g .windows) (sym fields-number ∙ z) s 1 1 own-shape end p)
 
     pub backward-is : (slot l k : ℕ) (r : Back)
         → r ≡ backwardAnswer (refusalBeside (f .spacing) s (g .windows)) s (openBeside (f .spacing) s (g .windows)) slot l k → r ≡ backwardOf g slot l k
@@ -216,32 +242,31 @@ module _ (f : AckFields) where
   pub plain-open : (u : ℕ) → allOpen u ≡ openOf (unwindowed f) u
   plain-open u = none-closes (f .spacing) _ _ none refl u
 
--- ---- a grant whose windows are none by their count: that of its fields
+  -- their number, and if there is none their shape, but for size and order
+  module _ (n : ℕ) (e : n ≡ fieldsRefusal (unwindowed f)) where
+    pub plain-number : n ≡ refusal (unwindowed f)
+    plain-number = e ∙ plain-refusal
 
-module _ (g : AckGrant) (z : g .windows .count ≡ 0) where
-  abbrev plain : AckGrant
-  plain = unwindowed (fieldsOf g)
+    module _ (z : n ≡ 0) (s : Shape) (size order : ℕ) (own : s ≡ sized (shapeOf (unwindowed f)) size order) where
+      accepted-plain : refusal (unwindowed f) ≡ 0
+      accepted-plain = sym plain-number ∙ z
 
-  same-refusal : refusal plain ≡ refusal g
-  unfolding refusal fieldsRefusal
-  same-refusal =
-      ap (λ (n : ℕ). cond (eqb (fieldsRefusal g) 0) n (fieldsRefusal g))
-      (none-refuses (g .spacing) _ _ none refl ∙ sym (none-refuses (g .spacing) _ _ (g .windows) z))
+      pub plain-fits : Fits s
+      plain-fits = fits-asked (shapeOf (unwindowed f)) s size order own (fits (unwindowed f) accepted-plain)
 
-  each-open : (u : ℕ) → openOf plain u ≡ openOf g u
-  each-open u = sym (none-closes (g .spacing) _ _ none refl u) ∙ none-closes (g .spacing) _ _ (g .windows) z u
+      pub plain-plan-is : sized (shapeOf (unwindowed f)) size order ≡ shapeOf (unwindowed f) → shapePlan s allOpen ≡ planOf (unwindowed f)
+      unfolding planOf
+      plain-plan-is = plan-asked (shapeOf (unwindowed f)) s size order own (openOf (unwindowed f)) allOpen plain-open (refusal (unwindowed f)) accepted-plain
 
-  same-open : openOf plain ≡ openOf g
-  same-open i u = each-open u i
+      pub plain-forward-is : (end p : ℕ) → shapeForwardOr end s allOpen p ≡ forwardOr end (unwindowed f) p
+      unfolding forwardOr
+      plain-forward-is = forward-asked (shapeOf (unwindowed f)) s size order own (openOf (unwindowed f)) allOpen plain-open (refusal (unwindowed f)) accepted-plain
 
-  pub plan-uncounted : planOf plain ≡ planOf g
-  unfolding planOf shapeOf
-  plan-uncounted i = planAnswer (same-refusal i) (shapeOf g) (same-open i)
+      pub plain-backward-is : (slot l k : ℕ) → shapeBackward s allOpen slot l k ≡ backwardOf (unwindowed f) slot l k
+      unfolding backwardOf
+      plain-backward-is = backward-asked (shapeOf (unwindowed f)) s size order own (openOf (unwindowed f)) allOpen plain-open (refusal (unwindowed f)) accepted-plain
 
-  pub forward-uncounted : (p : ℕ) → forwardOf plain p ≡ forwardOf g p
-  unfolding forwardOf shapeOf
-  forward-uncounted p i = forwardAnswer (same-refusal i) (shapeOf g) (same-open i) p
-
-  pub backward-uncounted : (slot l k : ℕ) → backwardOf plain slot l k ≡ backwardOf g slot l k
-  unfolding backwardOf shapeOf
-  backward-uncounted slot l k i = backwardAnswer (same-refusal i) (shapeOf g) (same-open i) slot l k
+-- forward itself says 14 right after the last position too
+pub forward-14 : (g : AckGrant) (p : ℕ) → forwardOr 14 g p ≡ forwardOf g p
+unfolding forwardOr forwardOf
+forward-14 g p = forward-or-14 (refusal g) (shapeOf g) (openOf g) p

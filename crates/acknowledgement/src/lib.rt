@@ -5,6 +5,7 @@ ghost use Rattle.acknowledgement.specs.Fields.{toneOf, delayOf};
 ghost use Rattle.acknowledgement.specs.Unwindowed.{fieldsOf, unwindowed};
 ghost use Rattle.acknowledgement.specs.Refusals.{aboveLargest, fieldsRefusal};
 ghost use Rattle.acknowledgement.specs.Shaping.{startOf, referenceOf, shapeOf};
+ghost use Rattle.acknowledgement.specs.Quick.{forwardOr};
 ghost use Rattle.acknowledgement.specs.Questions.{planOf, forwardOf, backwardOf};
 use grid::UplinkGrid;
 use sending::Back;
@@ -34,9 +35,8 @@ pub struct AckFields {
 // The last subframe in which the NPDSCH may end.
 const LAST_SUBFRAME: u64 = 2_147_483_647;
 
-const NARROW_DELAYS: [u64; 2] = [13, 21];
-
-const WIDE_DELAYS: [u64; 4] = [13, 15, 17, 18];
+// The delays, in subframes: a row for each spacing, an entry for every four numbers of the field.
+const DELAYS: [[u8; 4]; 2] = [[13, 13, 21, 21], [13, 15, 17, 18]];
 
 fn fields_of(g: AckGrant) -> AckFields
     ensures { λ r. ⌜ r ≡ fieldsOf g ⌝ }
@@ -82,12 +82,10 @@ fn tone(spacing: u64, field: u64) -> u64
 
 // The delay that it names, in subframes.
 fn delay(spacing: u64, field: u64) -> u64
-    requires { ⌜ field ≤ 15 ⌝ }
+    requires { ⌜ (spacing ≤ 1) × (field ≤ 15) ⌝ }
     ensures { λ r. ⌜ r ≡ delayOf spacing field ⌝ }
 {
-    let narrow = NARROW_DELAYS[(field / 8) as usize];
-    let wide = WIDE_DELAYS[(field / 4) as usize];
-    numerology::by_spacing(spacing, narrow, wide)
+    grid::byte(DELAYS[spacing as usize][(field / 4) as usize])
 }
 
 // The first slot.
@@ -157,14 +155,22 @@ pub fn plain_plan(f: AckFields) -> UplinkPlan
 pub fn forward(g: AckGrant, p: u64) -> UplinkPlace
     ensures { λ r. ⌜ r ≡ forwardOf g p ⌝ }
 {
+    forward_or(g, p, 14)
+}
+
+// The same for a step; `end` is the number right after the last position.
+pub fn forward_or(g: AckGrant, p: u64, end: u64) -> UplinkPlace
+    ensures { λ r. ⌜ r ≡ forwardOr end g p ⌝ }
+{
     let f = fields_of(g);
     let no = judge_fields(f);
     if no != 0 {
         return slots::refused_place(no);
     }
-    windowed::forward(f.spacing, shape(f), g.windows, p)
+    windowed::forward_or(f.spacing, shape(f), g.windows, p, end)
 }
 
+// A step of fields alone has a function of its own, so that the compiler puts either into its one caller.
 pub fn plain_forward(f: AckFields, p: u64) -> UplinkPlace
     ensures { λ r. ⌜ r ≡ forwardOf (unwindowed f) p ⌝ }
 {
@@ -174,7 +180,19 @@ pub fn plain_forward(f: AckFields, p: u64) -> UplinkPlace
     }
     let s = shape(f);
     let at = slots::taken_apart(s, p);
-    slots::forward(s, p, at, slots::plain_slot_at(s, at.i))
+    slots::forward_or(s, p, at, slots::plain_slot_at(s, at.i), 14)
+}
+
+pub fn plain_forward_or(f: AckFields, p: u64, end: u64) -> UplinkPlace
+    ensures { λ r. ⌜ r ≡ forwardOr end (unwindowed f) p ⌝ }
+{
+    let no = judge_fields(f);
+    if no != 0 {
+        return slots::refused_place(no);
+    }
+    let s = shape(f);
+    let at = slots::taken_apart(s, p);
+    slots::forward_or(s, p, at, slots::plain_slot_at(s, at.i), end)
 }
 
 // What stands at symbol l and subcarrier k of a slot.

@@ -1,59 +1,44 @@
-// Uplink questions on lent buffers, with their windows. Backward asks the fields alone where there is no window, which is quicker; plan and forward leave
-// that to their callers.
+// Uplink questions on lent buffers beside their windows, of either kind of grant. Both kinds ask them, so that the compiler leaves each a call of its own.
 ghost use mathlib.Core.Path.{_≡_};
 ghost use Prim.Native.Nat.{_≤_};
 ghost use lib.ListN.{length};
-ghost use Rattle.uplink.specs.Questions as up;
-ghost use Rattle.acknowledgement.specs.Questions as ack;
-ghost use Rattle.buffers.specs.Buffers.{upGrantOf, ackGrantOf};
+ghost use Rattle.asked.specs.Kinds.{numbersOf, planOn, forwardOn, backwardOn};
 use sending::Back;
 use slots::UplinkPlace;
 use slots::UplinkPlan;
 
-pub fn up_plan(grant: &[u64], windows: &[u64]) -> UplinkPlan
-    requires { ⌜ 7 ≤ length (now grant) ⌝ }
-    ensures { λ r. ⌜ r ≡ up.planOf (upGrantOf (now (grant .entry)) (now (windows .entry))) ⌝ }
-{
-    nbiot::plan_up(buffers::up_grant_of(grant, windows))
+pub enum Kind {
+    Up,
+    Ack,
 }
 
-pub fn up_place(grant: &[u64], windows: &[u64], p: u64) -> UplinkPlace
-    requires { ⌜ 7 ≤ length (now grant) ⌝ }
-    ensures { λ r. ⌜ r ≡ up.forwardOf (upGrantOf (now (grant .entry)) (now (windows .entry))) p ⌝ }
+pub fn plan(kind: Kind, grant: &[u64], windows: &[u64]) -> UplinkPlan
+    requires { ⌜ numbersOf kind ≤ length (now grant) ⌝ }
+    ensures { λ r. ⌜ r ≡ planOn kind (now (grant .entry)) (now (windows .entry)) ⌝ }
 {
-    nbiot::forward_up(buffers::up_grant_of(grant, windows), p)
-}
-
-pub fn up_back(grant: &[u64], windows: &[u64], slot: u64, l: u64, k: u64) -> Back
-    requires { ⌜ 7 ≤ length (now grant) ⌝ }
-    ensures { λ r. ⌜ r ≡ up.backwardOf (upGrantOf (now (grant .entry)) (now (windows .entry))) slot l k ⌝ }
-{
-    if buffers::no_window(windows) {
-        return nbiot::plain_backward_up(buffers::up_fields_of(grant), slot, l, k);
+    match kind {
+        Kind::Up => uplink::plan(buffers::up_grant_of(grant, windows)),
+        Kind::Ack => acknowledgement::plan(buffers::ack_grant_of(grant, windows)),
     }
-    nbiot::backward_up(buffers::up_grant_of(grant, windows), slot, l, k)
 }
 
-pub fn ack_plan(grant: &[u64], windows: &[u64]) -> UplinkPlan
-    requires { ⌜ 4 ≤ length (now grant) ⌝ }
-    ensures { λ r. ⌜ r ≡ ack.planOf (ackGrantOf (now (grant .entry)) (now (windows .entry))) ⌝ }
+// `end` is the number right after the last position.
+pub fn forward_or(kind: Kind, grant: &[u64], windows: &[u64], p: u64, end: u64) -> UplinkPlace
+    requires { ⌜ numbersOf kind ≤ length (now grant) ⌝ }
+    ensures { λ r. ⌜ r ≡ forwardOn end kind (now (grant .entry)) (now (windows .entry)) p ⌝ }
 {
-    nbiot::plan_ack(buffers::ack_grant_of(grant, windows))
-}
-
-pub fn ack_place(grant: &[u64], windows: &[u64], p: u64) -> UplinkPlace
-    requires { ⌜ 4 ≤ length (now grant) ⌝ }
-    ensures { λ r. ⌜ r ≡ ack.forwardOf (ackGrantOf (now (grant .entry)) (now (windows .entry))) p ⌝ }
-{
-    nbiot::forward_ack(buffers::ack_grant_of(grant, windows), p)
-}
-
-pub fn ack_back(grant: &[u64], windows: &[u64], slot: u64, l: u64, k: u64) -> Back
-    requires { ⌜ 4 ≤ length (now grant) ⌝ }
-    ensures { λ r. ⌜ r ≡ ack.backwardOf (ackGrantOf (now (grant .entry)) (now (windows .entry))) slot l k ⌝ }
-{
-    if buffers::no_window(windows) {
-        return nbiot::plain_backward_ack(buffers::ack_fields_of(grant), slot, l, k);
+    match kind {
+        Kind::Up => uplink::forward_or(buffers::up_grant_of(grant, windows), p, end),
+        Kind::Ack => acknowledgement::forward_or(buffers::ack_grant_of(grant, windows), p, end),
     }
-    nbiot::backward_ack(buffers::ack_grant_of(grant, windows), slot, l, k)
+}
+
+pub fn backward(kind: Kind, grant: &[u64], windows: &[u64], slot: u64, l: u64, k: u64) -> Back
+    requires { ⌜ numbersOf kind ≤ length (now grant) ⌝ }
+    ensures { λ r. ⌜ r ≡ backwardOn kind (now (grant .entry)) (now (windows .entry)) slot l k ⌝ }
+{
+    match kind {
+        Kind::Up => uplink::backward(buffers::up_grant_of(grant, windows), slot, l, k),
+        Kind::Ack => acknowledgement::backward(buffers::ack_grant_of(grant, windows), slot, l, k),
+    }
 }

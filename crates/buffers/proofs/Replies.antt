@@ -1,9 +1,10 @@
 -- Laws of a call's reply.
-use mathlib.Core.Bool.{Bool, true, false}
+use mathlib.Core.Bool.{Bool, true, false, _||_}
 use mathlib.Core.List.{List, [], _∷_, _++_}
 use mathlib.Core.Path.{_≡_, refl, sym, ap, _∙_}
 use Prim.Native.Nat.{ℕ, _+_, _-_, _≤_}
 use native.Mathlib.Omega.{arith}
+use lib.Dec.{ltb}
 use lib.Ieee.{Float}
 use lib.ListN.{length, getD, take, drop, length-drop}
 use lib.Seq.{sets, sets-eq, take-all}
@@ -12,7 +13,15 @@ use Rattle.cell.specs.Usable.{numberOf}
 use Rattle.subframes.specs.declared.DownlinkBack.{DownlinkBack}
 use Rattle.walk.specs.declared.Stepped.{Stepped}
 use Rattle.symbol.specs.declared.ElementNumbers.{ElementNumbers}
-use Rattle.buffers.specs.Buffers.{downBackNumbers, causeNumbers, laid, replyOf, stepNumbers, stepReplyOf, fillReplyOf, elementColumns, elementAmplitudes, elementReplyOf}
+use Rattle.buffers.specs.Buffers.{downBackNumbers, causeNumbers, windowsShort, Short2, laid, replyOf, stepNumbers, stepReplyOf, fillReplyOf, elementColumns, elementAmplitudes, elementReplyOf}
+
+-- no windows are never too short
+pub plain-says : {m n s t : ℕ} {r : Bool} → Short2 m n s t r → r ≡ (ltb s m || (ltb t n || windowsShort []))
+plain-says {m} {n} {s} {t} x = x .says ∙ by (ltb s m) (ltb t n)
+  where
+    by : (a b : Bool) → (a || b) ≡ (a || (b || windowsShort []))
+    by a true = refl
+    by a false = refl
 
 -- stores from the front on
 pub stored : {A : Type 0} (vs s : List A) → length vs ≤ length s → sets s 0 vs ≡ laid vs s

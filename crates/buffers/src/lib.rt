@@ -2,7 +2,6 @@
 ghost use mathlib.Core.List.{[], _∷_};
 ghost use mathlib.Core.Path.{_≡_};
 ghost use Prim.Native.Nat.{_+_, _≤_};
-ghost use lib.Dec.{eqb};
 ghost use lib.ListN.{length};
 ghost use Rattle.windows.specs.Windows.{none};
 ghost use Rattle.buffers.specs.Buffers.{cellOf, windowAt, windowsOf, upGrantOf, ackGrantOf, upFieldsOf, ackFieldsOf, downGrantOf, controlGrantOf, Short2, Short3, ShortUp, laid};
@@ -84,16 +83,6 @@ fn no_windows() -> Windows
         w3: w,
         w4: w,
     }
-}
-
-// There is no window: the buffer has none, or their count is 0.
-pub fn no_window(windows: &[u64]) -> bool
-    ensures { λ r. ⌜ r ≡ eqb (windowsOf (now (windows .entry)) .count) 0 ⌝ }
-{
-    if windows.len() < WINDOWS {
-        return true;
-    }
-    windows[0] == 0
 }
 
 fn windows_of(windows: &[u64]) -> Windows

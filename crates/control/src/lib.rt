@@ -2,6 +2,7 @@
 ghost use mathlib.Core.Path.{_≡_};
 ghost use Rattle.subframes.specs.Quick.{Judged};
 ghost use Rattle.control.specs.Refusals.{aboveLargest, grantRefusal};
+ghost use Rattle.control.specs.Quick.{forwardOr};
 ghost use Rattle.control.specs.Questions.{burstOf, planOf, forwardOf, backwardOf};
 use cell::Cell;
 use subframes::Burst;
@@ -75,7 +76,22 @@ pub fn forward(c: Cell, anchor: &[u8], other: &[u8], g: ControlGrant, p: u64) ->
     ensures { λ r. ⌜ r ≡ forwardOf c (now (anchor .entry)) (now (other .entry)) g p ⌝ }
 {
     let v = cell::judged(c, anchor, other);
-    subframes::forward(ready(v.no, c, g), v.pattern, p)
+    subframes::forward_or(ready(v.no, c, g), v.pattern, p, 14)
+}
+
+// The same for a step; `end` is the number right after the last position.
+pub fn forward_or(
+    c: Cell,
+    anchor: &[u8],
+    other: &[u8],
+    g: ControlGrant,
+    p: u64,
+    end: u64,
+) -> DownlinkPlace
+    ensures { λ r. ⌜ r ≡ forwardOr end c (now (anchor .entry)) (now (other .entry)) g p ⌝ }
+{
+    let v = cell::judged(c, anchor, other);
+    subframes::forward_or(ready(v.no, c, g), v.pattern, p, end)
 }
 
 // What stands at symbol l and subcarrier k of a slot of subframe t, and why the subframe was skipped.

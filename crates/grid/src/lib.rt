@@ -5,6 +5,7 @@ ghost use Rattle.grid.specs.Grid.{subcarriers, symbols, slots, elements,
 
 mod tables;
 
+pub use tables::byte;
 pub use tables::downlink_copies;
 pub use tables::downlink_delay;
 pub use tables::is_repetition;

@@ -45,7 +45,7 @@ const SINGLE_TONE_ROWS: [u8; 5] = [0, 2, 1, 3, 4];
 const SINGLE_TONE_ORDERS: [u8; 5] = [1, 1, 2, 2, 2];
 
 // An entry as a wider number.
-fn byte(x: u8) -> u64
+pub fn byte(x: u8) -> u64
     ensures { λ r. ⌜ r ≡ x ⌝ }
 {
     x as u64

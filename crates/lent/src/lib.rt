@@ -1,23 +1,24 @@
-// Questions on lent buffers: plans and places laid at the front of an answer's buffer that has room for them, for a question's own call and for a step.
+// Questions on lent buffers: the answers laid at the front of a buffer that has room for them.
 ghost use mathlib.Core.List.{[], _∷_};
 ghost use mathlib.Core.Path.{_≡_};
 ghost use Prim.Native.Nat.{_+_, _^_, _≤_, _<_};
-ghost use lib.ListN.{length, getD, drop};
+ghost use lib.ListN.{length, getD};
+ghost use Rattle.asked.specs.Kinds.{numbersOf, planOn, forwardOn, backwardOn, walkOn};
 ghost use Rattle.uplink.specs.Questions as up;
-ghost use Rattle.uplink.specs.Unwindowed as up-fields;
 ghost use Rattle.acknowledgement.specs.Questions as ack;
-ghost use Rattle.acknowledgement.specs.Unwindowed as ack-fields;
 ghost use Rattle.downlink.specs.Questions as down;
 ghost use Rattle.control.specs.Questions as control;
-ghost use Rattle.walk.specs.Step.{askedOf, isEnd};
 ghost use Rattle.walk.specs.Quick.{walkAt, stoppedAt};
-ghost use Rattle.buffers.specs.Buffers.{cellOf, upGrantOf, ackGrantOf, upFieldsOf, ackFieldsOf, downGrantOf, controlGrantOf, upPlanNumbers, downPlanNumbers, upPlaceNumbers, downPlaceNumbers, upWalkOf, ackWalkOf, downWalkOf, controlWalkOf, stepNumbers, laid};
+ghost use Rattle.buffers.specs.Buffers.{cellOf, upGrantOf, ackGrantOf, downGrantOf, controlGrantOf, upPlanNumbers, downPlanNumbers, upPlaceNumbers, downPlaceNumbers, backNumbers, upWalkOf, ackWalkOf, downWalkOf, controlWalkOf, stepNumbers, laid};
+use asked::Kind;
 
-pub fn plan_up(grant: &[u64], windows: &[u64], answer: &mut [u64]) -> u64
+// ---- grants with no window
+
+pub fn plan_up(grant: &[u64], answer: &mut [u64]) -> u64
     requires { ⌜ (7 ≤ length (now grant)) × (7 ≤ length (now answer)) ⌝ }
-    ensures { λ r. ⌜ (r ≡ up.planOf (upGrantOf (now (grant .entry)) (now (windows .entry))) .no) × (now (answer .exit) ≡ laid (upPlanNumbers (up.planOf (upGrantOf (now (grant .entry)) (now (windows .entry))))) (now (answer .entry))) ⌝ }
+    ensures { λ r. ⌜ (r ≡ up.planOf (upGrantOf (now (grant .entry)) []) .no) × (now (answer .exit) ≡ laid (upPlanNumbers (up.planOf (upGrantOf (now (grant .entry)) []))) (now (answer .entry))) ⌝ }
 {
-    let a = asked::up_plan(grant, windows);
+    let a = uplink::plain_plan(buffers::up_fields_of(grant));
     buffers::put7(
         answer,
         a.no,
@@ -30,11 +31,11 @@ pub fn plan_up(grant: &[u64], windows: &[u64], answer: &mut [u64]) -> u64
     )
 }
 
-pub fn plan_ack(grant: &[u64], windows: &[u64], answer: &mut [u64]) -> u64
+pub fn plan_ack(grant: &[u64], answer: &mut [u64]) -> u64
     requires { ⌜ (4 ≤ length (now grant)) × (7 ≤ length (now answer)) ⌝ }
-    ensures { λ r. ⌜ (r ≡ ack.planOf (ackGrantOf (now (grant .entry)) (now (windows .entry))) .no) × (now (answer .exit) ≡ laid (upPlanNumbers (ack.planOf (ackGrantOf (now (grant .entry)) (now (windows .entry))))) (now (answer .entry))) ⌝ }
+    ensures { λ r. ⌜ (r ≡ ack.planOf (ackGrantOf (now (grant .entry)) []) .no) × (now (answer .exit) ≡ laid (upPlanNumbers (ack.planOf (ackGrantOf (now (grant .entry)) []))) (now (answer .entry))) ⌝ }
 {
-    let a = asked::ack_plan(grant, windows);
+    let a = acknowledgement::plain_plan(buffers::ack_fields_of(grant));
     buffers::put7(
         answer,
         a.no,
@@ -47,12 +48,66 @@ pub fn plan_ack(grant: &[u64], windows: &[u64], answer: &mut [u64]) -> u64
     )
 }
 
-// The same of a grant with no window, by its fields alone.
-pub fn plain_plan_up(grant: &[u64], answer: &mut [u64]) -> u64
-    requires { ⌜ (7 ≤ length (now grant)) × (7 ≤ length (now answer)) ⌝ }
-    ensures { λ r. ⌜ (r ≡ up.planOf (up-fields.unwindowed (upFieldsOf (now (grant .entry)))) .no) × (now (answer .exit) ≡ laid (upPlanNumbers (up.planOf (up-fields.unwindowed (upFieldsOf (now (grant .entry)))))) (now (answer .entry))) ⌝ }
+pub fn place_up(grant: &[u64], p: u64, answer: &mut [u64]) -> u64
+    requires { ⌜ (7 ≤ length (now grant)) × (5 ≤ length (now answer)) ⌝ }
+    ensures { λ r. ⌜ (r ≡ up.forwardOf (upGrantOf (now (grant .entry)) []) p .no) × (now (answer .exit) ≡ laid (upPlaceNumbers (up.forwardOf (upGrantOf (now (grant .entry)) []) p)) (now (answer .entry))) ⌝ }
 {
-    let a = nbiot::plain_plan_up(buffers::up_fields_of(grant));
+    let a = uplink::plain_forward(buffers::up_fields_of(grant), p);
+    buffers::put5(answer, a.no, a.slot, a.l, a.k, a.symbol)
+}
+
+pub fn place_ack(grant: &[u64], p: u64, answer: &mut [u64]) -> u64
+    requires { ⌜ (4 ≤ length (now grant)) × (5 ≤ length (now answer)) ⌝ }
+    ensures { λ r. ⌜ (r ≡ ack.forwardOf (ackGrantOf (now (grant .entry)) []) p .no) × (now (answer .exit) ≡ laid (upPlaceNumbers (ack.forwardOf (ackGrantOf (now (grant .entry)) []) p)) (now (answer .entry))) ⌝ }
+{
+    let a = acknowledgement::plain_forward(buffers::ack_fields_of(grant), p);
+    buffers::put5(answer, a.no, a.slot, a.l, a.k, a.symbol)
+}
+
+pub fn back_up(grant: &[u64], slot: u64, l: u64, k: u64, answer: &mut [u64]) -> u64
+    requires { ⌜ (7 ≤ length (now grant)) × (5 ≤ length (now answer)) ⌝ }
+    ensures { λ r. ⌜ (r ≡ up.backwardOf (upGrantOf (now (grant .entry)) []) slot l k .no) × (now (answer .exit) ≡ laid (backNumbers (up.backwardOf (upGrantOf (now (grant .entry)) []) slot l k)) (now (answer .entry))) ⌝ }
+{
+    let a = uplink::plain_backward(buffers::up_fields_of(grant), slot, l, k);
+    buffers::put5(answer, a.no, a.ours, a.symbol, a.position, a.kind)
+}
+
+pub fn back_ack(grant: &[u64], slot: u64, l: u64, k: u64, answer: &mut [u64]) -> u64
+    requires { ⌜ (4 ≤ length (now grant)) × (5 ≤ length (now answer)) ⌝ }
+    ensures { λ r. ⌜ (r ≡ ack.backwardOf (ackGrantOf (now (grant .entry)) []) slot l k .no) × (now (answer .exit) ≡ laid (backNumbers (ack.backwardOf (ackGrantOf (now (grant .entry)) []) slot l k)) (now (answer .entry))) ⌝ }
+{
+    let a = acknowledgement::plain_backward(buffers::ack_fields_of(grant), slot, l, k);
+    buffers::put5(answer, a.no, a.ours, a.symbol, a.position, a.kind)
+}
+
+// Forward at a walk's position, in the columns of a step.
+pub fn walked_up(walk: &[u64], answer: &mut [u64]) -> u64
+    requires { ⌜ (8 ≤ length (now walk)) × (7 ≤ length (now answer)) ⌝ }
+    ensures { λ r. ⌜ (r ≡ walkAt (upWalkOf (now (walk .entry)) []) [] [] .no) × (now (answer .exit) ≡ laid (stepNumbers (walkAt (upWalkOf (now (walk .entry)) []) [] [])) (now (answer .entry))) ⌝ }
+{
+    let a = uplink::plain_forward_or(buffers::up_fields_of(&walk[1..]), walk[0], walk::END);
+    buffers::put7(answer, a.no, 0, 0, a.slot, a.l, a.k, a.symbol)
+}
+
+pub fn walked_ack(walk: &[u64], answer: &mut [u64]) -> u64
+    requires { ⌜ (5 ≤ length (now walk)) × (7 ≤ length (now answer)) ⌝ }
+    ensures { λ r. ⌜ (r ≡ walkAt (ackWalkOf (now (walk .entry)) []) [] [] .no) × (now (answer .exit) ≡ laid (stepNumbers (walkAt (ackWalkOf (now (walk .entry)) []) [] [])) (now (answer .entry))) ⌝ }
+{
+    let a = acknowledgement::plain_forward_or(
+        buffers::ack_fields_of(&walk[1..]),
+        walk[0],
+        walk::END,
+    );
+    buffers::put7(answer, a.no, 0, 0, a.slot, a.l, a.k, a.symbol)
+}
+
+// ---- the same of either kind beside windows
+
+pub fn plan_windows(kind: Kind, grant: &[u64], windows: &[u64], answer: &mut [u64]) -> u64
+    requires { ⌜ (numbersOf kind ≤ length (now grant)) × (7 ≤ length (now answer)) ⌝ }
+    ensures { λ r. ⌜ (r ≡ planOn kind (now (grant .entry)) (now (windows .entry)) .no) × (now (answer .exit) ≡ laid (upPlanNumbers (planOn kind (now (grant .entry)) (now (windows .entry)))) (now (answer .entry))) ⌝ }
+{
+    let a = asked::plan(kind, grant, windows);
     buffers::put7(
         answer,
         a.no,
@@ -65,23 +120,39 @@ pub fn plain_plan_up(grant: &[u64], answer: &mut [u64]) -> u64
     )
 }
 
-// The same of a grant with no window, by its fields alone.
-pub fn plain_plan_ack(grant: &[u64], answer: &mut [u64]) -> u64
-    requires { ⌜ (4 ≤ length (now grant)) × (7 ≤ length (now answer)) ⌝ }
-    ensures { λ r. ⌜ (r ≡ ack.planOf (ack-fields.unwindowed (ackFieldsOf (now (grant .entry)))) .no) × (now (answer .exit) ≡ laid (upPlanNumbers (ack.planOf (ack-fields.unwindowed (ackFieldsOf (now (grant .entry)))))) (now (answer .entry))) ⌝ }
+pub fn place_windows(kind: Kind, grant: &[u64], windows: &[u64], p: u64, answer: &mut [u64]) -> u64
+    requires { ⌜ (numbersOf kind ≤ length (now grant)) × (5 ≤ length (now answer)) ⌝ }
+    ensures { λ r. ⌜ (r ≡ forwardOn 14 kind (now (grant .entry)) (now (windows .entry)) p .no) × (now (answer .exit) ≡ laid (upPlaceNumbers (forwardOn 14 kind (now (grant .entry)) (now (windows .entry)) p)) (now (answer .entry))) ⌝ }
 {
-    let a = nbiot::plain_plan_ack(buffers::ack_fields_of(grant));
-    buffers::put7(
-        answer,
-        a.no,
-        a.first,
-        a.last,
-        a.copies,
-        a.places,
-        a.size,
-        a.order,
-    )
+    let a = asked::forward_or(kind, grant, windows, p, 14);
+    buffers::put5(answer, a.no, a.slot, a.l, a.k, a.symbol)
 }
+
+pub fn back_windows(
+    kind: Kind,
+    grant: &[u64],
+    windows: &[u64],
+    slot: u64,
+    l: u64,
+    k: u64,
+    answer: &mut [u64],
+) -> u64
+    requires { ⌜ (numbersOf kind ≤ length (now grant)) × (5 ≤ length (now answer)) ⌝ }
+    ensures { λ r. ⌜ (r ≡ backwardOn kind (now (grant .entry)) (now (windows .entry)) slot l k .no) × (now (answer .exit) ≡ laid (backNumbers (backwardOn kind (now (grant .entry)) (now (windows .entry)) slot l k)) (now (answer .entry))) ⌝ }
+{
+    let a = asked::backward(kind, grant, windows, slot, l, k);
+    buffers::put5(answer, a.no, a.ours, a.symbol, a.position, a.kind)
+}
+
+pub fn walked_windows(kind: Kind, walk: &[u64], windows: &[u64], answer: &mut [u64]) -> u64
+    requires { ⌜ (numbersOf kind + 1 ≤ length (now walk)) × (7 ≤ length (now answer)) ⌝ }
+    ensures { λ r. ⌜ (r ≡ walkAt (walkOn kind (now (walk .entry)) (now (windows .entry))) [] [] .no) × (now (answer .exit) ≡ laid (stepNumbers (walkAt (walkOn kind (now (walk .entry)) (now (windows .entry))) [] [])) (now (answer .entry))) ⌝ }
+{
+    let a = asked::forward_or(kind, &walk[1..], windows, walk[0], walk::END);
+    buffers::put7(answer, a.no, 0, 0, a.slot, a.l, a.k, a.symbol)
+}
+
+// ---- downlink
 
 pub fn plan_down(
     cell: &[u64],
@@ -93,7 +164,7 @@ pub fn plan_down(
     requires { ⌜ (8 ≤ length (now cell)) × (5 ≤ length (now grant)) × (5 ≤ length (now answer)) ⌝ }
     ensures { λ r. ⌜ (r ≡ down.planOf (cellOf (now (cell .entry))) (now (anchor .entry)) (now (other .entry)) (downGrantOf (now (grant .entry))) .no) × (now (answer .exit) ≡ laid (downPlanNumbers (down.planOf (cellOf (now (cell .entry))) (now (anchor .entry)) (now (other .entry)) (downGrantOf (now (grant .entry))))) (now (answer .entry))) ⌝ }
 {
-    let a = nbiot::plan_down(
+    let a = downlink::plan(
         buffers::cell_of(cell),
         anchor,
         other,
@@ -112,69 +183,13 @@ pub fn plan_control(
     requires { ⌜ (8 ≤ length (now cell)) × (4 ≤ length (now grant)) × (5 ≤ length (now answer)) ⌝ }
     ensures { λ r. ⌜ (r ≡ control.planOf (cellOf (now (cell .entry))) (now (anchor .entry)) (now (other .entry)) (controlGrantOf (now (grant .entry))) .no) × (now (answer .exit) ≡ laid (downPlanNumbers (control.planOf (cellOf (now (cell .entry))) (now (anchor .entry)) (now (other .entry)) (controlGrantOf (now (grant .entry))))) (now (answer .entry))) ⌝ }
 {
-    let a = nbiot::plan_control(
+    let a = control::plan(
         buffers::cell_of(cell),
         anchor,
         other,
         buffers::control_grant_of(grant),
     );
     buffers::put5(answer, a.no, a.first, a.last, a.copies, a.places)
-}
-
-pub fn place_up(grant: &[u64], windows: &[u64], p: u64, answer: &mut [u64]) -> u64
-    requires { ⌜ (7 ≤ length (now grant)) × (5 ≤ length (now answer)) ⌝ }
-    ensures { λ r. ⌜ (r ≡ up.forwardOf (upGrantOf (now (grant .entry)) (now (windows .entry))) p .no) × (now (answer .exit) ≡ laid (upPlaceNumbers (up.forwardOf (upGrantOf (now (grant .entry)) (now (windows .entry))) p)) (now (answer .entry))) ⌝ }
-{
-    let a = asked::up_place(grant, windows, p);
-    buffers::put5(answer, a.no, a.slot, a.l, a.k, a.symbol)
-}
-
-pub fn place_ack(grant: &[u64], windows: &[u64], p: u64, answer: &mut [u64]) -> u64
-    requires { ⌜ (4 ≤ length (now grant)) × (5 ≤ length (now answer)) ⌝ }
-    ensures { λ r. ⌜ (r ≡ ack.forwardOf (ackGrantOf (now (grant .entry)) (now (windows .entry))) p .no) × (now (answer .exit) ≡ laid (upPlaceNumbers (ack.forwardOf (ackGrantOf (now (grant .entry)) (now (windows .entry))) p)) (now (answer .entry))) ⌝ }
-{
-    let a = asked::ack_place(grant, windows, p);
-    buffers::put5(answer, a.no, a.slot, a.l, a.k, a.symbol)
-}
-
-// The same of a grant with no window, by its fields alone.
-pub fn plain_place_up(grant: &[u64], p: u64, answer: &mut [u64]) -> u64
-    requires { ⌜ (7 ≤ length (now grant)) × (5 ≤ length (now answer)) ⌝ }
-    ensures { λ r. ⌜ (r ≡ up.forwardOf (up-fields.unwindowed (upFieldsOf (now (grant .entry)))) p .no) × (now (answer .exit) ≡ laid (upPlaceNumbers (up.forwardOf (up-fields.unwindowed (upFieldsOf (now (grant .entry)))) p)) (now (answer .entry))) ⌝ }
-{
-    let a = nbiot::plain_forward_up(buffers::up_fields_of(grant), p);
-    buffers::put5(answer, a.no, a.slot, a.l, a.k, a.symbol)
-}
-
-// Whichever of the two is quicker. A step asks this; a question's own call chooses by itself, so that either way has two callers and stays a call.
-fn placed_up(grant: &[u64], windows: &[u64], p: u64, answer: &mut [u64]) -> u64
-    requires { ⌜ (7 ≤ length (now grant)) × (5 ≤ length (now answer)) ⌝ }
-    ensures { λ r. ⌜ (r ≡ up.forwardOf (upGrantOf (now (grant .entry)) (now (windows .entry))) p .no) × (now (answer .exit) ≡ laid (upPlaceNumbers (up.forwardOf (upGrantOf (now (grant .entry)) (now (windows .entry))) p)) (now (answer .entry))) ⌝ }
-{
-    if buffers::no_window(windows) {
-        return plain_place_up(grant, p, answer);
-    }
-    place_up(grant, windows, p, answer)
-}
-
-// The same of a grant with no window, by its fields alone.
-pub fn plain_place_ack(grant: &[u64], p: u64, answer: &mut [u64]) -> u64
-    requires { ⌜ (4 ≤ length (now grant)) × (5 ≤ length (now answer)) ⌝ }
-    ensures { λ r. ⌜ (r ≡ ack.forwardOf (ack-fields.unwindowed (ackFieldsOf (now (grant .entry)))) p .no) × (now (answer .exit) ≡ laid (upPlaceNumbers (ack.forwardOf (ack-fields.unwindowed (ackFieldsOf (now (grant .entry)))) p)) (now (answer .entry))) ⌝ }
-{
-    let a = nbiot::plain_forward_ack(buffers::ack_fields_of(grant), p);
-    buffers::put5(answer, a.no, a.slot, a.l, a.k, a.symbol)
-}
-
-// Whichever of the two is quicker. A step asks this; a question's own call chooses by itself, so that either way has two callers and stays a call.
-fn placed_ack(grant: &[u64], windows: &[u64], p: u64, answer: &mut [u64]) -> u64
-    requires { ⌜ (4 ≤ length (now grant)) × (5 ≤ length (now answer)) ⌝ }
-    ensures { λ r. ⌜ (r ≡ ack.forwardOf (ackGrantOf (now (grant .entry)) (now (windows .entry))) p .no) × (now (answer .exit) ≡ laid (upPlaceNumbers (ack.forwardOf (ackGrantOf (now (grant .entry)) (now (windows .entry))) p)) (now (answer .entry))) ⌝ }
-{
-    if buffers::no_window(windows) {
-        return plain_place_ack(grant, p, answer);
-    }
-    place_ack(grant, windows, p, answer)
 }
 
 pub fn place_down(
@@ -188,7 +203,7 @@ pub fn place_down(
     requires { ⌜ (8 ≤ length (now cell)) × (5 ≤ length (now grant)) × (6 ≤ length (now answer)) ⌝ }
     ensures { λ r. ⌜ (r ≡ down.forwardOf (cellOf (now (cell .entry))) (now (anchor .entry)) (now (other .entry)) (downGrantOf (now (grant .entry))) p .no) × (now (answer .exit) ≡ laid (downPlaceNumbers (down.forwardOf (cellOf (now (cell .entry))) (now (anchor .entry)) (now (other .entry)) (downGrantOf (now (grant .entry))) p)) (now (answer .entry))) ⌝ }
 {
-    let a = nbiot::forward_down(
+    let a = downlink::forward(
         buffers::cell_of(cell),
         anchor,
         other,
@@ -209,7 +224,7 @@ pub fn place_control(
     requires { ⌜ (8 ≤ length (now cell)) × (4 ≤ length (now grant)) × (6 ≤ length (now answer)) ⌝ }
     ensures { λ r. ⌜ (r ≡ control.forwardOf (cellOf (now (cell .entry))) (now (anchor .entry)) (now (other .entry)) (controlGrantOf (now (grant .entry))) p .no) × (now (answer .exit) ≡ laid (downPlaceNumbers (control.forwardOf (cellOf (now (cell .entry))) (now (anchor .entry)) (now (other .entry)) (controlGrantOf (now (grant .entry))) p)) (now (answer .entry))) ⌝ }
 {
-    let a = nbiot::forward_control(
+    let a = control::forward(
         buffers::cell_of(cell),
         anchor,
         other,
@@ -220,84 +235,37 @@ pub fn place_control(
 }
 
 // Forward at a walk's position, in the columns of a step.
-pub fn walked_up(walk: &[u64], windows: &[u64], answer: &mut [u64]) -> u64
-    requires { ⌜ (8 ≤ length (now walk)) × (7 ≤ length (now answer)) ⌝ }
-    ensures { λ r. ⌜ (r ≡ walkAt (upWalkOf (now (walk .entry)) (now (windows .entry))) [] [] .no) × (now (answer .exit) ≡ laid (stepNumbers (walkAt (upWalkOf (now (walk .entry)) (now (windows .entry))) [] [])) (now (answer .entry))) ⌝ }
-{
-    let no = placed_up(&walk[1..], windows, walk[0], &mut answer[2..]);
-    buffers::put3(answer, no, 0, 0)
-}
-
-pub fn walked_ack(walk: &[u64], windows: &[u64], answer: &mut [u64]) -> u64
-    requires { ⌜ (5 ≤ length (now walk)) × (7 ≤ length (now answer)) ⌝ }
-    ensures { λ r. ⌜ (r ≡ walkAt (ackWalkOf (now (walk .entry)) (now (windows .entry))) [] [] .no) × (now (answer .exit) ≡ laid (stepNumbers (walkAt (ackWalkOf (now (walk .entry)) (now (windows .entry))) [] [])) (now (answer .entry))) ⌝ }
-{
-    let no = placed_ack(&walk[1..], windows, walk[0], &mut answer[2..]);
-    buffers::put3(answer, no, 0, 0)
-}
-
 pub fn walked_down(walk: &[u64], anchor: &[u8], other: &[u8], answer: &mut [u64]) -> u64
     requires { ⌜ (14 ≤ length (now walk)) × (7 ≤ length (now answer)) ⌝ }
     ensures { λ r. ⌜ (r ≡ walkAt (downWalkOf (now (walk .entry))) (now (anchor .entry)) (now (other .entry)) .no) × (now (answer .exit) ≡ laid (stepNumbers (walkAt (downWalkOf (now (walk .entry))) (now (anchor .entry)) (now (other .entry)))) (now (answer .entry))) ⌝ }
 {
-    let no = place_down(
-        &walk[1..],
+    let a = downlink::forward_or(
+        buffers::cell_of(&walk[1..]),
         anchor,
         other,
-        &walk[9..],
+        buffers::down_grant_of(&walk[9..]),
         walk[0],
-        &mut answer[1..],
+        walk::END,
     );
-    buffers::put2(answer, no, 0)
+    buffers::put7(answer, a.no, 0, a.t, a.slot, a.l, a.k, a.symbol)
 }
 
 pub fn walked_control(walk: &[u64], anchor: &[u8], other: &[u8], answer: &mut [u64]) -> u64
     requires { ⌜ (13 ≤ length (now walk)) × (7 ≤ length (now answer)) ⌝ }
     ensures { λ r. ⌜ (r ≡ walkAt (controlWalkOf (now (walk .entry))) (now (anchor .entry)) (now (other .entry)) .no) × (now (answer .exit) ≡ laid (stepNumbers (walkAt (controlWalkOf (now (walk .entry))) (now (anchor .entry)) (now (other .entry)))) (now (answer .entry))) ⌝ }
 {
-    let no = place_control(
-        &walk[1..],
+    let a = control::forward_or(
+        buffers::cell_of(&walk[1..]),
         anchor,
         other,
-        &walk[9..],
+        buffers::control_grant_of(&walk[9..]),
         walk[0],
-        &mut answer[1..],
+        walk::END,
     );
-    buffers::put2(answer, no, 0)
+    buffers::put7(answer, a.no, 0, a.t, a.slot, a.l, a.k, a.symbol)
 }
 
-// The plan of a walk's grant says whether its position is the end. The answer's buffer has room for the plan.
-pub fn ended_up(walk: &[u64], windows: &[u64], answer: &mut [u64]) -> bool
-    requires { ⌜ (8 ≤ length (now walk)) × (7 ≤ length (now answer)) ⌝ }
-    ensures { λ r. ⌜ (r ≡ isEnd (askedOf (upWalkOf (now (walk .entry)) (now (windows .entry))) [] []) (getD (now (walk .entry)) 0 0)) × (drop 7 (now (answer .exit)) ≡ drop 7 (now (answer .entry))) ⌝ }
-{
-    plan_up(&walk[1..], windows, answer);
-    walk::is_end(answer[0], answer[4], walk[0])
-}
-
-pub fn ended_ack(walk: &[u64], windows: &[u64], answer: &mut [u64]) -> bool
-    requires { ⌜ (5 ≤ length (now walk)) × (7 ≤ length (now answer)) ⌝ }
-    ensures { λ r. ⌜ (r ≡ isEnd (askedOf (ackWalkOf (now (walk .entry)) (now (windows .entry))) [] []) (getD (now (walk .entry)) 0 0)) × (drop 7 (now (answer .exit)) ≡ drop 7 (now (answer .entry))) ⌝ }
-{
-    plan_ack(&walk[1..], windows, answer);
-    walk::is_end(answer[0], answer[4], walk[0])
-}
-
-pub fn ended_down(walk: &[u64], anchor: &[u8], other: &[u8], answer: &mut [u64]) -> bool
-    requires { ⌜ (14 ≤ length (now walk)) × (7 ≤ length (now answer)) ⌝ }
-    ensures { λ r. ⌜ (r ≡ isEnd (askedOf (downWalkOf (now (walk .entry))) (now (anchor .entry)) (now (other .entry))) (getD (now (walk .entry)) 0 0)) × (drop 7 (now (answer .exit)) ≡ drop 7 (now (answer .entry))) ⌝ }
-{
-    plan_down(&walk[1..], anchor, other, &walk[9..], answer);
-    walk::is_end(answer[0], answer[4], walk[0])
-}
-
-pub fn ended_control(walk: &[u64], anchor: &[u8], other: &[u8], answer: &mut [u64]) -> bool
-    requires { ⌜ (13 ≤ length (now walk)) × (7 ≤ length (now answer)) ⌝ }
-    ensures { λ r. ⌜ (r ≡ isEnd (askedOf (controlWalkOf (now (walk .entry))) (now (anchor .entry)) (now (other .entry))) (getD (now (walk .entry)) 0 0)) × (drop 7 (now (answer .exit)) ≡ drop 7 (now (answer .entry))) ⌝ }
-{
-    plan_control(&walk[1..], anchor, other, &walk[9..], answer);
-    walk::is_end(answer[0], answer[4], walk[0])
-}
+// ---- a step
 
 // The next position's turn comes.
 pub fn moved(walk: &mut [u64]) -> u64
@@ -310,10 +278,10 @@ pub fn moved(walk: &mut [u64]) -> u64
 }
 
 // A step at a position that forward refuses.
-pub fn stopped(no: u64, end: bool, answer: &mut [u64]) -> u64
+pub fn stopped(no: u64, answer: &mut [u64]) -> u64
     requires { ⌜ 7 ≤ length (now answer) ⌝ }
-    ensures { λ r. ⌜ (r ≡ stoppedAt no end .no) × (now (answer .exit) ≡ laid (stepNumbers (stoppedAt no end)) (now (answer .entry))) ⌝ }
+    ensures { λ r. ⌜ (r ≡ stoppedAt no .no) × (now (answer .exit) ≡ laid (stepNumbers (stoppedAt no)) (now (answer .entry))) ⌝ }
 {
-    let a = walk::stopped(no, end);
+    let a = walk::stopped(no);
     buffers::put7(answer, a.no, a.finished, a.t, a.slot, a.l, a.k, a.symbol)
 }

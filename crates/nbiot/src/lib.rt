@@ -3,12 +3,9 @@ ghost use mathlib.Core.Path.{_≡_};
 ghost use Rattle.cell.specs.Judge.{judgeOf, inForceOf, causeOf};
 ghost use Rattle.subframes.specs.Cells.{elementCountOf};
 ghost use Rattle.uplink.specs.Questions as up;
-ghost use Rattle.uplink.specs.Unwindowed as fields;
 ghost use Rattle.acknowledgement.specs.Questions as ack;
-ghost use Rattle.acknowledgement.specs.Unwindowed as ack-fields;
 ghost use Rattle.downlink.specs.Questions as down;
 ghost use Rattle.control.specs.Questions as control;
-use acknowledgement::AckFields;
 use acknowledgement::AckGrant;
 use cell::CauseAnswer;
 use cell::Cell;
@@ -21,7 +18,6 @@ use subframes::DownlinkBack;
 use subframes::DownlinkPlace;
 use subframes::DownlinkPlan;
 use subframes::ElementCount;
-use uplink::UplinkFields;
 use uplink::UplinkGrant;
 
 // Judge a cell: the refusal number, or 0.
@@ -146,43 +142,6 @@ pub fn backward_control(
     ensures { λ r. ⌜ r ≡ control.backwardOf c (now (anchor .entry)) (now (other .entry)) g t slot l k ⌝ }
 {
     control::backward(c, anchor, other, g, t, slot, l, k)
-}
-
-// The same of fields alone: a grant with no random access window.
-pub fn plain_plan_up(f: UplinkFields) -> UplinkPlan
-    ensures { λ r. ⌜ r ≡ up.planOf (fields.unwindowed f) ⌝ }
-{
-    uplink::plain_plan(f)
-}
-
-pub fn plain_plan_ack(f: AckFields) -> UplinkPlan
-    ensures { λ r. ⌜ r ≡ ack.planOf (ack-fields.unwindowed f) ⌝ }
-{
-    acknowledgement::plain_plan(f)
-}
-
-pub fn plain_forward_up(f: UplinkFields, p: u64) -> UplinkPlace
-    ensures { λ r. ⌜ r ≡ up.forwardOf (fields.unwindowed f) p ⌝ }
-{
-    uplink::plain_forward(f, p)
-}
-
-pub fn plain_forward_ack(f: AckFields, p: u64) -> UplinkPlace
-    ensures { λ r. ⌜ r ≡ ack.forwardOf (ack-fields.unwindowed f) p ⌝ }
-{
-    acknowledgement::plain_forward(f, p)
-}
-
-pub fn plain_backward_up(f: UplinkFields, slot: u64, l: u64, k: u64) -> Back
-    ensures { λ r. ⌜ r ≡ up.backwardOf (fields.unwindowed f) slot l k ⌝ }
-{
-    uplink::plain_backward(f, slot, l, k)
-}
-
-pub fn plain_backward_ack(f: AckFields, slot: u64, l: u64, k: u64) -> Back
-    ensures { λ r. ⌜ r ≡ ack.backwardOf (ack-fields.unwindowed f) slot l k ⌝ }
-{
-    acknowledgement::plain_backward(f, slot, l, k)
 }
 
 // One step of a walk, the caller's record moved in place; and the same of a record by value.

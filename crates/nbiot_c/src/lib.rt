@@ -1,7 +1,9 @@
 // The public questions for C: numbers and slices in, answers into lent buffers. include/nbiot.h says the order of the numbers.
 // A buffer that is too short gets 255, before anything else is judged, and nothing is written.
+ghost use mathlib.Core.List.{[]};
 ghost use mathlib.Core.Path.{_≡_};
 ghost use Rattle.nbiot_c.specs.Calls as calls;
+use asked::Kind;
 
 const TOO_SHORT: u64 = 255;
 
@@ -72,30 +74,46 @@ pub extern "C" fn nbiot_count(cell: &[u64], anchor: &[u8], other: &[u8], answer:
 
 // First and last slot, copies, places, size and order.
 #[no_mangle]
-pub extern "C" fn nbiot_plan_up(grant: &[u64], windows: &[u64], answer: &mut [u64]) -> u64
+pub extern "C" fn nbiot_plan_up(grant: &[u64], answer: &mut [u64]) -> u64
+    ensures { λ r. ⌜ (r ≡ calls.planUp (now (grant .entry)) [] (now (answer .entry)) .number) × (now (answer .exit) ≡ calls.planUp (now (grant .entry)) [] (now (answer .entry)) .answer) ⌝ }
+{
+    if buffers::short2(7, 7, grant.len(), answer.len()) {
+        return TOO_SHORT;
+    }
+    lent::plan_up(grant, answer)
+}
+
+// The same beside windows.
+#[no_mangle]
+pub extern "C" fn nbiot_plan_up_windows(grant: &[u64], windows: &[u64], answer: &mut [u64]) -> u64
     ensures { λ r. ⌜ (r ≡ calls.planUp (now (grant .entry)) (now (windows .entry)) (now (answer .entry)) .number) × (now (answer .exit) ≡ calls.planUp (now (grant .entry)) (now (windows .entry)) (now (answer .entry)) .answer) ⌝ }
 {
     if buffers::short_up(7, 7, grant.len(), answer.len(), windows) {
         return TOO_SHORT;
     }
-    if buffers::no_window(windows) {
-        return lent::plain_plan_up(grant, answer);
-    }
-    lent::plan_up(grant, windows, answer)
+    lent::plan_windows(Kind::Up, grant, windows, answer)
 }
 
 // First and last slot, copies, places, size and order.
 #[no_mangle]
-pub extern "C" fn nbiot_plan_ack(grant: &[u64], windows: &[u64], answer: &mut [u64]) -> u64
+pub extern "C" fn nbiot_plan_ack(grant: &[u64], answer: &mut [u64]) -> u64
+    ensures { λ r. ⌜ (r ≡ calls.planAck (now (grant .entry)) [] (now (answer .entry)) .number) × (now (answer .exit) ≡ calls.planAck (now (grant .entry)) [] (now (answer .entry)) .answer) ⌝ }
+{
+    if buffers::short2(4, 7, grant.len(), answer.len()) {
+        return TOO_SHORT;
+    }
+    lent::plan_ack(grant, answer)
+}
+
+// The same beside windows.
+#[no_mangle]
+pub extern "C" fn nbiot_plan_ack_windows(grant: &[u64], windows: &[u64], answer: &mut [u64]) -> u64
     ensures { λ r. ⌜ (r ≡ calls.planAck (now (grant .entry)) (now (windows .entry)) (now (answer .entry)) .number) × (now (answer .exit) ≡ calls.planAck (now (grant .entry)) (now (windows .entry)) (now (answer .entry)) .answer) ⌝ }
 {
     if buffers::short_up(4, 7, grant.len(), answer.len(), windows) {
         return TOO_SHORT;
     }
-    if buffers::no_window(windows) {
-        return lent::plain_plan_ack(grant, answer);
-    }
-    lent::plan_ack(grant, windows, answer)
+    lent::plan_windows(Kind::Ack, grant, windows, answer)
 }
 
 // First and last subframe, copies and places.
@@ -134,7 +152,18 @@ pub extern "C" fn nbiot_plan_control(
 
 // The place of position p, and the symbol there.
 #[no_mangle]
-pub extern "C" fn nbiot_forward_up(
+pub extern "C" fn nbiot_forward_up(grant: &[u64], p: u64, answer: &mut [u64]) -> u64
+    ensures { λ r. ⌜ (r ≡ calls.forwardUp (now (grant .entry)) [] p (now (answer .entry)) .number) × (now (answer .exit) ≡ calls.forwardUp (now (grant .entry)) [] p (now (answer .entry)) .answer) ⌝ }
+{
+    if buffers::short2(7, 5, grant.len(), answer.len()) {
+        return TOO_SHORT;
+    }
+    lent::place_up(grant, p, answer)
+}
+
+// The same beside windows.
+#[no_mangle]
+pub extern "C" fn nbiot_forward_up_windows(
     grant: &[u64],
     windows: &[u64],
     p: u64,
@@ -145,15 +174,23 @@ pub extern "C" fn nbiot_forward_up(
     if buffers::short_up(7, 5, grant.len(), answer.len(), windows) {
         return TOO_SHORT;
     }
-    if buffers::no_window(windows) {
-        return lent::plain_place_up(grant, p, answer);
-    }
-    lent::place_up(grant, windows, p, answer)
+    lent::place_windows(Kind::Up, grant, windows, p, answer)
 }
 
 // The place of position p, and the symbol there.
 #[no_mangle]
-pub extern "C" fn nbiot_forward_ack(
+pub extern "C" fn nbiot_forward_ack(grant: &[u64], p: u64, answer: &mut [u64]) -> u64
+    ensures { λ r. ⌜ (r ≡ calls.forwardAck (now (grant .entry)) [] p (now (answer .entry)) .number) × (now (answer .exit) ≡ calls.forwardAck (now (grant .entry)) [] p (now (answer .entry)) .answer) ⌝ }
+{
+    if buffers::short2(4, 5, grant.len(), answer.len()) {
+        return TOO_SHORT;
+    }
+    lent::place_ack(grant, p, answer)
+}
+
+// The same beside windows.
+#[no_mangle]
+pub extern "C" fn nbiot_forward_ack_windows(
     grant: &[u64],
     windows: &[u64],
     p: u64,
@@ -164,10 +201,7 @@ pub extern "C" fn nbiot_forward_ack(
     if buffers::short_up(4, 5, grant.len(), answer.len(), windows) {
         return TOO_SHORT;
     }
-    if buffers::no_window(windows) {
-        return lent::plain_place_ack(grant, p, answer);
-    }
-    lent::place_ack(grant, windows, p, answer)
+    lent::place_windows(Kind::Ack, grant, windows, p, answer)
 }
 
 // The place of position p, and the symbol there.
@@ -210,6 +244,23 @@ pub extern "C" fn nbiot_forward_control(
 #[no_mangle]
 pub extern "C" fn nbiot_backward_up(
     grant: &[u64],
+    slot: u64,
+    l: u64,
+    k: u64,
+    answer: &mut [u64],
+) -> u64
+    ensures { λ r. ⌜ (r ≡ calls.backwardUp (now (grant .entry)) [] slot l k (now (answer .entry)) .number) × (now (answer .exit) ≡ calls.backwardUp (now (grant .entry)) [] slot l k (now (answer .entry)) .answer) ⌝ }
+{
+    if buffers::short2(7, 5, grant.len(), answer.len()) {
+        return TOO_SHORT;
+    }
+    lent::back_up(grant, slot, l, k, answer)
+}
+
+// The same beside windows.
+#[no_mangle]
+pub extern "C" fn nbiot_backward_up_windows(
+    grant: &[u64],
     windows: &[u64],
     slot: u64,
     l: u64,
@@ -221,13 +272,29 @@ pub extern "C" fn nbiot_backward_up(
     if buffers::short_up(7, 5, grant.len(), answer.len(), windows) {
         return TOO_SHORT;
     }
-    let a = asked::up_back(grant, windows, slot, l, k);
-    buffers::put5(answer, a.no, a.ours, a.symbol, a.position, a.kind)
+    lent::back_windows(Kind::Up, grant, windows, slot, l, k, answer)
 }
 
 // What stands at symbol l and subcarrier k of a slot.
 #[no_mangle]
 pub extern "C" fn nbiot_backward_ack(
+    grant: &[u64],
+    slot: u64,
+    l: u64,
+    k: u64,
+    answer: &mut [u64],
+) -> u64
+    ensures { λ r. ⌜ (r ≡ calls.backwardAck (now (grant .entry)) [] slot l k (now (answer .entry)) .number) × (now (answer .exit) ≡ calls.backwardAck (now (grant .entry)) [] slot l k (now (answer .entry)) .answer) ⌝ }
+{
+    if buffers::short2(4, 5, grant.len(), answer.len()) {
+        return TOO_SHORT;
+    }
+    lent::back_ack(grant, slot, l, k, answer)
+}
+
+// The same beside windows.
+#[no_mangle]
+pub extern "C" fn nbiot_backward_ack_windows(
     grant: &[u64],
     windows: &[u64],
     slot: u64,
@@ -240,8 +307,7 @@ pub extern "C" fn nbiot_backward_ack(
     if buffers::short_up(4, 5, grant.len(), answer.len(), windows) {
         return TOO_SHORT;
     }
-    let a = asked::ack_back(grant, windows, slot, l, k);
-    buffers::put5(answer, a.no, a.ours, a.symbol, a.position, a.kind)
+    lent::back_windows(Kind::Ack, grant, windows, slot, l, k, answer)
 }
 
 // What stands at symbol l and subcarrier k of a slot of subframe t, and why the subframe was skipped.
@@ -328,34 +394,70 @@ pub extern "C" fn nbiot_backward_control(
 
 // One step of a walk: the answer at its position, which moves on.
 #[no_mangle]
-pub extern "C" fn nbiot_step_up(walk: &mut [u64], windows: &[u64], answer: &mut [u64]) -> u64
+pub extern "C" fn nbiot_step_up(walk: &mut [u64], answer: &mut [u64]) -> u64
+    ensures { λ r. ⌜ (r ≡ calls.stepUp (now (walk .entry)) [] (now (answer .entry)) .number) × (now (walk .exit) ≡ calls.stepUp (now (walk .entry)) [] (now (answer .entry)) .walk) × (now (answer .exit) ≡ calls.stepUp (now (walk .entry)) [] (now (answer .entry)) .answer) ⌝ }
+{
+    if buffers::short2(8, 7, walk.len(), answer.len()) {
+        return TOO_SHORT;
+    }
+    let no = lent::walked_up(walk, answer);
+    if no == 0 {
+        return lent::moved(walk);
+    }
+    lent::stopped(no, answer)
+}
+
+// The same beside windows.
+#[no_mangle]
+pub extern "C" fn nbiot_step_up_windows(
+    walk: &mut [u64],
+    windows: &[u64],
+    answer: &mut [u64],
+) -> u64
     ensures { λ r. ⌜ (r ≡ calls.stepUp (now (walk .entry)) (now (windows .entry)) (now (answer .entry)) .number) × (now (walk .exit) ≡ calls.stepUp (now (walk .entry)) (now (windows .entry)) (now (answer .entry)) .walk) × (now (answer .exit) ≡ calls.stepUp (now (walk .entry)) (now (windows .entry)) (now (answer .entry)) .answer) ⌝ }
 {
     if buffers::short_up(8, 7, walk.len(), answer.len(), windows) {
         return TOO_SHORT;
     }
-    let no = lent::walked_up(walk, windows, answer);
+    let no = lent::walked_windows(Kind::Up, walk, windows, answer);
     if no == 0 {
         return lent::moved(walk);
     }
-    let end = lent::ended_up(walk, windows, answer);
-    lent::stopped(no, end, answer)
+    lent::stopped(no, answer)
 }
 
 // One step of a walk: the answer at its position, which moves on.
 #[no_mangle]
-pub extern "C" fn nbiot_step_ack(walk: &mut [u64], windows: &[u64], answer: &mut [u64]) -> u64
+pub extern "C" fn nbiot_step_ack(walk: &mut [u64], answer: &mut [u64]) -> u64
+    ensures { λ r. ⌜ (r ≡ calls.stepAck (now (walk .entry)) [] (now (answer .entry)) .number) × (now (walk .exit) ≡ calls.stepAck (now (walk .entry)) [] (now (answer .entry)) .walk) × (now (answer .exit) ≡ calls.stepAck (now (walk .entry)) [] (now (answer .entry)) .answer) ⌝ }
+{
+    if buffers::short2(5, 7, walk.len(), answer.len()) {
+        return TOO_SHORT;
+    }
+    let no = lent::walked_ack(walk, answer);
+    if no == 0 {
+        return lent::moved(walk);
+    }
+    lent::stopped(no, answer)
+}
+
+// The same beside windows.
+#[no_mangle]
+pub extern "C" fn nbiot_step_ack_windows(
+    walk: &mut [u64],
+    windows: &[u64],
+    answer: &mut [u64],
+) -> u64
     ensures { λ r. ⌜ (r ≡ calls.stepAck (now (walk .entry)) (now (windows .entry)) (now (answer .entry)) .number) × (now (walk .exit) ≡ calls.stepAck (now (walk .entry)) (now (windows .entry)) (now (answer .entry)) .walk) × (now (answer .exit) ≡ calls.stepAck (now (walk .entry)) (now (windows .entry)) (now (answer .entry)) .answer) ⌝ }
 {
     if buffers::short_up(5, 7, walk.len(), answer.len(), windows) {
         return TOO_SHORT;
     }
-    let no = lent::walked_ack(walk, windows, answer);
+    let no = lent::walked_windows(Kind::Ack, walk, windows, answer);
     if no == 0 {
         return lent::moved(walk);
     }
-    let end = lent::ended_ack(walk, windows, answer);
-    lent::stopped(no, end, answer)
+    lent::stopped(no, answer)
 }
 
 // One step of a walk: the answer at its position, which moves on.
@@ -375,8 +477,7 @@ pub extern "C" fn nbiot_step_down(
     if no == 0 {
         return lent::moved(walk);
     }
-    let end = lent::ended_down(walk, anchor, other, answer);
-    lent::stopped(no, end, answer)
+    lent::stopped(no, answer)
 }
 
 // One step of a walk: the answer at its position, which moves on.
@@ -396,8 +497,7 @@ pub extern "C" fn nbiot_step_control(
     if no == 0 {
         return lent::moved(walk);
     }
-    let end = lent::ended_control(walk, anchor, other, answer);
-    lent::stopped(no, end, answer)
+    lent::stopped(no, answer)
 }
 
 // The 336 numbers of transmitted subframe i.

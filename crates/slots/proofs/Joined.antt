@@ -13,7 +13,7 @@ use Rattle.counting.proofs.Select.{among-from-zero}
 use Rattle.grid.specs.Grid.{symbols, uplinkElementOf}
 use Rattle.sending.specs.CopyOrder.{carried}
 use Rattle.sending.specs.Sending.{ours, other}
-use Rattle.sending.specs.Answer.{backOf, refusedBack}
+use Rattle.sending.specs.Answer.{backOf, refusedBack, pastOr}
 use Rattle.slots.specs.declared.Shape.{Shape}
 use Rattle.slots.specs.declared.Split.{Split}
 use Rattle.slots.specs.declared.UplinkPlace.{UplinkPlace}
@@ -21,7 +21,7 @@ use Rattle.slots.specs.Fits.{Fits}
 use Rattle.slots.specs.Timing.{inBlock, groupAt, active, sentSlots, slotAt, isSent, indexOf}
 use Rattle.slots.specs.Elements.{carriesData, carriesReference, slotData, numberOf}
 use Rattle.slots.specs.Mapping.{places}
-use Rattle.slots.specs.Quick.{splitOf}
+use Rattle.slots.specs.Quick.{splitOf, shapeForwardOr}
 use Rattle.slots.specs.Answers.{refusedPlace, shapeForward, shapeBackward}
 
 -- ---- slots
@@ -62,11 +62,15 @@ module _ (s : Shape) (isOpen : ℕ → Bool) (p : ℕ) where
   unfolding shapeForward
   forward-refused h = rw (le-ltb p (places s) h) refl
 
-  pub forward-is : (at : Split) (w slot unit symbol : ℕ) → p < places s → w ≡ slotData s → at ≡ splitOf s p → slot ≡ slotAt s isOpen (at .i)
+  pub forward-past : (end n : ℕ) → n ≡ pastOr end (places s) p → places s ≤ p → refusedPlace n ≡ shapeForwardOr end s isOpen p
+  unfolding shapeForwardOr
+  forward-past end n e h = rw (le-ltb p (places s) h) (ap refusedPlace e)
+
+  pub forward-is : (end : ℕ) (at : Split) (w slot unit symbol : ℕ) → p < places s → w ≡ slotData s → at ≡ splitOf s p → slot ≡ slotAt s isOpen (at .i)
       → unit ≡ carried (s .row) (s .group) (s .codeword) (at .i) → symbol ≡ unit * w + at .e
-      → _≡_ {A = UplinkPlace} (record { no = 0; slot = slot; l = at .l; k = at .k; symbol = symbol }) (shapeForward s isOpen p)
-  unfolding shapeForward
-  forward-is at w slot unit symbol h hw ha hs hu hy =
+      → _≡_ {A = UplinkPlace} (record { no = 0; slot = slot; l = at .l; k = at .k; symbol = symbol }) (shapeForwardOr end s isOpen p)
+  unfolding shapeForwardOr
+  forward-is end at w slot unit symbol h hw ha hs hu hy =
       rw (lt-ltb p (places s) h)
       (λ j. record {
         no = 0;

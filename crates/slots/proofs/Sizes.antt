@@ -6,13 +6,13 @@ use Rattle.slots.specs.declared.Shape.{Shape}
 use Rattle.slots.specs.Fits.{Fits}
 use Rattle.slots.specs.Timing.{inBlock, active, slotAt, isSent, indexOf}
 use Rattle.slots.specs.Elements.{carriesData, carriesReference, slotData, elementAt, numberOf}
-use Rattle.slots.specs.Answers.{shapeForward, shapeBackward}
-use Rattle.slots.specs.Quick.{sized}
+use Rattle.slots.specs.Answers.{shapeBackward}
+use Rattle.slots.specs.Quick.{sized, shapeForwardOr}
 
 module _ (s : Shape) (size order : ℕ) where
-  pub forward-sized : (isOpen : ℕ → Bool) (p : ℕ) → shapeForward (sized s size order) isOpen p ≡ shapeForward s isOpen p
-  unfolding shapeForward active inBlock slotAt carriesData slotData elementAt
-  forward-sized isOpen p = refl
+  pub forward-sized : (end : ℕ) (isOpen : ℕ → Bool) (p : ℕ) → shapeForwardOr end (sized s size order) isOpen p ≡ shapeForwardOr end s isOpen p
+  unfolding shapeForwardOr active inBlock slotAt carriesData slotData elementAt
+  forward-sized end isOpen p = refl
 
   pub backward-sized : (isOpen : ℕ → Bool) (slot l k : ℕ) → shapeBackward (sized s size order) isOpen slot l k ≡ shapeBackward s isOpen slot l k
   unfolding shapeBackward active inBlock isSent indexOf carriesData carriesReference slotData numberOf

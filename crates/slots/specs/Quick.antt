@@ -2,19 +2,24 @@
 use mathlib.Core.Bool.{Bool, true, cond, not, _&&_}
 use mathlib.Core.Path.{_≡_}
 use Prim.Native.Nat.{ℕ, _+_, _-_, _*_, _/_, _%_, _<_}
-use lib.Dec.{ltb}
+use lib.Dec.{eqb, ltb}
 use Rattle.counting.specs.Counting.{rank}
 use Rattle.bars.specs.declared.Bar.{Bar}
 use Rattle.bars.specs.declared.Levels.{Levels}
 use Rattle.bars.specs.Bars.{clear, isFree}
 use Rattle.bars.specs.Quick.{Stacked, Repeats}
 use Rattle.grid.specs.Grid.{uplinkSymbolOf, uplinkSubcarrierOf}
+use Rattle.sending.specs.Sending.{spotAt}
+use Rattle.sending.specs.Answer.{pastOr}
 use Rattle.slots.specs.declared.Shape.{Shape}
 use Rattle.slots.specs.declared.timing.Course.{Course}
 use Rattle.slots.specs.declared.Split.{Split}
 use Rattle.slots.specs.declared.Turn.{Turn}
+use Rattle.slots.specs.declared.UplinkPlace.{UplinkPlace}
 use Rattle.slots.specs.Timing.{round, active, sentSlots, isSent, indexOf}
 use Rattle.slots.specs.Elements.{slotData, elementAt}
+use Rattle.slots.specs.Mapping.{sendingOf, places}
+use Rattle.slots.specs.Answers.{refusedPlace, placeOf}
 
 -- the symbol of a line of data elements
 abbrev pub symbolOfLine : Shape → ℕ → ℕ
@@ -100,3 +105,12 @@ sized s size order = record {
   size = size;
   order = order;
 }
+
+-- ---- forward for a step: `end` is the number right after the last position
+
+unfoldable pub shapeForwardOr : ℕ → Shape → (ℕ → Bool) → ℕ → UplinkPlace
+shapeForwardOr end s isOpen p =
+    cond (ltb p (places s)) (placeOf (s .subcarriers) (spotAt (sendingOf s isOpen) p)) (refusedPlace (pastOr end (places s) p))
+
+unfoldable pub forwardAnswerOr : ℕ → ℕ → Shape → (ℕ → Bool) → ℕ → UplinkPlace
+forwardAnswerOr end refusal s isOpen p = cond (eqb refusal 0) (shapeForwardOr end s isOpen p) (refusedPlace refusal)

@@ -7,8 +7,8 @@ ghost use Rattle.bars.specs.Bars.{clear};
 ghost use Rattle.slots.specs.Fits.{Fits, Leaves};
 ghost use Rattle.slots.specs.Timing.{allOpen, sentSlots, slotAt};
 ghost use Rattle.slots.specs.Mapping.{places};
-ghost use Rattle.slots.specs.Quick.{Searchable, splitOf, amongSent, Counted, Located};
-ghost use Rattle.slots.specs.Answers.{refusedPlan, refusedPlace, shapePlan, shapeForward, shapeBackward};
+ghost use Rattle.slots.specs.Quick.{Searchable, splitOf, amongSent, Counted, Located, shapeForwardOr};
+ghost use Rattle.slots.specs.Answers.{refusedPlan, refusedPlace, shapePlan, shapeBackward};
 use bars::Levels;
 use grid::UplinkGrid;
 use sending::Back;
@@ -233,14 +233,14 @@ pub fn plain_plan(s: Shape) -> UplinkPlan
     planned(s, plain_slot_at(s, 0), plain_slot_at(s, last))
 }
 
-// The place of position p, which `at` is taken apart and which is in `slot`, and the symbol there. Whoever asks takes it apart and finds the slot: one
-// function of all would be too long for the compiler to put into either kind of grant's.
-pub fn forward(s: Shape, p: u64, at: Split, slot: u64) -> UplinkPlace
+// The place of position p, which `at` is taken apart and which is in `slot`, and the symbol there; `end` is the number right after the last position.
+// Whoever asks takes it apart and finds the slot: one function of all would be too long for the compiler to put into either kind of grant's.
+pub fn forward_or(s: Shape, p: u64, at: Split, slot: u64, end: u64) -> UplinkPlace
     requires { ⌜ Fits s × (at ≡ splitOf s p) ⌝ }
-    ensures { λ r. ⌜ ((isOpen : ℕ → Bool) → (at .i < sentSlots s → slot ≡ slotAt s isOpen (at .i)) → r ≡ shapeForward s isOpen p) ⌝ }
+    ensures { λ r. ⌜ ((isOpen : ℕ → Bool) → (at .i < sentSlots s → slot ≡ slotAt s isOpen (at .i)) → r ≡ shapeForwardOr end s isOpen p) ⌝ }
 {
     if at.i >= sent_slots(s) {
-        return refused_place(14);
+        return refused_place(sending::past(places(s), p, end));
     }
     let w = data::slot_data(s);
     let unit = carried_by(s, at.i);

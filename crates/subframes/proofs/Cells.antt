@@ -16,13 +16,15 @@ use Rattle.cell.specs.Quick.{Shows, seen}
 use Rattle.cell.proofs.Accepted.{WellFormed}
 use Rattle.cell.proofs.Showing.{same-test, seen-is, select-usable}
 use Rattle.elements.specs.Elements.{Valid}
+use Rattle.sending.proofs.Answer.{past-14}
 use Rattle.spans.specs.declared.Pattern.{Pattern}
 use Rattle.spans.specs.Pattern.{allows, periodOf}
 use Rattle.subframes.specs.declared.Burst.{Burst}
 use Rattle.subframes.specs.declared.Ready.{Ready}
 use Rattle.subframes.specs.Answers.{refusedPlan, refusedPlace, isBetween, burstPlan, burstForward, burstBackward, planAnswer, forwardAnswer, backwardAnswer, causeAnswer, backAnswer}
-use Rattle.subframes.specs.Quick.{ReadyFor}
+use Rattle.subframes.specs.Quick.{ReadyFor, burstForwardOr, forwardAnswerOr}
 use Rattle.subframes.specs.Cells.{layoutOf}
+use Rattle.subframes.specs.Mapping.{places}
 use Rattle.subframes.proofs.Skipped.{refused-told}
 
 pub layout-valid : (c : Cell) → WellFormed c → Valid (layoutOf c)
@@ -49,13 +51,18 @@ plan-refused : (n : ℕ) → (n ≡ 0 → ⊥) → (u v : ℕ → Bool) (P Q : �
 unfolding planAnswer
 plan-refused n h u v P Q a d = simp (ne-eqb n 0 h)
 
-forward-free : (p : ℕ) (b : Burst) (u : ℕ → Bool) (P Q : ℕ) → Same u P Q → forwardAnswer 0 u P b p ≡ forwardAnswer 0 u Q b p
-unfolding forwardAnswer burstForward
-forward-free p b u P Q e = simp e
+forward-free : (end p : ℕ) (b : Burst) (u : ℕ → Bool) (P Q : ℕ) → Same u P Q → forwardAnswerOr end 0 u P b p ≡ forwardAnswerOr end 0 u Q b p
+unfolding forwardAnswerOr burstForwardOr
+forward-free end p b u P Q e = simp e
 
-forward-refused : (p n : ℕ) → (n ≡ 0 → ⊥) → (u v : ℕ → Bool) (P Q : ℕ) (a d : Burst) → forwardAnswer n u P a p ≡ forwardAnswer n v Q d p
-unfolding forwardAnswer
-forward-refused p n h u v P Q a d = simp (ne-eqb n 0 h)
+forward-refused : (end p n : ℕ) → (n ≡ 0 → ⊥) → (u v : ℕ → Bool) (P Q : ℕ) (a d : Burst) → forwardAnswerOr end n u P a p ≡ forwardAnswerOr end n v Q d p
+unfolding forwardAnswerOr
+forward-refused end p n h u v P Q a d = simp (ne-eqb n 0 h)
+
+-- forward itself says 14 right after the last position too
+pub forward-or-14 : (refusal : ℕ) (u : ℕ → Bool) (P : ℕ) (b : Burst) (p : ℕ) → forwardAnswerOr 14 refusal u P b p ≡ forwardAnswer refusal u P b p
+unfolding forwardAnswer forwardAnswerOr burstForward burstForwardOr
+forward-or-14 refusal u P b p = rw (past-14 (places b) p) refl
 
 back-free : (w : ℕ → Cause) (t slot l k : ℕ) (b : Burst) (u : ℕ → Bool) (P Q : ℕ) → Same u P Q
     → backAnswer 0 u P b w t slot l k ≡ backAnswer 0 u Q b w t slot l k
@@ -89,8 +96,8 @@ module _ (c : Cell) (m : List ℕ) (refusal : ℕ) (b : Burst) (q : Ready) (p : 
   pub plan-ready : planAnswer (q .no) (allows p) (periodOf p) (q .burst) ≡ planAnswer refusal (usable c m) period b
   plan-ready = answer-same planAnswer (plan-free b) plan-refused
 
-  pub forward-ready : (x : ℕ) → forwardAnswer (q .no) (allows p) (periodOf p) (q .burst) x ≡ forwardAnswer refusal (usable c m) period b x
-  forward-ready x = answer-same (λ n u P d. forwardAnswer n u P d x) (forward-free x b) (forward-refused x)
+  pub forward-ready : (end x : ℕ) → forwardAnswerOr end (q .no) (allows p) (periodOf p) (q .burst) x ≡ forwardAnswerOr end refusal (usable c m) period b x
+  forward-ready end x = answer-same (λ n u P d. forwardAnswerOr end n u P d x) (forward-free end x b) (forward-refused end x)
 
   -- the cause by the pattern is the cell's; a refused question reads neither
   cause-ready : (t slot l k : ℕ) → backAnswer (q .no) (allows p) (periodOf p) (q .burst) (seen c p) t slot l k

@@ -10,14 +10,14 @@ use Rattle.counting.specs.Counting.{count, select}
 use Rattle.grid.specs.Grid.{elements, elementOf}
 use Rattle.sending.specs.CopyOrder.{carried}
 use Rattle.sending.specs.Sending.{Spot, Content, ours, other}
-use Rattle.sending.specs.Answer.{backOf, refusedBack}
+use Rattle.sending.specs.Answer.{backOf, refusedBack, pastOr}
 use Rattle.elements.specs.Elements.{kindOf, used, countOf, elementAt, numberOf}
 use Rattle.elements.proofs.Laws.{count-some, count-le}
 use Rattle.subframes.specs.declared.Burst.{Burst}
 use Rattle.subframes.specs.Fits.{Fits}
 use Rattle.subframes.specs.Mapping.{sentSubframes, firstOf, isSent, places}
-use Rattle.subframes.specs.Answers.{refusedPlace, placeOf, insideGrid, burstForward, burstBackward}
-use Rattle.subframes.specs.Quick.{standsIn}
+use Rattle.subframes.specs.Answers.{refusedPlace, placeOf, insideGrid, burstBackward}
+use Rattle.subframes.specs.Quick.{standsIn, burstForwardOr}
 
 abbrev W : Burst → ℕ
 W b = countOf (b .layout) (b .low) (b .width)
@@ -31,9 +31,9 @@ places-small n w h l = omega (arith, mul-le-mul h l)
 -- ---- forward
 
 module _ (u : ℕ → Bool) (P : ℕ) (b : Burst) (p : ℕ) where
-  pub forward-refused : (n : ℕ) → n ≡ places b → n ≤ p → refusedPlace 14 ≡ burstForward u P b p
-  unfolding burstForward
-  forward-refused n e h = rw (le-ltb p (places b) (omega arith)) refl
+  pub forward-past : (end n m : ℕ) → n ≡ places b → n ≤ p → m ≡ pastOr end n p → refusedPlace m ≡ burstForwardOr end u P b p
+  unfolding burstForwardOr
+  forward-past end n m e h g = rw (le-ltb p (places b) (omega arith)) (ap refusedPlace (g ∙ ap (λ (x : ℕ). pastOr end x p) e))
 
   module _ (f : Fits b) (w : ℕ) (h : p < places b) (hw : w ≡ W b) where
     pub unit-below : p / w < sentSubframes b
@@ -46,11 +46,11 @@ module _ (u : ℕ → Bool) (P : ℕ) (b : Burst) (p : ℕ) where
       → _≡_ {A = Spot} (record { time = t; element = x; symbol = s }) (record { time = t'; element = x'; symbol = s' })
   spot-path a b c = λ i. record { time = a i; element = b i; symbol = c i }
 
-  pub forward-is : (w t x unit symbol : ℕ) → p < places b → w ≡ W b → t ≡ select u P (firstOf u P b) (p / w)
+  pub forward-is : (end w t x unit symbol : ℕ) → p < places b → w ≡ W b → t ≡ select u P (firstOf u P b) (p / w)
       → x ≡ elementAt (b .layout) (b .low) (b .width) (p % w) → unit ≡ carried (b .row) 1 (b .codeword) (p / w) → symbol ≡ unit * w + p % w
-      → placeOf (record { time = t; element = x; symbol = symbol }) ≡ burstForward u P b p
-  unfolding burstForward
-  forward-is w t x unit symbol h hw ht hx hu hs =
+      → placeOf (record { time = t; element = x; symbol = symbol }) ≡ burstForwardOr end u P b p
+  unfolding burstForwardOr
+  forward-is end w t x unit symbol h hw ht hx hu hs =
       rw (lt-ltb p (places b) h)
       (ap placeOf (spot-path (ht ∙ ap (λ (y : ℕ). select u P (firstOf u P b) (p / y)) hw)
       (hx ∙ ap (λ (y : ℕ). elementAt (b .layout) (b .low) (b .width) (p % y)) hw)

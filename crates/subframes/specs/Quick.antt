@@ -1,17 +1,21 @@
 -- What the code works out once it knows that a subframe is sent. No definition of 01 cites this file.
-use mathlib.Core.Bool.{cond}
+use mathlib.Core.Bool.{Bool, cond}
 use mathlib.Core.List.{List}
 use mathlib.Core.Path.{_≡_}
 use Prim.Native.Nat.{ℕ, _+_, _*_}
-use lib.Dec.{eqb}
+use lib.Dec.{eqb, ltb}
 use Rattle.sending.specs.CopyOrder.{carried}
-use Rattle.sending.specs.Sending.{Content, ours, other}
+use Rattle.sending.specs.Sending.{Content, ours, other, spotAt}
+use Rattle.sending.specs.Answer.{pastOr}
 use Rattle.elements.specs.Elements.{kindOf, used, countOf, numberOf}
 use Rattle.cell.specs.declared.Cell.{Cell}
 use Rattle.cell.specs.Quick.{Shows}
 use Rattle.spans.specs.declared.Pattern.{Pattern}
 use Rattle.subframes.specs.declared.Burst.{Burst}
 use Rattle.subframes.specs.declared.Ready.{Ready}
+use Rattle.subframes.specs.declared.DownlinkPlace.{DownlinkPlace}
+use Rattle.subframes.specs.Mapping.{sendingOf, places}
+use Rattle.subframes.specs.Answers.{refusedPlace, placeOf}
 use Rattle.subframes.specs.Fits.{Fits, Going}
 
 -- what stands at element x of the i-th subframe that is sent
@@ -38,3 +42,11 @@ pub record ReadyFor (c : Cell) (m : List ℕ) (refusal : ℕ) (b : Burst) (q : R
   pub answerable : Answerable q p
   pub shows : q .no ≡ 0 → Shows c m p
   pub burst : q .no ≡ 0 → q .burst ≡ b
+
+-- ---- forward for a step: `end` is the number right after the last position
+
+unfoldable pub burstForwardOr : ℕ → (ℕ → Bool) → ℕ → Burst → ℕ → DownlinkPlace
+burstForwardOr end u P b p = cond (ltb p (places b)) (placeOf (spotAt (sendingOf u P b) p)) (refusedPlace (pastOr end (places b) p))
+
+unfoldable pub forwardAnswerOr : ℕ → ℕ → (ℕ → Bool) → ℕ → Burst → ℕ → DownlinkPlace
+forwardAnswerOr end refusal u P b p = cond (eqb refusal 0) (burstForwardOr end u P b p) (refusedPlace refusal)

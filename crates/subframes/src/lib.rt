@@ -10,10 +10,10 @@ ghost use Rattle.grid.specs.Grid.{elements, slots, symbols, subcarriers, elemen
 ghost use Rattle.sending.specs.CopyOrder.{carried};
 ghost use Rattle.sending.specs.Answer.{backOf};
 ghost use Rattle.subframes.specs.Fits.{Fits, Going};
-ghost use Rattle.subframes.specs.Quick.{standsIn, Answerable};
+ghost use Rattle.subframes.specs.Quick.{standsIn, Answerable, burstForwardOr, forwardAnswerOr};
 ghost use Rattle.subframes.specs.Cells.{layoutOf, countOn, elementCountOf, fieldsRefusal};
 ghost use Rattle.subframes.specs.Mapping.{sentSubframes};
-ghost use Rattle.subframes.specs.Answers.{refusedPlan, refusedPlace, placeOf, burstPlan, burstForward, backAnswer, planAnswer, forwardAnswer};
+ghost use Rattle.subframes.specs.Answers.{refusedPlan, refusedPlace, placeOf, burstPlan, backAnswer, planAnswer};
 use cell::Cause;
 use cell::Cell;
 use elements::Layout;
@@ -167,14 +167,15 @@ fn burst_plan(p: Pattern, b: Burst) -> DownlinkPlan
     }
 }
 
-// The place of a position, and the symbol there.
-fn burst_forward(p: Pattern, b: Burst, position: u64) -> DownlinkPlace
+// The place of a position, and the symbol there; `end` is the number right after the last position.
+fn burst_forward_or(p: Pattern, b: Burst, position: u64, end: u64) -> DownlinkPlace
     requires { ⌜ Going p × Fits b ⌝ }
-    ensures { λ r. ⌜ r ≡ burstForward (allows p) (periodOf p) b position ⌝ }
+    ensures { λ r. ⌜ r ≡ burstForwardOr end (allows p) (periodOf p) b position ⌝ }
 {
     let w = used_elements(b);
-    if position >= sent_subframes(b) * w {
-        return refused_place(14);
+    let total = sent_subframes(b) * w;
+    if position >= total {
+        return refused_place(sending::past(total, position, end));
     }
     let i = position / w;
     let e = position % w;
@@ -328,15 +329,15 @@ pub fn plan(q: Ready, p: Pattern) -> DownlinkPlan
     burst_plan(p, q.burst)
 }
 
-// Forward: the refusal, or the place of a position and the symbol there.
-pub fn forward(q: Ready, p: Pattern, position: u64) -> DownlinkPlace
+// Forward: the refusal, or the place of a position and the symbol there; `end` is the number right after the last position.
+pub fn forward_or(q: Ready, p: Pattern, position: u64, end: u64) -> DownlinkPlace
     requires { ⌜ Answerable q p ⌝ }
-    ensures { λ r. ⌜ r ≡ forwardAnswer (q .no) (allows p) (periodOf p) (q .burst) position ⌝ }
+    ensures { λ r. ⌜ r ≡ forwardAnswerOr end (q .no) (allows p) (periodOf p) (q .burst) position ⌝ }
 {
     if q.no != 0 {
         return refused_place(q.no);
     }
-    burst_forward(p, q.burst, position)
+    burst_forward_or(p, q.burst, position, end)
 }
 
 // Backward on cell c: the refusal, or what stands at an element of subframe t and why it was skipped.

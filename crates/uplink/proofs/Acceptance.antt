@@ -16,8 +16,9 @@ use Rattle.sending.specs.declared.Back.{Back}
 use Rattle.slots.specs.declared.Shape.{Shape}
 use Rattle.slots.specs.declared.UplinkPlan.{UplinkPlan}
 use Rattle.slots.specs.declared.UplinkPlace.{UplinkPlace}
-use Rattle.slots.specs.Answers.{planAnswer, forwardAnswer, backwardAnswer}
-use Rattle.slots.specs.Quick.{sized}
+use Rattle.slots.specs.Answers.{shapePlan, shapeBackward, planAnswer, backwardAnswer}
+use Rattle.slots.specs.Quick.{sized, shapeForwardOr, forwardAnswerOr}
+use Rattle.slots.proofs.Judging.{forward-or-14, fits-asked, plan-asked, forward-asked, backward-asked}
 use Rattle.windows.specs.Windows.{none}
 use Rattle.windows.proofs.Spaced.{none-refuses, none-closes}
 use Rattle.windowed.specs.Beside.{refusalBeside, openBeside, Spaced}
@@ -29,6 +30,7 @@ use Rattle.numerology.specs.Numerology.{groupOf}
 use Rattle.uplink.specs.Fields.{toneFields, tonesOf, unitSlots}
 use Rattle.uplink.specs.Refusals.{lastSubframe, aboveLargest, namesNoTone, aboveMcs, windowsNumber, fieldsRefusal, refusalWithin, refusal}
 use Rattle.uplink.specs.Shaping.{shapeOf, openOf}
+use Rattle.uplink.specs.Quick.{forwardOr}
 use Rattle.uplink.specs.Questions.{planOf, forwardOf, backwardOf}
 use Rattle.uplink.proofs.Fielded.{tone-field, whole-groups, row-splits, row-bounds}
 
@@ -186,11 +188,11 @@ module _ (g : UplinkGrant) (f : UplinkFields) (h : f ≡ fieldsOf g) (n : ℕ) (
     plan-is k r h =
         h ∙ rw spacing-is (plan-beside (fieldsRefusal lastSubframe g) (g .spacing) (shapeOf g) (g .windows) (sym fields-number ∙ z) s size order own-shape k)
 
-    pub forward-is : (p : ℕ) (r : UplinkPlace)
-        → r ≡ forwardAnswer (refusalBeside (f .spacing) s (g .windows)) s (openBeside (f .spacing) s (g .windows)) p → r ≡ forwardOf g p
-    unfolding forwardOf refusalWithin shapeOf
-    forward-is p r h =
-        h ∙ rw spacing-is (forward-beside (fieldsRefusal lastSubframe g) (g .spacing) (shapeOf g) (g .windows) (sym fields-number ∙ z) s size order own-shape p)
+    pub forward-is : (end p : ℕ) (r : UplinkPlace)
+        → r ≡ forwardAnswerOr end (refusalBeside (f .spacing) s (g .windows)) s (openBeside (f .spacing) s (g .windows)) p → r ≡ forwardOr end g p
+    unfolding forwardOr refusalWithin shapeOf
+    forward-is end p r h =
+        h ∙ rw spacing-is (forward-beside (fieldsRefusal lastSubframe g) (g .spacing) (shapeOf g) (g .windows) (sym fields-number ∙ z) s size order own-shape end p)
 
     pub backward-is : (slot l k : ℕ) (r : Back)
         → r ≡ backwardAnswer (refusalBeside (f .spacing) s (g .windows)) s (openBeside (f .spacing) s (g .windows)) slot l k → r ≡ backwardOf g slot l k
@@ -209,32 +211,31 @@ module _ (f : UplinkFields) where
   pub plain-open : (u : ℕ) → allOpen u ≡ openOf (unwindowed f) u
   plain-open u = none-closes (f .spacing) _ _ none refl u
 
--- ---- a grant whose windows are none by their count: that of its fields
+  -- their number, and if there is none their shape, but for size and order
+  module _ (n : ℕ) (e : n ≡ fieldsRefusal lastSubframe (unwindowed f)) where
+    pub plain-number : n ≡ refusal (unwindowed f)
+    plain-number = e ∙ plain-refusal
 
-module _ (g : UplinkGrant) (z : g .windows .count ≡ 0) where
-  abbrev plain : UplinkGrant
-  plain = unwindowed (fieldsOf g)
+    module _ (z : n ≡ 0) (s : Shape) (size order : ℕ) (own : s ≡ sized (shapeOf (unwindowed f)) size order) where
+      accepted-plain : refusal (unwindowed f) ≡ 0
+      accepted-plain = sym plain-number ∙ z
 
-  same-refusal : refusal plain ≡ refusal g
-  unfolding refusalWithin fieldsRefusal
-  same-refusal =
-      ap (λ (n : ℕ). cond (eqb (fieldsRefusal lastSubframe g) 0) n (fieldsRefusal lastSubframe g))
-      (none-refuses (g .spacing) _ _ none refl ∙ sym (none-refuses (g .spacing) _ _ (g .windows) z))
+      pub plain-fits : Fits s
+      plain-fits = fits-asked (shapeOf (unwindowed f)) s size order own (fits (unwindowed f) accepted-plain)
 
-  each-open : (u : ℕ) → openOf plain u ≡ openOf g u
-  each-open u = sym (none-closes (g .spacing) _ _ none refl u) ∙ none-closes (g .spacing) _ _ (g .windows) z u
+      pub plain-plan-is : sized (shapeOf (unwindowed f)) size order ≡ shapeOf (unwindowed f) → shapePlan s allOpen ≡ planOf (unwindowed f)
+      unfolding planOf
+      plain-plan-is = plan-asked (shapeOf (unwindowed f)) s size order own (openOf (unwindowed f)) allOpen plain-open (refusal (unwindowed f)) accepted-plain
 
-  same-open : openOf plain ≡ openOf g
-  same-open i u = each-open u i
+      pub plain-forward-is : (end p : ℕ) → shapeForwardOr end s allOpen p ≡ forwardOr end (unwindowed f) p
+      unfolding forwardOr
+      plain-forward-is = forward-asked (shapeOf (unwindowed f)) s size order own (openOf (unwindowed f)) allOpen plain-open (refusal (unwindowed f)) accepted-plain
 
-  pub plan-uncounted : planOf plain ≡ planOf g
-  unfolding planOf shapeOf
-  plan-uncounted i = planAnswer (same-refusal i) (shapeOf g) (same-open i)
+      pub plain-backward-is : (slot l k : ℕ) → shapeBackward s allOpen slot l k ≡ backwardOf (unwindowed f) slot l k
+      unfolding backwardOf
+      plain-backward-is = backward-asked (shapeOf (unwindowed f)) s size order own (openOf (unwindowed f)) allOpen plain-open (refusal (unwindowed f)) accepted-plain
 
-  pub forward-uncounted : (p : ℕ) → forwardOf plain p ≡ forwardOf g p
-  unfolding forwardOf shapeOf
-  forward-uncounted p i = forwardAnswer (same-refusal i) (shapeOf g) (same-open i) p
-
-  pub backward-uncounted : (slot l k : ℕ) → backwardOf plain slot l k ≡ backwardOf g slot l k
-  unfolding backwardOf shapeOf
-  backward-uncounted slot l k i = backwardAnswer (same-refusal i) (shapeOf g) (same-open i) slot l k
+-- forward itself says 14 right after the last position too
+pub forward-14 : (g : UplinkGrant) (p : ℕ) → forwardOr 14 g p ≡ forwardOf g p
+unfolding forwardOr forwardOf
+forward-14 g p = forward-or-14 (refusal g) (shapeOf g) (openOf g) p

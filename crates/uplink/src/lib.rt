@@ -2,7 +2,7 @@
 ghost use mathlib.Core.Path.{_≡_};
 ghost use Rattle.slots.specs.Quick.{sized};
 ghost use Rattle.uplink.specs.Unwindowed.{fieldsOf, unwindowed};
-ghost use Rattle.uplink.specs.Quick.{sizesOf};
+ghost use Rattle.uplink.specs.Quick.{sizesOf, forwardOr};
 ghost use Rattle.uplink.specs.Refusals.{lastSubframe, aboveLargest, fieldsRefusal};
 ghost use Rattle.uplink.specs.Shaping.{shapeOf};
 ghost use Rattle.uplink.specs.Questions.{planOf, forwardOf, backwardOf};
@@ -163,14 +163,22 @@ pub fn plain_plan(f: UplinkFields) -> UplinkPlan
 pub fn forward(g: UplinkGrant, p: u64) -> UplinkPlace
     ensures { λ r. ⌜ r ≡ forwardOf g p ⌝ }
 {
+    forward_or(g, p, 14)
+}
+
+// The same for a step; `end` is the number right after the last position.
+pub fn forward_or(g: UplinkGrant, p: u64, end: u64) -> UplinkPlace
+    ensures { λ r. ⌜ r ≡ forwardOr end g p ⌝ }
+{
     let f = fields_of(g);
     let no = judge_fields(LAST_SUBFRAME, f);
     if no != 0 {
         return slots::refused_place(no);
     }
-    windowed::forward(f.spacing, shape(f, 0, 0), g.windows, p)
+    windowed::forward_or(f.spacing, shape(f, 0, 0), g.windows, p, end)
 }
 
+// A step of fields alone has a function of its own, so that the compiler puts either into its one caller.
 pub fn plain_forward(f: UplinkFields, p: u64) -> UplinkPlace
     ensures { λ r. ⌜ r ≡ forwardOf (unwindowed f) p ⌝ }
 {
@@ -180,7 +188,19 @@ pub fn plain_forward(f: UplinkFields, p: u64) -> UplinkPlace
     }
     let s = shape(f, 0, 0);
     let at = slots::taken_apart(s, p);
-    slots::forward(s, p, at, slots::plain_slot_at(s, at.i))
+    slots::forward_or(s, p, at, slots::plain_slot_at(s, at.i), 14)
+}
+
+pub fn plain_forward_or(f: UplinkFields, p: u64, end: u64) -> UplinkPlace
+    ensures { λ r. ⌜ r ≡ forwardOr end (unwindowed f) p ⌝ }
+{
+    let no = judge_fields(LAST_SUBFRAME, f);
+    if no != 0 {
+        return slots::refused_place(no);
+    }
+    let s = shape(f, 0, 0);
+    let at = slots::taken_apart(s, p);
+    slots::forward_or(s, p, at, slots::plain_slot_at(s, at.i), end)
 }
 
 // What stands at symbol l and subcarrier k of a slot.

@@ -1,21 +1,16 @@
--- A step by forward's answer: where forward answers, where it refuses, and at the end.
-use mathlib.Core.Bool.{Bool, true, false}
+-- A step by its forward's answer: where it answers, where it refuses, and at the end.
 use mathlib.Core.Path.{_≡_, refl, sym, ap, _∙_}
 use mathlib.Core.Logic.{_⊎_, inl, inr}
 use Prim.Native.Nat.{ℕ, _^_, _≤_, _<_}
 use native.Mathlib.Nat.{eq-or-lt-of-le}
 use native.Mathlib.Omega.{arith}
 use native.Mathlib.Decide.{ℕ-discrete}
-use lib.Dec.{eqb}
-use borrow.Author.Tests.{eq-eqb, ne-eqb, eqb-true, lt-ltb, le-ltb}
-use Rattle.counting.proofs.Facts.{order, both, both-parts}
+use borrow.Author.Tests.{eq-eqb, ne-eqb, lt-ltb, le-ltb}
+use Rattle.counting.proofs.Facts.{order}
 use Rattle.walk.specs.declared.WalkPlace.{WalkPlace}
-use Rattle.walk.specs.Step.{refusedStep, finishedStep, Asked, isEnd, onward, unmoved, moved}
-use Rattle.walk.specs.Quick.{stoppedAt}
-use Rattle.walk.proofs.Agreeing.{Agrees}
-
-true-false : true ≡ false → ⊥
-true-false e = let z : _≡_ {A = ℕ} 0 1 = cc in absurd (omega arith)
+use Rattle.walk.specs.Step.{refusedStep, finishedStep, Asked, onward, unmoved, moved}
+use Rattle.walk.specs.Quick.{endNumber, stoppedAt}
+use Rattle.walk.proofs.Agreeing.{Agrees, Tells}
 
 -- the four cases of a step
 module _ (q : Asked) (p : ℕ) where
@@ -35,52 +30,44 @@ module _ (q : Asked) (p : ℕ) where
   unfolding moved
   refuses n = rw (ne-eqb (q .no) 0 n) refl
 
--- r is what forward answers at p
-module _ (q : Asked) (a : Agrees q) (p : ℕ) (r : WalkPlace) (e : r ≡ q .at p) where
-  number : {n : ℕ} → q .at p ≡ refusedStep n → r .no ≡ n
+-- r is what a step's forward answers at p
+module _ (q : Asked) (a : Agrees q) (at : ℕ → WalkPlace) (t : Tells q at) (p : ℕ) (r : WalkPlace) (e : r ≡ at p) where
+  number : {n : ℕ} → at p ≡ refusedStep n → r .no ≡ n
   number f = ap (λ (x : WalkPlace). x .no) (e ∙ f)
 
   -- it answers below the total alone
   below-total : r .no ≡ 0 → (q .no ≡ 0) × (p < q .places)
   below-total z = by (ℕ-discrete (q .no) 0) (order p (q .places))
     where
+      further : q .no ≡ 0 → (q .places ≡ p) ⊎ (q .places < p) → (q .no ≡ 0) × (p < q .places)
+      further f (inl i) = absurd (omega (arith, z, number (t .end p f (sym i))))
+      further f (inr h) = absurd (omega (arith, z, number (t .past p f h)))
+
       by : Dec (q .no ≡ 0) → (p < q .places) ⊎ (q .places ≤ p) → (q .no ≡ 0) × (p < q .places)
       by (yes f) (inl h) = (f, h)
-      by (yes f) (inr h) = absurd (omega (arith, z, number (a .past p f h)))
-      by (no n) o = absurd (n (sym (number (a .refused p n)) ∙ z))
+      by (yes f) (inr h) = further f (eq-or-lt-of-le h)
+      by (no n) o = absurd (n (sym (number (t .refused p n)) ∙ z))
 
   pub has-next : r .no ≡ 0 → p < 2 ^ 63
   has-next z = let h = below-total z in omega (arith, h .1, a .small (h .0))
 
   pub answered : r .no ≡ 0 → onward r p ≡ moved q p
-  answered z = let h = below-total z in ap (λ (x : WalkPlace). onward x p) e ∙ sym (moves q p (h .0) (h .1))
-
-  -- t is the test for the end
-  module _ (t : Bool) (f : t ≡ isEnd q p) where
-    finished : t ≡ true → unmoved finishedStep p ≡ moved q p
-    finished y =
-        let h = both-parts (eqb (q .no) 0) (eqb p (q .places)) (sym f ∙ y) in
-        sym (ends q p (eqb-true (q .no) 0 (h .0)) (eqb-true p (q .places) (h .1)))
-
-    past-end : t ≡ false → q .no ≡ 0 → q .places ≤ p → q .places < p
-    past-end y z h = by (eq-or-lt-of-le h)
-      where
-        by : (q .places ≡ p) ⊎ (q .places < p) → q .places < p
-        by (inl x) = absurd (true-false (sym (both (eqb (q .no) 0) (eqb p (q .places)) (eq-eqb (q .no) 0 z) (eq-eqb p (q .places) (sym x))) ∙ sym f ∙ y))
-        by (inr l) = l
-
-    refused : t ≡ false → (r .no ≡ 0 → ⊥) → unmoved (refusedStep (r .no)) p ≡ moved q p
-    refused y n = by (ℕ-discrete (q .no) 0) (order p (q .places))
-      where
-        stays : (k : ℕ) → q .at p ≡ refusedStep k → moved q p ≡ unmoved (refusedStep k) p → unmoved (refusedStep (r .no)) p ≡ moved q p
-        stays k g m = ap (λ (x : ℕ). unmoved (refusedStep x) p) (number g) ∙ sym m
-
-        by : Dec (q .no ≡ 0) → (p < q .places) ⊎ (q .places ≤ p) → unmoved (refusedStep (r .no)) p ≡ moved q p
-        by (yes z) (inl h) = absurd (n (ap (λ (x : WalkPlace). x .no) e ∙ a .inside p z h))
-        by (yes z) (inr h) = stays 14 (a .past p z h) (overruns q p z (past-end y z h))
-        by (no m) o = stays (q .no) (a .refused p m) (refuses q p m)
+  answered z =
+      let h = below-total z in
+      ap (λ (x : WalkPlace). onward x p) (e ∙ t .inside p (h .0) (h .1)) ∙ sym (moves q p (h .0) (h .1))
 
   -- where it refuses, the step stops
-  pub stops : (t : Bool) → t ≡ isEnd q p → (r .no ≡ 0 → ⊥) → unmoved (stoppedAt (r .no) t) p ≡ moved q p
-  stops true f n = finished true f refl
-  stops false f n = refused false f refl n
+  pub stops : (r .no ≡ 0 → ⊥) → unmoved (stoppedAt (r .no)) p ≡ moved q p
+  stops n = by (ℕ-discrete (q .no) 0) (order p (q .places))
+    where
+      stays : {k : ℕ} {w : WalkPlace} → at p ≡ refusedStep k → stoppedAt k ≡ w → moved q p ≡ unmoved w p → unmoved (stoppedAt (r .no)) p ≡ moved q p
+      stays g s m = ap (λ (x : ℕ). unmoved (stoppedAt x) p) (number g) ∙ ap (λ (x : WalkPlace). unmoved x p) s ∙ sym m
+
+      further : q .no ≡ 0 → (q .places ≡ p) ⊎ (q .places < p) → unmoved (stoppedAt (r .no)) p ≡ moved q p
+      further z (inl i) = stays (t .end p z (sym i)) refl (ends q p z (sym i))
+      further z (inr h) = stays (t .past p z h) refl (overruns q p z h)
+
+      by : Dec (q .no ≡ 0) → (p < q .places) ⊎ (q .places ≤ p) → unmoved (stoppedAt (r .no)) p ≡ moved q p
+      by (yes z) (inl h) = absurd (n (ap (λ (x : WalkPlace). x .no) (e ∙ t .inside p z h) ∙ a .inside p z h))
+      by (yes z) (inr h) = further z (eq-or-lt-of-le h)
+      by (no m) o = stays (t .refused p m) (rw (ne-eqb (q .no) endNumber (λ i. omega (arith, t .number))) refl) (refuses q p m)

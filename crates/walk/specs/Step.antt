@@ -1,5 +1,5 @@
 -- What a step of a walk answers, and the record that it leaves: 01 "Questions", the walk.
-use mathlib.Core.Bool.{Bool, cond, _&&_}
+use mathlib.Core.Bool.{cond}
 use mathlib.Core.List.{List}
 use Prim.Native.Nat.{ℕ, _+_}
 use lib.Dec.{eqb, ltb}
@@ -65,10 +65,6 @@ asked c anchor other (Control g) = record {
 
 abbrev pub askedOf : Walk → List ℕ → List ℕ → Asked
 askedOf w anchor other = asked (w .cell) anchor other (w .grant)
-
--- the grant is accepted, and p is the number of its places
-abbrev pub isEnd : Asked → ℕ → Bool
-isEnd q p = eqb (q .no) 0 && eqb p (q .places)
 
 -- ---- a step
 

@@ -1,10 +1,8 @@
 // The walk: the places of a grant one after the other, by a record of the caller's own. The step on values; `inplace` moves the record.
-ghost use mathlib.Core.Bool.{_&&_};
 ghost use mathlib.Core.Path.{_≡_};
-ghost use lib.Dec.{eqb};
 ghost use Prim.Native.Nat.{_^_, _<_};
-ghost use Rattle.walk.specs.Step.{fromUplink, fromDownlink, refusedStep, finishedStep, askedOf, isEnd, onward, unmoved, movedOf};
-ghost use Rattle.walk.specs.Quick.{stoppedAt};
+ghost use Rattle.walk.specs.Step.{fromUplink, fromDownlink, refusedStep, finishedStep, onward, unmoved, movedOf};
+ghost use Rattle.walk.specs.Quick.{walkAt, stoppedAt};
 use acknowledgement::AckGrant;
 use cell::Cell;
 use control::ControlGrant;
@@ -12,6 +10,9 @@ use downlink::DownlinkGrant;
 use slots::UplinkPlace;
 use subframes::DownlinkPlace;
 use uplink::UplinkGrant;
+
+// The number that a step has forward give right after the last position: no question's, and not 255 either.
+pub const END: u64 = 256;
 
 pub enum Grant {
     Up(UplinkGrant),
@@ -121,74 +122,39 @@ fn unmoved(answer: WalkPlace, p: u64) -> Moved
     Moved { answer, p }
 }
 
-// What forward answers at p.
-fn forward(w: Walk, anchor: &[u8], other: &[u8]) -> WalkPlace
-    ensures { λ r. ⌜ r ≡ askedOf w (now (anchor .entry)) (now (other .entry)) .at (w .p) ⌝ }
+// What forward answers at p, and at the end that it is the end.
+fn ask(w: Walk, anchor: &[u8], other: &[u8]) -> WalkPlace
+    ensures { λ r. ⌜ r ≡ walkAt w (now (anchor .entry)) (now (other .entry)) ⌝ }
 {
     let p = w.p;
     let c = w.cell;
     let grant = w.grant;
     match grant {
-        Grant::Up(g) => from_uplink(uplink::forward(g, p)),
-        Grant::Ack(g) => from_uplink(acknowledgement::forward(g, p)),
-        Grant::Down(g) => from_downlink(downlink::forward(c, anchor, other, g, p)),
-        Grant::Control(g) => from_downlink(control::forward(c, anchor, other, g, p)),
+        Grant::Up(g) => from_uplink(uplink::forward_or(g, p, END)),
+        Grant::Ack(g) => from_uplink(acknowledgement::forward_or(g, p, END)),
+        Grant::Down(g) => from_downlink(downlink::forward_or(c, anchor, other, g, p, END)),
+        Grant::Control(g) => from_downlink(control::forward_or(c, anchor, other, g, p, END)),
     }
 }
 
-// A plan's number and places say that p is the end.
-pub fn is_end(no: u64, places: u64, p: u64) -> bool
-    ensures { λ r. ⌜ r ≡ (eqb no 0 && eqb p places) ⌝ }
-{
-    (no == 0) & (p == places)
-}
-
 // The step at a position that forward refuses.
-pub fn stopped(no: u64, end: bool) -> WalkPlace
-    ensures { λ r. ⌜ r ≡ stoppedAt no end ⌝ }
+pub fn stopped(no: u64) -> WalkPlace
+    ensures { λ r. ⌜ r ≡ stoppedAt no ⌝ }
 {
-    if end {
+    if no == END {
         return finished_step();
     }
     refused_step(no)
 }
 
-// The grant is accepted, and p is the number of its places.
-fn at_end(w: Walk, anchor: &[u8], other: &[u8]) -> bool
-    ensures { λ r. ⌜ r ≡ isEnd (askedOf w (now (anchor .entry)) (now (other .entry))) (w .p) ⌝ }
-{
-    let p = w.p;
-    let c = w.cell;
-    let grant = w.grant;
-    match grant {
-        Grant::Up(g) => {
-            let plan = uplink::plan(g);
-            is_end(plan.no, plan.places, p)
-        }
-        Grant::Ack(g) => {
-            let plan = acknowledgement::plan(g);
-            is_end(plan.no, plan.places, p)
-        }
-        Grant::Down(g) => {
-            let plan = downlink::plan(c, anchor, other, g);
-            is_end(plan.no, plan.places, p)
-        }
-        Grant::Control(g) => {
-            let plan = control::plan(c, anchor, other, g);
-            is_end(plan.no, plan.places, p)
-        }
-    }
-}
-
-// The step on values. Forward judges the record and answers; where it refuses, plan tells the end from a refusal.
+// The step on values: forward judges the record and answers, or tells the end from a refusal.
 pub fn advance(w: Walk, anchor: &[u8], other: &[u8]) -> Moved
     ensures { λ r. ⌜ r ≡ movedOf w (now (anchor .entry)) (now (other .entry)) ⌝ }
 {
     let p = w.p;
-    let answer = forward(w, anchor, other);
+    let answer = ask(w, anchor, other);
     if answer.no == 0 {
         return onward(answer, p);
     }
-    let end = at_end(w, anchor, other);
-    unmoved(stopped(answer.no, end), p)
+    unmoved(stopped(answer.no), p)
 }

@@ -17,10 +17,10 @@ use Rattle.sending.specs.declared.Back.{Back}
 use Rattle.sending.specs.Answer.{refusedBack}
 use Rattle.slots.specs.declared.Shape.{Shape}
 use Rattle.slots.specs.declared.UplinkPlace.{UplinkPlace}
-use Rattle.slots.specs.Answers.{refusedPlace, planAnswer, forwardAnswer, backwardAnswer}
+use Rattle.slots.specs.Answers.{refusedPlace, planAnswer, backwardAnswer}
 use Rattle.slots.specs.Fits.{Fits, Leaves}
-use Rattle.slots.specs.Quick.{sized, Parted, Searchable}
-use Rattle.slots.specs.Timing.{round}
+use Rattle.slots.specs.Quick.{sized, Parted, Searchable, forwardAnswerOr}
+use Rattle.slots.specs.Timing.{allOpen, round}
 use Rattle.slots.proofs.Leaving.{leaving-again, leaving-some}
 use Rattle.slots.proofs.Sizes.{fits-sized, forward-sized, backward-sized}
 use Rattle.windows.specs.declared.Windows.{Windows}
@@ -28,7 +28,7 @@ use Rattle.windows.specs.Windows.{isOneOf, allPeriods, areListed, isClear, wind
 use Rattle.windows.specs.Quick.{doubles, Leveled}
 use Rattle.windows.proofs.Closing.{clear-again}
 use Rattle.windows.proofs.Listing.{allPass, of-list, step-of}
-use Rattle.windows.proofs.Spaced.{accepted-windows}
+use Rattle.windows.proofs.Spaced.{accepted-windows, none-refuses, none-closes}
 use Rattle.windowed.specs.Beside.{refusalBeside, openBeside, Spaced}
 
 -- ---- windows that do not refuse leave a slot to send; e groups last 8 ms
@@ -102,6 +102,14 @@ module _ (spacing : ℕ) (s : Shape) (sp : Spaced spacing s) (ws : Windows) wher
   pub leaves : refusalBeside spacing s ws ≡ 0 → Leaves s (openBeside spacing s ws)
   leaves = leaves-on s spacing (s .tone) (s .tones) ws sp
 
+  -- where there is none they refuse nothing, and close no group
+  module _ (z : ws .count ≡ 0) where
+    pub none-refused : refusalBeside spacing s ws ≡ 0
+    none-refused = none-refuses spacing (s .tone) (s .tones) ws z
+
+    pub none-closed : (u : ℕ) → allOpen u ≡ openBeside spacing s ws u
+    none-closed = none-closes spacing (s .tone) (s .tones) ws z
+
   pub unlisted : areListed ws ≡ false → 19 ≡ refusalBeside spacing s ws
   unfolding windowsRefusal
   unlisted h = rw h refl
@@ -152,11 +160,12 @@ module _ (fields spacing : ℕ) (g : Shape) (ws : Windows) (e : fields ≡ 0) wh
         ap (λ (x : Shape). planAnswer (refusalBeside spacing x ws) x (openBeside spacing x ws)) (own ∙ h)
         ∙ ap (λ (n : ℕ). planAnswer n g (openBeside spacing g ws)) last-refuses
 
-    pub forward-beside : (p : ℕ) → forwardAnswer (refusalBeside spacing s ws) s (openBeside spacing s ws) p ≡ forwardAnswer refusal g (openBeside spacing g ws) p
-    unfolding forwardAnswer
-    forward-beside p =
-        ap (λ (x : Shape). forwardAnswer (refusalBeside spacing x ws) x (openBeside spacing x ws) p) own
-        ∙ ap₂ (λ (n : ℕ) (x : UplinkPlace). cond (eqb n 0) x (refusedPlace n)) last-refuses (forward-sized g size order (openBeside spacing g ws) p)
+    pub forward-beside : (end p : ℕ)
+        → forwardAnswerOr end (refusalBeside spacing s ws) s (openBeside spacing s ws) p ≡ forwardAnswerOr end refusal g (openBeside spacing g ws) p
+    unfolding forwardAnswerOr
+    forward-beside end p =
+        ap (λ (x : Shape). forwardAnswerOr end (refusalBeside spacing x ws) x (openBeside spacing x ws) p) own
+        ∙ ap₂ (λ (n : ℕ) (x : UplinkPlace). cond (eqb n 0) x (refusedPlace n)) last-refuses (forward-sized g size order end (openBeside spacing g ws) p)
 
     pub backward-beside : (slot l k : ℕ)
         → backwardAnswer (refusalBeside spacing s ws) s (openBeside spacing s ws) slot l k ≡ backwardAnswer refusal g (openBeside spacing g ws) slot l k

@@ -1,7 +1,9 @@
-// Uplink questions on a shape beside random access windows: refusals 19 and 20, and the slots that the windows leave.
+// Uplink questions on a shape beside random access windows: refusals 19 and 20, and the slots that the windows leave. Where there is none,
+// the shape is asked by itself, which is quicker.
 ghost use mathlib.Core.Path.{_≡_};
 ghost use Rattle.slots.specs.Fits.{Fits};
-ghost use Rattle.slots.specs.Answers.{planAnswer, forwardAnswer, backwardAnswer};
+ghost use Rattle.slots.specs.Answers.{planAnswer, backwardAnswer};
+ghost use Rattle.slots.specs.Quick.{forwardAnswerOr};
 ghost use Rattle.windowed.specs.Beside.{refusalBeside, openBeside, Spaced};
 use sending::Back;
 use slots::Shape;
@@ -19,6 +21,9 @@ pub fn plan(spacing: u64, s: Shape, ws: Windows) -> UplinkPlan
     requires { ⌜ Fits s × Spaced spacing s ⌝ }
     ensures { λ r. ⌜ r ≡ planAnswer (refusalBeside spacing s ws) s (openBeside spacing s ws) ⌝ }
 {
+    if ws.count == 0 {
+        return slots::plain_plan(s);
+    }
     if !windows::are_listed(ws) {
         return slots::refused_plan(NOT_LISTED);
     }
@@ -29,10 +34,15 @@ pub fn plan(spacing: u64, s: Shape, ws: Windows) -> UplinkPlan
     slots::plan(s, ls)
 }
 
-pub fn forward(spacing: u64, s: Shape, ws: Windows, p: u64) -> UplinkPlace
+// `end` is the number right after the last position.
+pub fn forward_or(spacing: u64, s: Shape, ws: Windows, p: u64, end: u64) -> UplinkPlace
     requires { ⌜ Fits s × Spaced spacing s ⌝ }
-    ensures { λ r. ⌜ r ≡ forwardAnswer (refusalBeside spacing s ws) s (openBeside spacing s ws) p ⌝ }
+    ensures { λ r. ⌜ r ≡ forwardAnswerOr end (refusalBeside spacing s ws) s (openBeside spacing s ws) p ⌝ }
 {
+    if ws.count == 0 {
+        let at = slots::taken_apart(s, p);
+        return slots::forward_or(s, p, at, slots::plain_slot_at(s, at.i), end);
+    }
     if !windows::are_listed(ws) {
         return slots::refused_place(NOT_LISTED);
     }
@@ -41,13 +51,16 @@ pub fn forward(spacing: u64, s: Shape, ws: Windows, p: u64) -> UplinkPlace
         return slots::refused_place(NEVER_FREE);
     }
     let at = slots::taken_apart(s, p);
-    slots::forward(s, p, at, slots::slot_at(s, ls, at.i))
+    slots::forward_or(s, p, at, slots::slot_at(s, ls, at.i), end)
 }
 
 pub fn backward(spacing: u64, s: Shape, ws: Windows, slot: u64, l: u64, k: u64) -> Back
     requires { ⌜ Fits s × Spaced spacing s ⌝ }
     ensures { λ r. ⌜ r ≡ backwardAnswer (refusalBeside spacing s ws) s (openBeside spacing s ws) slot l k ⌝ }
 {
+    if ws.count == 0 {
+        return slots::backward(s, slot, slots::plain_locate(s, slot), l, k);
+    }
     if !windows::are_listed(ws) {
         return sending::refused(NOT_LISTED);
     }

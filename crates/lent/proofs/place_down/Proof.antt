@@ -17,7 +17,7 @@ returns c =
     let cell = grant .before in
     let x = cell .before .before .before .before .before .before .args in
     put-is (λ (a : DownlinkPlace). a .no) downPlaceNumbers (down.forwardOf (cellOf (x .cell .now)) (x .anchor .now) (x .other .now) (downGrantOf (x .grant .now)) (x .p)) (x .answer .now)
-    (asked .forward-down .ensures
+    (asked .forward .ensures
     ∙ ap₂ (λ (d : Cell) (g : DownlinkGrant). down.forwardOf d (x .anchor .now) (x .other .now) g (x .p)) (cell .cell-of .ensures) (grant .down-grant-of .ensures))
     (put .put6 .ensures .0) (put .put6 .ensures .1)
 

@@ -1,27 +1,34 @@
 use mathlib.Core.List.{List}
-use mathlib.Core.Path.{ap₂}
+use mathlib.Core.Path.{ap₂, _∙_}
 use Prim.Native.Nat.{ℕ}
 use borrow.Author.Needs.{needs}
 use lib.ListN.{getD, drop}
-use Rattle.control.specs.Questions as control
-use Rattle.walk.specs.Step.{asked}
-use Rattle.buffers.specs.Buffers.{cellOf, controlGrantOf}
-use Rattle.buffers.proofs.Replies.{part-from}
-use Rattle.lent.proofs.Walked.{walked-down}
+use Rattle.cell.specs.declared.Cell.{Cell}
+use Rattle.subframes.specs.declared.DownlinkPlace.{DownlinkPlace}
+use Rattle.control.specs.declared.ControlGrant.{ControlGrant}
+use Rattle.control.specs.Quick.{forwardOr}
+use Rattle.walk.specs.Step.{fromDownlink}
+use Rattle.walk.specs.Quick.{endNumber, reached}
+use Rattle.buffers.specs.Buffers.{cellOf, controlGrantOf, stepNumbers}
+use Rattle.buffers.proofs.Replies.{put-is, part-from}
 use Rattle.lent.proofs.walked_control.Statement.{statement}
 use Rattle.lent.proofs.walked_control.Tie as tie
 
 returns : tie.Need-returns
-unfolding asked
+unfolding reached
 returns c =
     let put = c .before .before in
-    let place = put .before .before .before .before in
-    let start = place .before .before .before .before .before .before .before .before .before in
-    let x = start .args in
-    walked-down (control.forwardOf (cellOf (drop 1 (x .walk .now))) (x .anchor .now) (x .other .now) (controlGrantOf (drop 9 (x .walk .now))) (getD (x .walk .now) 0 0)) (x .answer .now)
-    (ap₂ (λ (l m : List ℕ). control.forwardOf (cellOf l) (x .anchor .now) (x .other .now) (controlGrantOf m) (getD (x .walk .now) 0 0))
-    (part-from 1 (x .walk .now)) (part-from 9 (x .walk .now)))
-    (start .pre .1) (place .place-control .ensures .0) (place .place-control .ensures .1) (put .put2 .ensures .0) (put .put2 .ensures .1)
+    let asked = put .before .before in
+    let grant = asked .before .before in
+    let cell = grant .before .before in
+    let x = cell .before .before .before .before .before .before .args in
+    let p = getD (x .walk .now) 0 0 in
+    put-is (λ (a : DownlinkPlace). a .no) (λ (a : DownlinkPlace). stepNumbers (fromDownlink a))
+    (forwardOr endNumber (cellOf (drop 1 (x .walk .now))) (x .anchor .now) (x .other .now) (controlGrantOf (drop 9 (x .walk .now))) p) (x .answer .now)
+    (asked .forward-or .ensures
+    ∙ ap₂ (λ (d : Cell) (g : ControlGrant). forwardOr endNumber d (x .anchor .now) (x .other .now) g p) (cell .cell-of .ensures) (grant .control-grant-of .ensures)
+    ∙ ap₂ (λ (l m : List ℕ). forwardOr endNumber (cellOf l) (x .anchor .now) (x .other .now) (controlGrantOf m) p) (part-from 1 (x .walk .now)) (part-from 9 (x .walk .now)))
+    (put .put7 .ensures .0) (put .put7 .ensures .1)
 
 pub walked-control-spec : {M : Type 1} → statement M
 walked-control-spec =
@@ -30,12 +37,11 @@ walked-control-spec =
     (λ c. search needs)
     (λ c. search needs)
     (λ c. search needs)
+    (λ c κs. search needs)
     (λ c. search needs)
     (λ c. search needs)
     (λ c. search needs)
-    (λ c. search needs)
-    (λ c. search needs)
-    (λ c. search needs)
+    (λ c κs. search needs)
     (λ c. search needs)
     (λ c κs. search needs)
     (λ c κs. search needs)

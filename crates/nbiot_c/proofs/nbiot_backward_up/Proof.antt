@@ -1,41 +1,26 @@
-use mathlib.Core.Path.{ap, _∙_}
+use mathlib.Core.Path.{refl}
 use borrow.Author.Needs.{needs}
-use Rattle.buffers.specs.Buffers.{backNumbers}
+use Rattle.buffers.proofs.Replies.{unread, replied, plain-says}
 use Rattle.nbiot_c.specs.Calls as calls
-use Rattle.buffers.proofs.Replies.{unread, replied}
 use Rattle.nbiot_c.proofs.nbiot_backward_up.Statement.{statement}
 use Rattle.nbiot_c.proofs.nbiot_backward_up.Tie as tie
 
 returns : tie.Need-returns
 unfolding calls.backwardUp
-returns c = unread _ _ (c .before .short-up .ensures .says) (c .if1 .taken)
+returns c = unread _ _ (plain-says (c .before .short2 .ensures)) (c .if1 .taken)
 
-grant-fits : tie.Need-up-back-requires
-grant-fits c κs = c .before .short-up .ensures .first (c .if1 .left)
-
-answer-fits : tie.Need-put5-requires
-answer-fits c κs =
-    let e = c .before .before in
-    e .before .short-up .ensures .last (e .if1 .left)
+room : tie.Need-back-up-requires
+room c κs =
+    let e = c .before in
+    let short = e .before .short2 .ensures in
+    (short .first (e .if1 .left), short .last (e .if1 .left))
 
 returns-2 : tie.Need-returns-2
 unfolding calls.backwardUp
 returns-2 c =
     let put = c .before .before in
-    let asked = put .before .before in
-    let e = asked .before in
-    replied _ (e .before .short-up .ensures .says) (e .if1 .left)
-    (ap backNumbers (asked .up-back .ensures ∙ cc))
-    (put .put5 .ensures .0)
-    (put .put5 .ensures .1)
+    let e = put .before .before in
+    replied _ (plain-says (e .before .short2 .ensures)) (e .if1 .left) refl (put .back-up .ensures .0) (put .back-up .ensures .1)
 
 pub nbiot-backward-up-spec : {M : Type 1} → statement M
-nbiot-backward-up-spec =
-    tie.close
-    (tie.spec
-    (λ c κs. search needs)
-    returns
-    grant-fits
-    answer-fits
-    (λ c. search needs)
-    returns-2)
+nbiot-backward-up-spec = tie.close (tie.spec (λ c κs. search needs) returns room (λ c. search needs) returns-2)

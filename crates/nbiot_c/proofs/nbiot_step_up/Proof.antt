@@ -5,29 +5,29 @@ use borrow.Author.Needs.{needs}
 use lib.ListN.{drop}
 use Rattle.walk.proofs.Steps.{next-small}
 use Rattle.buffers.specs.Buffers.{upWalkOf}
-use Rattle.nbiot_c.specs.Calls as calls
-use Rattle.buffers.proofs.Replies.{unread-step}
+use Rattle.buffers.proofs.Replies.{unread-step, plain-says}
 use Rattle.lent.proofs.Walked.{moved-reply, stopped-reply}
+use Rattle.nbiot_c.specs.Calls as calls
 use Rattle.nbiot_c.proofs.nbiot_step_up.Statement.{statement}
 use Rattle.nbiot_c.proofs.nbiot_step_up.Tie as tie
 
 returns : tie.Need-returns
 unfolding calls.stepUp
-returns c = unread-step _ _ _ (c .before .short-up .ensures .says) (c .if1 .taken)
+returns c = unread-step _ _ _ (plain-says (c .before .short2 .ensures)) (c .if1 .taken)
 
 room : tie.Need-walked-up-requires
 room c κs =
     let e = c .before .before in
-    let short = e .before .short-up .ensures in
+    let short = e .before .short2 .ensures in
     (short .first (e .if1 .left), short .last (e .if1 .left))
 
 next : tie.Need-moved-requires
 next c κs =
     let walked = c .before .before .before .before in
     let e = walked .before .before .before in
-    let x = e .before .before .before .before .before .args in (
-      omega (arith, e .before .short-up .ensures .first (e .if1 .left)),
-      next-small (upWalkOf (x .walk .now) (x .windows .now)) [] [] (sym (walked .walked-up .ensures .0) ∙ c .before .if2 .taken),
+    let x = e .before .before .before .before .args in (
+      omega (arith, e .before .short2 .ensures .first (e .if1 .left)),
+      next-small (upWalkOf (x .walk .now) []) [] [] _ refl (sym (walked .walked-up .ensures .0) ∙ c .before .if2 .taken),
     )
 
 returns-2 : tie.Need-returns-2
@@ -36,34 +36,27 @@ returns-2 c =
     let move = c .before .before in
     let walked = c .before .before .before .before .before .before .before in
     let e = walked .before .before .before in
-    let x = e .before .before .before .before .before .args in
-    moved-reply (upWalkOf (x .walk .now) (x .windows .now)) [] [] (x .walk .now) (x .answer .now) (e .before .short-up .ensures .says) (e .if1 .left)
+    let x = e .before .before .before .before .args in
+    moved-reply (upWalkOf (x .walk .now) []) [] [] (x .walk .now) (x .answer .now) (plain-says (e .before .short2 .ensures)) (e .if1 .left)
     (sym (walked .walked-up .ensures .0) ∙ c .before .before .before .before .if2 .taken) (move .moved .ensures .0) (move .moved .ensures .1) (walked .walked-up .ensures .1)
 
-room-2 : tie.Need-ended-up-requires
+room-2 : tie.Need-stopped-requires
 room-2 c κs =
-    let e = c .before .before .before .before .before .before .before .before in
-    let short = e .before .short-up .ensures in
-    search (needs, short .first (e .if1 .left), short .last (e .if1 .left))
-
-room-3 : tie.Need-stopped-requires
-room-3 c κs =
-    let e = c .before .before .before .before .before .before .before .before .before .before .before .before in
-    let short = e .before .short-up .ensures in
+    let e = c .before .before .before .before .before .before .before in
+    let short = e .before .short2 .ensures in
     search (needs, short .first (e .if1 .left), short .last (e .if1 .left))
 
 returns-3 : tie.Need-returns-3
 unfolding calls.stepUp
 returns-3 c =
     let stop = c .before .before in
-    let end = c .before .before .before .before .before .before in
-    let walked = c .before .before .before .before .before .before .before .before .before .before .before .before in
+    let walked = c .before .before .before .before .before .before .before in
     let e = walked .before .before .before in
-    let x = e .before .before .before .before .before .args in
-    let short = e .before .short-up .ensures in
-    stopped-reply (upWalkOf (x .walk .now) (x .windows .now)) [] [] (x .walk .now) (x .answer .now) (short .says) (e .if1 .left) (end .ended-up .last .1 .1 .0)
-    (walked .walked-up .ensures .0) (c .before .before .before .before .before .before .before .before .before .if2 .left) (end .ended-up .ensures .0) refl (omega (arith, short .first (e .if1 .left)))
-    (stop .stopped .ensures .0) (end .ended-up .ensures .1 ∙ ap (drop 7) (walked .walked-up .ensures .1)) (stop .stopped .ensures .1)
+    let x = e .before .before .before .before .args in
+    let short = e .before .short2 .ensures in
+    stopped-reply (upWalkOf (x .walk .now) []) [] [] (x .walk .now) (x .answer .now) (plain-says short) (e .if1 .left) (walked .walked-up .last .1 .0)
+    (walked .walked-up .ensures .0) (c .before .before .before .before .if2 .left) refl (omega (arith, short .first (e .if1 .left)))
+    (stop .stopped .ensures .0) (ap (drop 7) (walked .walked-up .ensures .1)) (stop .stopped .ensures .1)
 
 pub nbiot-step-up-spec : {M : Type 1} → statement M
 nbiot-step-up-spec =
@@ -77,7 +70,6 @@ nbiot-step-up-spec =
     (λ c. search needs)
     returns-2
     room-2
-    room-3
     (λ c. search needs)
     (λ c. search needs)
     returns-3)

@@ -1,3 +1,4 @@
+use borrow.Author.Tests.{eq-eqb, ne-eqb}
 use Rattle.walk.proofs.stopped.Statement.{statement}
 use Rattle.walk.proofs.stopped.Tie as tie
 
@@ -6,6 +7,6 @@ stopped-spec =
     tie.close
     (tie.spec
     (λ c κs. tt)
-    (λ c. simp (c .finished-step .ensures, c .before .if1 .taken))
+    (λ c. simp (c .finished-step .ensures, eq-eqb _ _ (c .before .if1 .taken)))
     (λ c κs. tt)
-    (λ c. simp (c .refused-step .ensures, c .before .if1 .left)))
+    (λ c. simp (c .refused-step .ensures, ne-eqb _ _ (c .before .if1 .left))))

@@ -1,6 +1,0 @@
-use mathlib.Core.Path.{refl}
-use Rattle.walk.proofs.is_end.Statement.{statement}
-use Rattle.walk.proofs.is_end.Tie as tie
-
-pub is-end-spec : {M : Type 1} → statement M
-is-end-spec = tie.close (tie.spec (λ c. refl))
