@@ -1,45 +1,24 @@
 -- What a search among n numbers tells, and whole cycles by division.
-use mathlib.Core.Bool.{Bool, true, false, not}
-use mathlib.Core.Path.{_≡_, refl, sym, ap, _∙_}
-use Prim.Native.Nat.{ℕ, _+_, _-_, _*_, _/_, _≤_, _<_}
-use native.Mathlib.Nat.{div-mul-le-self, mod-lt, mod-eq-sub-div-mul, mul-le-mul-left}
+use mathlib.Core.Bool.{Bool, true, not}
+use mathlib.Core.Path.{_≡_, sym, ap, _∙_}
+use Prim.Native.Nat.{ℕ, _+_, _-_, _*_, _/_, _^_, _≤_, _<_}
+use native.Mathlib.Nat.{div-le-self, div-mul-le-self, mod-lt, mod-eq-sub-div-mul, mul-le-mul, mul-le-mul-left}
 use native.Mathlib.Omega.{arith}
-use Rattle.counting.specs.Counting.{rank, select}
-use Rattle.counting.proofs.Rank.{rank-le, rank-not, rank-mono, rank-strict}
+use Rattle.counting.specs.Counting.{rank, select, Nth}
+use Rattle.counting.proofs.Rank.{rank-le, rank-not, rank-mono}
 use Rattle.counting.proofs.Select.{nth-of}
 use Rattle.counting.proofs.Period.{rank-period, rank-periods, repeats-times, is-select}
+use Rattle.bars.specs.declared.Bar.{Bar}
+use Rattle.bars.specs.declared.Levels.{Levels}
 use Rattle.bars.specs.declared.Sight.{Sight}
 use Rattle.bars.specs.declared.Cycle.{Cycle}
-use Rattle.bars.specs.Quick.{Repeats, Scanned, Stands}
+use Rattle.bars.specs.Bars.{clear, isFree}
+use Rattle.bars.specs.Quick.{beforeOf, Reached, Held, Scanned, Repeats, Stands}
 
 module _ (u : ℕ → Bool) where
   -- no more than all numbers pass
   near : (t x : ℕ) → t ≤ x → rank u x ≤ rank u t + (x - t)
   near t x h = omega (arith, rank-not u t, rank-not u x, rank-mono (λ i. not (u i)) t x h)
-
-  module _ (t n j : ℕ) (r : Sight) (s : Scanned u t n j r) where
-    -- where fewer than j + 1 pass, nothing is found; where more do, the j-th is
-    pub missed-is : rank u (t + n) ≤ rank u t + j → r .found ≡ false
-    missed-is h = by (r .found) refl
-      where
-        by : (b : Bool) → r .found ≡ b → b ≡ false
-        by true e =
-            let f = s .found e in
-            absurd (omega (arith, f .0 .before, rank-strict u (r .at) (t + n) (f .0 .passes) (f .1)))
-        by false e = refl
-
-    pub found-is : rank u t + j < rank u (t + n) → r .found ≡ true
-    found-is h = by (r .found) refl
-      where
-        by : (b : Bool) → r .found ≡ b → b ≡ true
-        by true e = refl
-        by false e = absurd (omega (arith, s .missed e))
-
-  -- the n-th of n numbers is not found, and what is left tells how many there are
-  pub counted : (t n : ℕ) (r : Sight) → Scanned u t n n r → (r .left ≤ n) × (rank u t + (n - r .left) ≡ rank u (t + n))
-  counted t n r s =
-      let e = s .missed (missed-is t n n r s (omega (arith, near t (t + n) (omega arith)))) in
-      (omega (arith, rank-mono u t (t + n) (omega arith)), omega (arith, rank-mono u t (t + n) (omega arith)))
 
   module _ (c : Cycle) (cy : Repeats u c) (t : ℕ) where
     abbrev cycle : ℕ
@@ -48,9 +27,6 @@ module _ (u : ℕ → Bool) where
     abbrev per : ℕ
     per = c .free
 
-    whole-cycle : rank u (t + cycle) ≡ rank u t + rank u cycle
-    whole-cycle = rank-period u cycle (cy .again) t
-
     pub some-per : 0 < per
     some-per = omega (arith, cy .some, cy .free)
 
@@ -58,24 +34,23 @@ module _ (u : ℕ → Bool) where
       pub rest-fits : j / per * per ≤ j
       rest-fits = div-mul-le-self j per
 
-      rest-below : j - j / per * per < rank u cycle
-      rest-below = omega (arith, mod-eq-sub-div-mul j per, mod-lt j some-per, cy .free)
+      -- as many as are left after whole cycles lie in one more
+      rest-below : rank u t + (j - j / per * per) < rank u (t + cycle)
+      rest-below = omega (arith, mod-eq-sub-div-mul j per, mod-lt j some-per, cy .free, rank-period u cycle (cy .again) t)
 
-      module _ (r : Sight) (s : Scanned u t cycle (j - j / per * per) r) where
-        found : r .found ≡ true
-        found = found-is t cycle (j - j / per * per) r s (omega (arith, rest-below, whole-cycle))
+      pub jump-small : j < 2 ^ 33 → j / per * cycle ≤ 2 ^ 60
+      jump-small h =
+          let a : j / per ≤ 2 ^ 33 = omega (arith, div-le-self j per) in
+          let b : cycle ≤ 2 ^ 27 = omega (arith, cy .small) in
+          omega (arith, mul-le-mul a b)
 
-        pub near-by : r .at < t + cycle
-        near-by = s .found found .1
-
-        pub jumped : r .at + j / per * cycle ≡ select u cycle t j
-        jumped =
-            let n = s .found found .0 in
-            let q : ℕ = j / per in
-            let e : q * per ≡ q * rank u cycle = ap (λ (x : ℕ). q * x) (cy .free) in
-            is-select u cycle (cy .again) (cy .some) t j (r .at + q * cycle)
-            (nth-of u t j (r .at + q * cycle) (repeats-times u cycle (cy .again) q (r .at) ∙ n .passes)
-            (omega (arith, rank-periods u cycle (cy .again) q (r .at), n .before, rest-fits)))
+      jumped : (x : ℕ) → Nth u t (j - j / per * per) x → x + j / per * cycle ≡ select u cycle t j
+      jumped x n =
+          let q : ℕ = j / per in
+          let e : q * per ≡ q * rank u cycle = ap (λ (y : ℕ). q * y) (cy .free) in
+          is-select u cycle (cy .again) (cy .some) t j (x + q * cycle)
+          (nth-of u t j (x + q * cycle) (repeats-times u cycle (cy .again) q x ∙ n .passes)
+          (omega (arith, rank-periods u cycle (cy .again) q x, n .before, rest-fits)))
 
     -- ---- y past t: whole cycles, then the rest
 
@@ -107,3 +82,39 @@ module _ (u : ℕ → Bool) where
       index-fits before b =
           let p : per ≤ cycle = omega (arith, cy .free, rank-le u cycle) in
           omega (arith, mul-le-mul-left (y / cycle) p, cycles-fit)
+
+-- ---- what the search tells
+
+module _ (gap : Bar) (ls : Levels) where
+  abbrev free : ℕ → Bool
+  free = isFree gap (ls .bars)
+
+  -- there is no n-th of n numbers, and what is left tells how many there are
+  pub counted : (t n : ℕ) (r : Sight) → Scanned gap ls t n n r → (r .left ≤ n) × (rank free t + (n - r .left) ≡ rank free (t + n))
+  counted t n r s =
+      let e = s .missed (omega (arith, near free t (t + n) (omega arith))) in
+      (omega (arith, rank-mono free t (t + n) (omega arith)), omega (arith, rank-mono free t (t + n) (omega arith)))
+
+  -- in a cycle, for what is left of j after whole ones
+  module _ (c : Cycle) (cy : Repeats free c) (t j : ℕ) (r : Sight) (s : Scanned gap ls t (c .length) (j - j / c .free * c .free) r) where
+    abbrev end : ℕ
+    end = t + c .length
+
+    pub last-near : r .at < end
+    last-near = s .found (rest-below free c cy t j) .1
+
+    pub last-is : r .at + j / c .free * c .length ≡ select free (c .length) t j
+    last-is = jumped free c cy t j (r .at) (s .found (rest-below free c cy t j) .0)
+
+    module _ (l : t < 2 ^ 47) where
+      held : Held gap ls t end 0 (r .first)
+      held = s .first (rest-below free c cy t j)
+
+      small : held .x < 2 ^ 48
+      small = omega (arith, held .inside, cy .small)
+
+      pub first-reached : Reached ls (r .first)
+      first-reached = record { at = held .x; small = small; passes = held .passes; here = held .count }
+
+      pub first-is : (at : ℕ) → ((x : ℕ) → clear (ls .bars) x ≡ true → beforeOf ls x ≡ r .first → x < 2 ^ 48 → at ≡ x) → at ≡ select free (c .length) t 0
+      first-is at f = f (held .x) (held .passes) (held .count) small ∙ is-select free (c .length) (cy .again) (cy .some) t 0 (held .x) (held .nth)

@@ -10,7 +10,6 @@ use Rattle.counting.proofs.Rank.{rank-count, count-same, rank-none, rank-later}
 use Rattle.counting.proofs.Select.{select-within, nth-of}
 use Rattle.bars.specs.declared.Bar.{Bar}
 use Rattle.bars.specs.declared.Levels.{Levels}
-use Rattle.bars.specs.declared.Round.{Round}
 use Rattle.bars.specs.Bars.{shut, leaves, clear, isFree}
 use Rattle.bars.specs.Quick.{Stacked, beforeOf, Begins, Held, Rounded}
 use Rattle.bars.proofs.Leveling.{counted, before-counts, count-slow}
@@ -81,7 +80,7 @@ module _ (gap : Bar) (ls : Levels) (st : Stacked ls) (some : 0 < gap .period) (a
       let f : at + (i - at) ≡ i = omega arith in
       ap free (sym f) ∙ shut-free (i - at) (omega (arith, w (omega arith))) (omega arith))
 
-  module _ (m len j : ℕ) (r : Round) (hm : m ≤ len) (hc : m + c ≤ p) (hl : r .length ≡ len) (hf : r .from ≡ before at) (hj : before at + j < before (at + m)) (end : ℕ) where
+  module _ (m len j from : ℕ) (hm : m ≤ len) (hc : m + c ≤ p) (hf : from ≡ before at) (hj : before at + j < before (at + m)) where
     x : ℕ
     x = select v m at j
 
@@ -99,7 +98,7 @@ module _ (gap : Bar) (ls : Levels) (st : Stacked ls) (some : 0 < gap .period) (a
     on : at + (x - at) ≡ x
     on = omega (arith, within .late)
 
-    pub is-held : Held gap ls at end j r
+    pub is-held : Held gap ls at (at + len) j (from + j)
     unfolding isFree
     is-held = record {
       x = x;
@@ -136,5 +135,5 @@ module _ (gap : Bar) (ls : Levels) (st : Stacked ls) (some : 0 < gap .period) (a
           ap (λ (y : ℕ). y % p) d ∙ add-mod-right (at + gap .phase) p ∙ h;
       small = sm;
       counted = omega (arith, from-to, block-passed m (fits .1), round-passed m len (fits .0) (fits .2) (fits .1) (fits .3));
-      held = λ j w. is-held m len j _ (fits .0) (fits .1) refl hf (omega (arith, from-to)) end;
+      held = λ j w. is-held m len j from (fits .0) (fits .1) hf (omega (arith, from-to));
     }

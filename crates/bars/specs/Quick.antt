@@ -188,12 +188,12 @@ pub record Reached (ls : Levels) (n : ℕ) : Type 0 where
 abbrev pub Begins : Bar → ℕ → Type 0
 Begins gap t = (t + gap .phase) % gap .period ≡ gap .closed
 
--- number x is the j-th clear one from `at` on, and free
-pub record Held (gap : Bar) (ls : Levels) (at end j : ℕ) (r : Round) : Type 0 where
+-- the j-th free number from `at` on lies before `end`, and n is its count
+pub record Held (gap : Bar) (ls : Levels) (at end j n : ℕ) : Type 0 where
   pub x : ℕ
-  pub inside : x < at + r .length
+  pub inside : x < end
   pub passes : clear (ls .bars) x ≡ true
-  pub count : beforeOf ls x ≡ r .from + j
+  pub count : beforeOf ls x ≡ n
   pub nth : Nth (isFree gap (ls .bars)) at j x
 
 -- a period of the gap, or what is left of it before `end`: it is counted as a whole, and each free number of it can be found
@@ -203,12 +203,14 @@ pub record Rounded (gap : Bar) (ls : Levels) (at end : ℕ) (r : Round) : Type 0
   pub next : at + r .length < end → Begins gap (at + r .length)
   pub small : r .from < 2 ^ 56
   pub counted : rank (isFree gap (ls .bars)) at + r .here ≡ rank (isFree gap (ls .bars)) (at + r .length)
-  pub held : (j : ℕ) → j < r .here → Held gap ls at end j r
+  pub held : (j : ℕ) → j < r .here → Held gap ls at (at + r .length) j (r .from + j)
 
--- the j-th from t on was found among n, or so many are left of the j
-pub record Scanned (u : ℕ → Bool) (t n j : ℕ) (r : Sight) : Type 0 where
-  pub found : r .found ≡ true → Nth u t j (r .at) × (r .at < t + n)
-  pub missed : r .found ≡ false → rank u t + j ≡ rank u (t + n) + r .left
+-- among the n numbers from t on: the count of the first free one and the j-th one, if there are so many; else how many are left of the j
+pub record Scanned (gap : Bar) (ls : Levels) (t n j : ℕ) (r : Sight) : Type 0 where
+  pub first : rank (isFree gap (ls .bars)) t + j < rank (isFree gap (ls .bars)) (t + n) → Held gap ls t (t + n) 0 (r .first)
+  pub found : rank (isFree gap (ls .bars)) t + j < rank (isFree gap (ls .bars)) (t + n) → Nth (isFree gap (ls .bars)) t j (r .at) × (r .at < t + n)
+  pub missed : rank (isFree gap (ls .bars)) (t + n) ≤ rank (isFree gap (ls .bars)) t + j
+      → rank (isFree gap (ls .bars)) t + j ≡ rank (isFree gap (ls .bars)) (t + n) + r .left
 
 -- the test repeats with the cycle, whose numbers are counted, and something passes
 pub record Repeats (u : ℕ → Bool) (c : Cycle) : Type 0 where

@@ -60,9 +60,9 @@ struct Round {
     length: u64,
 }
 
-// The number looked for, if it was found; else how many are left to pass.
+// The count of the first free number, and the number looked for; or, if there are too few, how many are left to pass.
 struct Sight {
-    found: bool,
+    first: u64,
     at: u64,
     left: u64,
 }
@@ -71,6 +71,12 @@ struct Sight {
 pub struct Cycle {
     pub length: u64,
     pub free: u64,
+}
+
+// The first and the last of a run of numbers.
+pub struct Ends {
+    pub first: u64,
+    pub last: u64,
 }
 
 // Whether a number is free, and how many free ones lie before it.
@@ -413,22 +419,27 @@ fn round_at(gap: Bar, ls: Levels, at: u64, end: u64) -> Round
     }
 }
 
-// The j-th free number among the n from t on, where the gap is open: by its periods, each counted as a whole.
+// The j-th free number among the n from t on, where the gap is open: by its periods, each counted as a whole. As long as all j are left, nothing
+// free was passed, and the first one may be in the period at hand.
 fn scan(gap: Bar, ls: Levels, t: u64, n: u64, j: u64) -> Sight
     requires { ⌜ Usable gap × Begins gap t × Stacked ls × (t < 2 ^ 47) × (n < 2 ^ 47) ⌝ }
-    ensures { λ r. ⌜ Scanned (isFree gap (ls .bars)) t n j r ⌝ }
+    ensures { λ r. ⌜ Scanned gap ls t n j r ⌝ }
 {
     let end = t + n;
     let mut at = t;
     let mut left = j;
+    let mut first = 0;
     while at < end {
         let round = round_at(gap, ls, at, end);
         let from = round.from;
         let here = round.here;
         let length = round.length;
+        if left == j {
+            first = from;
+        }
         if left < here {
             return Sight {
-                found: true,
+                first,
                 at: find(ls, from + left),
                 left: 0,
             };
@@ -437,7 +448,7 @@ fn scan(gap: Bar, ls: Levels, t: u64, n: u64, j: u64) -> Sight
         at += length;
     }
     Sight {
-        found: false,
+        first,
         at: end,
         left,
     }
@@ -460,6 +471,21 @@ pub fn nth(gap: Bar, ls: Levels, cycle: Cycle, t: u64, j: u64) -> u64
     let free = cycle.free;
     let whole = j / free;
     scan(gap, ls, t, length, j - whole * free).at + whole * length
+}
+
+// The first free number from t on and the j-th, by one search.
+pub fn first_and_last(gap: Bar, ls: Levels, cycle: Cycle, t: u64, j: u64) -> Ends
+    requires { ⌜ Usable gap × Begins gap t × Stacked ls × Repeats (isFree gap (ls .bars)) cycle × (t < 2 ^ 47) × (j < 2 ^ 33) ⌝ }
+    ensures { λ r. ⌜ (r .first ≡ select (isFree gap (ls .bars)) (cycle .length) t 0) × (r .last ≡ select (isFree gap (ls .bars)) (cycle .length) t j) ⌝ }
+{
+    let length = cycle.length;
+    let free = cycle.free;
+    let whole = j / free;
+    let sight = scan(gap, ls, t, length, j - whole * free);
+    Ends {
+        first: find(ls, sight.first),
+        last: sight.at + whole * length,
+    }
 }
 
 // Of the number that is y past t: whether it is free, and how many free ones lie from t on before it.

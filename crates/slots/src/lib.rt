@@ -216,12 +216,8 @@ pub fn plan(s: Shape, ls: Levels) -> UplinkPlan
     ensures { λ r. ⌜ r ≡ shapePlan s (clear (ls .bars)) ⌝ }
 {
     let last = sent_slots(s) - 1;
-    let course = timing::course_of(s, ls);
-    planned(
-        s,
-        timing::slot_on(s, ls, course, 0),
-        timing::slot_on(s, ls, course, last),
-    )
+    let ends = timing::ends_on(s, ls, timing::course_of(s, ls), last);
+    planned(s, ends.first, ends.last)
 }
 
 // The same, where there is no window.
@@ -229,8 +225,9 @@ pub fn plain_plan(s: Shape) -> UplinkPlan
     requires { ⌜ Fits s ⌝ }
     ensures { λ r. ⌜ r ≡ shapePlan s allOpen ⌝ }
 {
+    let first = s.first;
     let last = sent_slots(s) - 1;
-    planned(s, plain_slot_at(s, 0), plain_slot_at(s, last))
+    planned(s, first, first + timing::active_at(s, last))
 }
 
 // The place of position p, which `at` is taken apart and which is in `slot`, and the symbol there; `end` is the number right after the last position.

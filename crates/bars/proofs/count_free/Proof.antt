@@ -9,5 +9,5 @@ count-free-spec =
     tie.close
     (tie.spec
     (λ c κs. search needs)
-    (λ c. counted _ _ _ _ (c .before .scan .ensures) .0)
-    (λ c. (counted _ _ _ _ (c .before .scan .ensures) .1, omega arith)))
+    (λ c. counted _ _ _ _ _ (c .before .scan .ensures) .0)
+    (λ c. (counted _ _ _ _ _ (c .before .scan .ensures) .1, omega arith)))
