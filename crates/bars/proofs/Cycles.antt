@@ -1,6 +1,6 @@
 -- What a search among n numbers tells, and whole cycles by division.
 use mathlib.Core.Bool.{Bool, true, not}
-use mathlib.Core.Path.{_≡_, sym, ap, _∙_}
+use mathlib.Core.Path.{_≡_, sym, ap, _∙_, subst}
 use Prim.Native.Nat.{ℕ, _+_, _-_, _*_, _/_, _^_, _≤_, _<_}
 use native.Mathlib.Nat.{div-le-self, div-mul-le-self, mod-lt, mod-eq-sub-div-mul, mul-le-mul, mul-le-mul-left}
 use native.Mathlib.Omega.{arith}
@@ -105,6 +105,11 @@ module _ (gap : Bar) (ls : Levels) where
 
     pub last-is : r .at + j / c .free * c .length ≡ select free (c .length) t j
     last-is = jumped free c cy t j (r .at) (s .found (rest-below free c cy t j) .0)
+
+    -- with nothing to pass it was the first that was found
+    pub first-found : j - j / c .free * c .free ≡ 0 → r .at ≡ select free (c .length) t 0
+    first-found z =
+        is-select free (c .length) (cy .again) (cy .some) t 0 (r .at) (subst (λ (i : ℕ). Nth free t i (r .at)) z (s .found (rest-below free c cy t j) .0))
 
     module _ (l : t < 2 ^ 47) where
       held : Held gap ls t end 0 (r .first)

@@ -481,10 +481,16 @@ pub fn first_and_last(gap: Bar, ls: Levels, cycle: Cycle, t: u64, j: u64) -> End
     let length = cycle.length;
     let free = cycle.free;
     let whole = j / free;
-    let sight = scan(gap, ls, t, length, j - whole * free);
+    let rest = j - whole * free;
+    let sight = scan(gap, ls, t, length, rest);
+    let at = sight.at;
+    let last = at + whole * length;
+    if rest == 0 {
+        return Ends { first: at, last };
+    }
     Ends {
         first: find(ls, sight.first),
-        last: sight.at + whole * length,
+        last,
     }
 }
 
