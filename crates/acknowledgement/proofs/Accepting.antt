@@ -6,7 +6,6 @@ use Prim.Native.Nat.{ℕ, zero, suc, _+_, _-_, _/_, _%_, _≤_}
 use native.Mathlib.Nat.{mod-one}
 use native.Mathlib.Omega.{arith}
 use lib.Dec.{T, eqb, leb, ltb, leb→le, eqb→eq}
-use lib.ListN.{getD}
 use borrow.Author.Tests.{ltb-false, le-ltb}
 use Rattle.counting.proofs.Facts.{passed, after-first, first-alone, either-parts, each, each-at}
 use Rattle.grid.specs.Grid.{uplinkSubcarriers}
@@ -29,7 +28,7 @@ use Rattle.windowed.proofs.Beside.{leaves, first-refuses, plan-beside, forward-
 use Rattle.acknowledgement.specs.declared.AckFields.{AckFields}
 use Rattle.acknowledgement.specs.Unwindowed.{fieldsOf, unwindowed}
 use Rattle.acknowledgement.specs.declared.AckGrant.{AckGrant}
-use Rattle.acknowledgement.specs.Fields.{toneOf, delayOf}
+use Rattle.acknowledgement.specs.Fields.{toneOf, narrowDelays, delayOf}
 use Rattle.acknowledgement.specs.Refusals.{lastSubframe, aboveLargest, windowsNumber, fieldsRefusal, refusal}
 use Rattle.acknowledgement.specs.Shaping.{unitSlots, shapeOf, openOf}
 use Rattle.acknowledgement.specs.Quick.{forwardOr}
@@ -111,26 +110,19 @@ named spacing field h l =
     let b = parts (leb 1 (delayOf spacing field)) _ (a .1) in
     record { inside = leb→le _ _ (a .0); some = leb→le 1 (delayOf spacing field) (b .0); small = leb→le (delayOf spacing field) 21 (b .1) }
 
--- ---- the table of delays: at either spacing an entry for every four numbers of the field
+-- ---- the delays at 3.75 kHz, with an entry for every four numbers of the field
 
-abbrev delays : List (List ℕ)
-delays = (13 ∷ 13 ∷ 21 ∷ 21 ∷ []) ∷ (13 ∷ 15 ∷ 17 ∷ 18 ∷ []) ∷ []
+abbrev byFours : List ℕ
+byFours = 13 ∷ 13 ∷ 21 ∷ 21 ∷ []
 
-abbrev delayStands : ℕ → ℕ → Bool
-delayStands spacing field = eqb (getD (getD delays spacing []) (field / 4) 0) (delayOf spacing field)
+abbrev standsByFours : ℕ → Bool
+standsByFours field = eqb (entry byFours (field / 4)) (entry narrowDelays (field / 8))
 
-narrow-delays : T (each 16 (delayStands 0))
-unfolding delayOf
-narrow-delays = tt
+all-by-fours : T (each 16 standsByFours)
+all-by-fours = tt
 
-wide-delays : T (each 16 (delayStands 1))
-unfolding delayOf
-wide-delays = tt
-
-pub delays-are : (spacing field : ℕ) → spacing ≤ 1 → field ≤ 15 → getD (getD delays spacing []) (field / 4) 0 ≡ delayOf spacing field
-delays-are zero field h l = eqb→eq _ _ (each-at 16 (delayStands 0) narrow-delays field (omega arith))
-delays-are (suc zero) field h l = eqb→eq _ _ (each-at 16 (delayStands 1) wide-delays field (omega arith))
-delays-are (suc (suc spacing)) field h l = absurd (omega arith)
+pub by-fours : (field : ℕ) → field ≤ 15 → entry byFours (field / 4) ≡ entry narrowDelays (field / 8)
+by-fours field h = eqb→eq _ _ (each-at 16 standsByFours all-by-fours field (omega arith))
 
 -- four slots are whole groups
 whole-groups : (b : Bool) → unitSlots % cond b 1 2 ≡ 0

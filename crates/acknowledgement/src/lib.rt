@@ -35,8 +35,10 @@ pub struct AckFields {
 // The last subframe in which the NPDSCH may end.
 const LAST_SUBFRAME: u64 = 2_147_483_647;
 
-// The delays, in subframes: a row for each spacing, an entry for every four numbers of the field.
-const DELAYS: [[u8; 4]; 2] = [[13, 13, 21, 21], [13, 15, 17, 18]];
+// The delays of either spacing, in subframes: an entry for every four numbers of the field.
+const NARROW_DELAYS: [u8; 4] = [13, 13, 21, 21];
+
+const WIDE_DELAYS: [u8; 4] = [13, 15, 17, 18];
 
 fn fields_of(g: AckGrant) -> AckFields
     ensures { λ r. ⌜ r ≡ fieldsOf g ⌝ }
@@ -82,10 +84,15 @@ fn tone(spacing: u64, field: u64) -> u64
 
 // The delay that it names, in subframes.
 fn delay(spacing: u64, field: u64) -> u64
-    requires { ⌜ (spacing ≤ 1) × (field ≤ 15) ⌝ }
+    requires { ⌜ field ≤ 15 ⌝ }
     ensures { λ r. ⌜ r ≡ delayOf spacing field ⌝ }
 {
-    grid::byte(DELAYS[spacing as usize][(field / 4) as usize])
+    let i = (field / 4) as usize;
+    numerology::by_spacing(
+        spacing,
+        grid::byte(NARROW_DELAYS[i]),
+        grid::byte(WIDE_DELAYS[i]),
+    )
 }
 
 // The first slot.

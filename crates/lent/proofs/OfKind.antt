@@ -1,6 +1,6 @@
 -- A step's forward beside windows, by the kind of grant.
 use mathlib.Core.List.{List, []}
-use mathlib.Core.Path.{_≡_, refl, ap, _∙_}
+use mathlib.Core.Path.{_≡_, refl}
 use Prim.Native.Nat.{ℕ}
 use lib.ListN.{getD, drop}
 use Rattle.asked.specs.declared.Kind.{Kind}

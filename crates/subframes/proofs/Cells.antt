@@ -1,18 +1,17 @@
 -- What an accepted cell gives to its bursts, and that an answer over the cell's pattern is the answer over its usable subframes.
-use mathlib.Core.Bool.{Bool, true, false, cond}
+use mathlib.Core.Bool.{Bool}
 use mathlib.Core.List.{List}
-use mathlib.Core.Path.{_≡_, refl, sym, ap, ap₂, _∙_, subst, fun-ext}
-use mathlib.Core.Logic.{_⊎_, inl, inr, ⊎-elim}
-use Prim.Native.Nat.{ℕ, zero, suc, _+_, _%_, _≤_, _<_}
+use mathlib.Core.Path.{_≡_, refl, sym, ap, ap₂, _∙_, fun-ext}
+use mathlib.Core.Logic.{_⊎_, ⊎-elim}
+use Prim.Native.Nat.{ℕ}
 use native.Mathlib.Omega.{arith}
 use native.Mathlib.Decide.{ℕ-discrete}
-use lib.Dec.{eqb}
-use borrow.Author.Tests.{eq-eqb, ne-eqb}
-use Rattle.counting.specs.Counting.{rank, select}
+use borrow.Author.Tests.{ne-eqb}
+use Rattle.counting.specs.Counting.{select}
 use Rattle.cell.specs.declared.Cell.{Cell}
 use Rattle.cell.specs.declared.Cause.{Cause}
 use Rattle.cell.specs.Usable.{period, why, usable}
-use Rattle.cell.specs.Quick.{Shows, seen}
+use Rattle.cell.specs.Quick.{seen}
 use Rattle.cell.proofs.Accepted.{WellFormed}
 use Rattle.cell.proofs.Showing.{same-test, seen-is, select-usable}
 use Rattle.elements.specs.Elements.{Valid}
@@ -21,7 +20,7 @@ use Rattle.spans.specs.declared.Pattern.{Pattern}
 use Rattle.spans.specs.Pattern.{allows, periodOf}
 use Rattle.subframes.specs.declared.Burst.{Burst}
 use Rattle.subframes.specs.declared.Ready.{Ready}
-use Rattle.subframes.specs.Answers.{refusedPlan, refusedPlace, isBetween, burstPlan, burstForward, burstBackward, planAnswer, forwardAnswer, backwardAnswer, causeAnswer, backAnswer}
+use Rattle.subframes.specs.Answers.{isBetween, burstPlan, burstForward, burstBackward, planAnswer, forwardAnswer, backwardAnswer, causeAnswer, backAnswer}
 use Rattle.subframes.specs.Quick.{ReadyFor, burstForwardOr, forwardAnswerOr}
 use Rattle.subframes.specs.Cells.{layoutOf}
 use Rattle.subframes.specs.Mapping.{places}

@@ -1,18 +1,17 @@
 -- The parts of an answer, joined: an equation for each number that the code works out, and no path through the code.
-use mathlib.Core.Bool.{Bool, true, false, cond, _&&_}
-use mathlib.Core.Path.{_≡_, refl, sym, ap, ap₂, _∙_}
+use mathlib.Core.Bool.{Bool, true, false}
+use mathlib.Core.Path.{_≡_, refl, ap, _∙_}
 use Prim.Native.Nat.{ℕ, _+_, _-_, _*_, _/_, _%_, _^_, _≤_, _<_}
 use native.Mathlib.Nat.{mul-le-mul, mod-lt, div-lt-iff-lt-mul}
 use native.Mathlib.Omega.{arith}
-use lib.Dec.{ltb}
 use borrow.Author.Tests.{lt-ltb, le-ltb}
 use Rattle.counting.specs.Counting.{count, select}
 use Rattle.grid.specs.Grid.{elements, elementOf}
 use Rattle.sending.specs.CopyOrder.{carried}
-use Rattle.sending.specs.Sending.{Spot, Content, ours, other}
+use Rattle.sending.specs.Sending.{Spot, ours, other}
 use Rattle.sending.specs.Answer.{backOf, refusedBack, pastOr}
 use Rattle.elements.specs.Elements.{kindOf, used, countOf, elementAt, numberOf}
-use Rattle.elements.proofs.Laws.{count-some, count-le}
+use Rattle.elements.proofs.Laws.{count-some}
 use Rattle.subframes.specs.declared.Burst.{Burst}
 use Rattle.subframes.specs.Fits.{Fits}
 use Rattle.subframes.specs.Mapping.{sentSubframes, firstOf, isSent, places}

@@ -1,10 +1,9 @@
 -- What acceptance says of a grant's numbers, and that its shape then fits.
-use mathlib.Core.Bool.{cond}
 use mathlib.Core.Path.{_≡_, refl, sym, ap, _∙_}
 use Prim.Native.Nat.{ℕ, _+_, _^_, _≤_, _<_}
 use native.Mathlib.Nat.{mul-pos, mul-le-mul}
 use native.Mathlib.Omega.{arith}
-use lib.Dec.{eqb, ltb}
+use lib.Dec.{ltb}
 use borrow.Author.Tests.{ltb-false, leb-false, le-ltb, lt-leb}
 use Rattle.counting.proofs.Facts.{passed, after-first, first-alone, either-parts}
 use Rattle.grid.specs.Tables.{entry, lengths, uplinkDelays}

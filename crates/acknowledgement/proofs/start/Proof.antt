@@ -17,7 +17,7 @@ pub start-spec : {M : Type 1} → statement M
 start-spec =
     tie.close
     (tie.spec
-    (λ c κs. (in-range c .spacing, in-range c .field))
+    (λ c κs. in-range c .field)
     (λ c. omega (arith, c .delay .ensures, in-range (c .before) .early, names (c .before) .small))
     (λ c. omega (arith, c .delay .ensures, names (c .before) .some))
     (λ c κs. omega (arith, c .delay .ensures, in-range (c .before) .early, names (c .before) .small))

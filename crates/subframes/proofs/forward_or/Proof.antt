@@ -1,4 +1,3 @@
-use borrow.Author.Needs.{needs}
 use borrow.Author.Tests.{eq-eqb, ne-eqb}
 use Rattle.subframes.specs.Quick.{forwardAnswerOr}
 use Rattle.subframes.proofs.forward_or.Statement.{statement}

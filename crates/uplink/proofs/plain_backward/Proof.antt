@@ -1,33 +1,25 @@
 use mathlib.Core.Path.{_≡_, sym, _∙_}
 use Rattle.slots.specs.Fits.{Fits}
-use Rattle.slots.specs.Timing.{allOpen}
 use Rattle.slots.specs.Quick.{sized}
-use Rattle.slots.proofs.Judging.{refused-back-is, fits-asked, backward-asked}
+use Rattle.slots.proofs.Judging.{refused-back-is}
 use Rattle.uplink.specs.declared.UplinkFields.{UplinkFields}
 use Rattle.uplink.specs.Unwindowed.{unwindowed}
-use Rattle.uplink.specs.Refusals.{refusal}
 use Rattle.uplink.specs.Shaping.{shapeOf, openOf}
 use Rattle.uplink.specs.Questions.{backwardOf}
-use Rattle.uplink.proofs.Acceptance.{fits, plain-refusal, plain-open}
+use Rattle.uplink.proofs.Acceptance.{plain-number, plain-fits, plain-backward-is}
 use Rattle.uplink.proofs.plain_backward.Statement.{statement}
 use Rattle.uplink.proofs.plain_backward.Tie as tie
 
--- the fields are accepted, and the shape is theirs but for size and order
-number : (c : tie.After-judge-fields) → c .judge-fields .result ≡ refusal (unwindowed (c .before .args .f))
-number c = c .judge-fields .ensures ∙ plain-refusal (c .before .args .f)
-
+-- the shape is that of the fields but for size and order
 module _ (c : tie.After-shape) where
   abbrev f : UplinkFields
   f = c .before .before .before .args .f
-
-  accepted : refusal (unwindowed f) ≡ 0
-  accepted = sym (number (c .before .before)) ∙ c .before .if1 .left
 
   own : c .shape .result ≡ sized (shapeOf (unwindowed f)) 0 0
   own = c .shape .ensures
 
   fitting : Fits (c .shape .result)
-  fitting = fits-asked (shapeOf (unwindowed f)) _ 0 0 own (fits (unwindowed f) accepted)
+  fitting = plain-fits f _ (c .before .before .judge-fields .ensures) (c .before .if1 .left) _ 0 0 own
 
 returns : tie.Need-returns
 unfolding backwardOf
@@ -35,16 +27,16 @@ returns c =
     let j = c .before .before in
     let a = j .before .args in
     let g = unwindowed (a .f) in
-    c .refused .ensures ∙ refused-back-is _ _ (shapeOf g) (openOf g) (number j) (c .before .if1 .taken) (a .slot) (a .l) (a .k)
+    c .refused .ensures
+    ∙ refused-back-is _ _ (shapeOf g) (openOf g) (plain-number (a .f) _ (j .judge-fields .ensures)) (c .before .if1 .taken) (a .slot) (a .l) (a .k)
 
 returns-2 : tie.Need-returns-2
-unfolding backwardOf
 returns-2 c =
     let s = c .before .before in
-    let a = s .before .before .before .args in
-    let g = unwindowed (a .f) in
+    let j = s .before .before in
+    let a = j .before .args in
     c .backward .ensures _ (c .before .plain-locate .ensures)
-    ∙ backward-asked (shapeOf g) _ 0 0 (own s) (openOf g) allOpen (plain-open (a .f)) (refusal g) (accepted s) (a .slot) (a .l) (a .k)
+    ∙ plain-backward-is (a .f) _ (j .judge-fields .ensures) (s .before .if1 .left) _ 0 0 (own s) (a .slot) (a .l) (a .k)
 
 pub plain-backward-spec : {M : Type 1} → statement M
 plain-backward-spec =

@@ -1,38 +1,29 @@
-use mathlib.Core.Path.{_≡_, sym, _∙_}
-use Rattle.slots.specs.Timing.{allOpen}
-use Rattle.slots.proofs.Judging.{refused-plan-is, fits-asked, plan-asked}
+use mathlib.Core.Path.{sym, _∙_}
+use Rattle.slots.proofs.Judging.{refused-plan-is}
 use Rattle.uplink.specs.Unwindowed.{unwindowed}
-use Rattle.uplink.specs.Refusals.{refusal}
 use Rattle.uplink.specs.Shaping.{shapeOf, openOf}
 use Rattle.uplink.specs.Questions.{planOf}
-use Rattle.uplink.proofs.Acceptance.{fits, plain-refusal, plain-open}
+use Rattle.uplink.proofs.Acceptance.{plain-number, plain-fits, plain-plan-is}
 use Rattle.uplink.proofs.Shaped.{sized-own}
 use Rattle.uplink.proofs.plain_plan.Statement.{statement}
 use Rattle.uplink.proofs.plain_plan.Tie as tie
-
--- the fields are accepted, and the shape is theirs
-number : (c : tie.After-judge-fields) → c .judge-fields .result ≡ refusal (unwindowed (c .before .args .f))
-number c = c .judge-fields .ensures ∙ plain-refusal (c .before .args .f)
-
-accepted : (c : tie.Else1) → refusal (unwindowed (c .before .before .args .f)) ≡ 0
-accepted c = sym (number (c .before)) ∙ c .if1 .left
 
 returns : tie.Need-returns
 unfolding planOf
 returns c =
     let j = c .before .before in
-    let g = unwindowed (j .before .args .f) in
-    c .refused-plan .ensures ∙ refused-plan-is _ _ (shapeOf g) (openOf g) (number j) (c .before .if1 .taken)
+    let f = j .before .args .f in
+    let g = unwindowed f in
+    c .refused-plan .ensures ∙ refused-plan-is _ _ (shapeOf g) (openOf g) (plain-number f _ (j .judge-fields .ensures)) (c .before .if1 .taken)
 
 returns-2 : tie.Need-returns-2
-unfolding planOf
 returns-2 c =
     let s = c .before in
     let e = s .before .before in
-    let f = e .before .before .args .f in
-    let g = unwindowed f in
+    let j = e .before in
+    let f = j .before .args .f in
     c .plain-plan .ensures
-    ∙ plan-asked (shapeOf g) _ _ _ (s .shape .ensures) (openOf g) allOpen (plain-open f) (refusal g) (accepted e) (sized-own g _ (s .before .sizes-of .ensures))
+    ∙ plain-plan-is f _ (j .judge-fields .ensures) (e .if1 .left) _ _ _ (s .shape .ensures) (sized-own (unwindowed f) _ (s .before .sizes-of .ensures))
 
 pub plain-plan-spec : {M : Type 1} → statement M
 plain-plan-spec =
@@ -45,6 +36,6 @@ plain-plan-spec =
     (λ c κs. let e = c .before in sym (e .before .judge-fields .ensures) ∙ e .if1 .left)
     (λ c κs.
     let e = c .before .before in
-    let g = unwindowed (e .before .before .args .f) in
-    fits-asked (shapeOf g) _ _ _ (c .shape .ensures) (fits g (accepted e)))
+    let j = e .before in
+    plain-fits (j .before .args .f) _ (j .judge-fields .ensures) (e .if1 .left) _ _ _ (c .shape .ensures))
     returns-2)
