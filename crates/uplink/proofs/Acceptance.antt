@@ -1,6 +1,6 @@
 -- What acceptance says of a grant's numbers, and that its shape then fits.
 use mathlib.Core.Path.{_≡_, refl, sym, ap, _∙_}
-use Prim.Native.Nat.{ℕ, _+_, _^_, _≤_, _<_}
+use Prim.Native.Nat.{ℕ, _+_, _≤_, _<_}
 use native.Mathlib.Nat.{mul-pos, mul-le-mul}
 use native.Mathlib.Omega.{arith}
 use lib.Dec.{ltb}
@@ -27,15 +27,15 @@ use Rattle.uplink.specs.Unwindowed.{fieldsOf, unwindowed}
 use Rattle.uplink.specs.declared.UplinkGrant.{UplinkGrant}
 use Rattle.numerology.specs.Numerology.{groupOf}
 use Rattle.uplink.specs.Fields.{toneFields, tonesOf, unitSlots}
-use Rattle.uplink.specs.Refusals.{lastSubframe, aboveLargest, namesNoTone, aboveMcs, windowsNumber, fieldsRefusal, refusalWithin, refusal}
+use Rattle.uplink.specs.Refusals.{lastSubframe, aboveLargest, namesNoTone, aboveMcs, windowsNumber, fieldsRefusal, refusal}
 use Rattle.uplink.specs.Shaping.{shapeOf, openOf}
 use Rattle.uplink.specs.Quick.{forwardOr}
 use Rattle.uplink.specs.Questions.{planOf, forwardOf, backwardOf}
 use Rattle.uplink.proofs.Fielded.{tone-field, whole-groups, row-splits, row-bounds}
 
 -- every number in its range
-pub record InRange (limit : ℕ) (g : UplinkGrant) : Type 0 where
-  pub early : g .n ≤ limit
+pub record InRange (g : UplinkGrant) : Type 0 where
+  pub early : g .n ≤ lastSubframe
   pub spacing : g .spacing ≤ 1
   pub subcarrier : g .subcarrier ≤ 63
   pub tones : g .subcarrier < toneFields (g .spacing)
@@ -45,15 +45,15 @@ pub record InRange (limit : ℕ) (g : UplinkGrant) : Type 0 where
   pub mcs : g .mcs ≤ 4
 
 -- and the windows not refused
-pub record Accepted (limit : ℕ) (g : UplinkGrant) : Type 0 where
-  pub range : InRange limit g
+pub record Accepted (g : UplinkGrant) : Type 0 where
+  pub range : InRange g
   pub windows : windowsNumber g ≡ 0
 
-module _ (limit : ℕ) (g : UplinkGrant) where
-  pub ranged : fieldsRefusal limit g ≡ 0 → InRange limit g
+module _ (g : UplinkGrant) where
+  pub ranged : fieldsRefusal g ≡ 0 → InRange g
   unfolding fieldsRefusal
   ranged e =
-      let p9 = passed (ltb limit (g .n)) 9 _ (omega arith) e in
+      let p9 = passed (ltb lastSubframe (g .n)) 9 _ (omega arith) e in
       let p10 = passed (aboveLargest g) 10 _ (omega arith) (p9 .1) in
       let p11 = passed (namesNoTone g) 11 _ (omega arith) (p10 .1) in
       let p13 = passed (aboveMcs g) 13 _ (omega arith) (p11 .1) in
@@ -74,11 +74,11 @@ module _ (limit : ℕ) (g : UplinkGrant) where
       }
 
   -- and nothing else is refused
-  pub in-range-passes : InRange limit g → fieldsRefusal limit g ≡ 0
+  pub in-range-passes : InRange g → fieldsRefusal g ≡ 0
   unfolding fieldsRefusal
   in-range-passes a =
       rw (
-        le-ltb limit (g .n) (a .early),
+        le-ltb lastSubframe (g .n) (a .early),
         le-ltb 1 (g .spacing) (a .spacing),
         le-ltb 63 (g .subcarrier) (a .subcarrier),
         le-ltb 7 (g .units) (a .units),
@@ -89,17 +89,17 @@ module _ (limit : ℕ) (g : UplinkGrant) where
         le-ltb 4 (g .mcs) (a .mcs),
       ) refl
 
-  pub accepted : refusalWithin limit g ≡ 0 → Accepted limit g
-  unfolding refusalWithin
-  accepted e = let p = after-first (fieldsRefusal limit g) (windowsNumber g) e in record { range = ranged (p .0); windows = p .1 }
+  pub accepted : refusal g ≡ 0 → Accepted g
+  unfolding refusal
+  accepted e = let p = after-first (fieldsRefusal g) (windowsNumber g) e in record { range = ranged (p .0); windows = p .1 }
 
-  pub accepts : Accepted limit g → refusalWithin limit g ≡ 0
-  unfolding refusalWithin
+  pub accepts : Accepted g → refusal g ≡ 0
+  unfolding refusal
   accepts a = rw (in-range-passes (a .range)) (a .windows)
 
-  pub fits-within : limit < 2 ^ 32 → InRange limit g → Fits (shapeOf g)
+  pub fits-in : InRange g → Fits (shapeOf g)
   unfolding shapeOf
-  fits-within h a =
+  fits-in a =
       let t = tone-field (g .spacing) (g .subcarrier) (a .spacing) (a .tones) in
       let units = length-bounds (g .units) (omega (arith, a .units)) in
       let copies = uplink-copies-bounds (g .copies) (omega (arith, a .copies)) in
@@ -139,34 +139,34 @@ module _ (limit : ℕ) (g : UplinkGrant) where
       }
 
 -- its numbers by its spacing
-pub spaced-of : (g : UplinkGrant) → InRange lastSubframe g → Spaced (g .spacing) (shapeOf g)
+pub spaced-of : (g : UplinkGrant) → InRange g → Spaced (g .spacing) (shapeOf g)
 unfolding shapeOf
 spaced-of g a = record { listed = a .spacing; subcarriers = refl; block = refl; gap = refl; group = refl }
 
 module _ (g : UplinkGrant) (e : refusal g ≡ 0) where
   pub fits : Fits (shapeOf g)
-  fits = fits-within lastSubframe g (omega arith) (accepted lastSubframe g e .range)
+  fits = fits-in g (accepted g e .range)
 
   -- what the windows leave
   pub leaves-open : Leaves (shapeOf g) (openOf g)
   unfolding shapeOf
-  leaves-open = let a = accepted lastSubframe g e in leaves (g .spacing) (shapeOf g) (spaced-of g (a .range)) (g .windows) (a .windows)
+  leaves-open = let a = accepted g e in leaves (g .spacing) (shapeOf g) (spaced-of g (a .range)) (g .windows) (a .windows)
 
 -- ---- a grant by its fields, and the number that these have
 
-module _ (g : UplinkGrant) (f : UplinkFields) (h : f ≡ fieldsOf g) (n : ℕ) (e : n ≡ fieldsRefusal lastSubframe (unwindowed f)) where
-  pub fields-number : n ≡ fieldsRefusal lastSubframe g
+module _ (g : UplinkGrant) (f : UplinkFields) (h : f ≡ fieldsOf g) (n : ℕ) (e : n ≡ fieldsRefusal (unwindowed f)) where
+  pub fields-number : n ≡ fieldsRefusal g
   unfolding fieldsRefusal
-  fields-number = e ∙ ap (λ (x : UplinkFields). fieldsRefusal lastSubframe (unwindowed x)) h
+  fields-number = e ∙ ap (λ (x : UplinkFields). fieldsRefusal (unwindowed x)) h
 
   pub refused-by : (n ≡ 0 → ⊥) → n ≡ refusal g
-  unfolding refusalWithin
-  refused-by z = first-refuses n (fieldsRefusal lastSubframe g) (windowsNumber g) fields-number z
+  unfolding refusal
+  refused-by z = first-refuses n (fieldsRefusal g) (windowsNumber g) fields-number z
 
   -- its shape, but for size and order, asked beside its windows
   module _ (z : n ≡ 0) (s : Shape) (size order : ℕ) (own : s ≡ sized (shapeOf (unwindowed f)) size order) where
-    in-range : InRange lastSubframe g
-    in-range = ranged lastSubframe g (sym fields-number ∙ z)
+    in-range : InRange g
+    in-range = ranged g (sym fields-number ∙ z)
 
     own-shape : s ≡ sized (shapeOf g) size order
     unfolding shapeOf
@@ -178,40 +178,40 @@ module _ (g : UplinkGrant) (f : UplinkFields) (h : f ≡ fieldsOf g) (n : ℕ) (
     pub ready : Fits s × Spaced (f .spacing) s
     ready =
         rw spacing-is
-        (shape-beside (fieldsRefusal lastSubframe g) (g .spacing) (shapeOf g) (g .windows) (sym fields-number ∙ z) s size order own-shape
-        (fits-within lastSubframe g (omega arith) in-range) (spaced-of g in-range))
+        (shape-beside (fieldsRefusal g) (g .spacing) (shapeOf g) (g .windows) (sym fields-number ∙ z) s size order own-shape
+        (fits-in g in-range) (spaced-of g in-range))
 
     pub plan-is : sized (shapeOf g) size order ≡ shapeOf g
         → (r : UplinkPlan) → r ≡ planAnswer (refusalBeside (f .spacing) s (g .windows)) s (openBeside (f .spacing) s (g .windows)) → r ≡ planOf g
-    unfolding planOf refusalWithin shapeOf
+    unfolding planOf refusal shapeOf
     plan-is k r h =
-        h ∙ rw spacing-is (plan-beside (fieldsRefusal lastSubframe g) (g .spacing) (shapeOf g) (g .windows) (sym fields-number ∙ z) s size order own-shape k)
+        h ∙ rw spacing-is (plan-beside (fieldsRefusal g) (g .spacing) (shapeOf g) (g .windows) (sym fields-number ∙ z) s size order own-shape k)
 
     pub forward-is : (end p : ℕ) (r : UplinkPlace)
         → r ≡ forwardAnswerOr end (refusalBeside (f .spacing) s (g .windows)) s (openBeside (f .spacing) s (g .windows)) p → r ≡ forwardOr end g p
-    unfolding forwardOr refusalWithin shapeOf
+    unfolding forwardOr refusal shapeOf
     forward-is end p r h =
-        h ∙ rw spacing-is (forward-beside (fieldsRefusal lastSubframe g) (g .spacing) (shapeOf g) (g .windows) (sym fields-number ∙ z) s size order own-shape end p)
+        h ∙ rw spacing-is (forward-beside (fieldsRefusal g) (g .spacing) (shapeOf g) (g .windows) (sym fields-number ∙ z) s size order own-shape end p)
 
     pub backward-is : (slot l k : ℕ) (r : Back)
         → r ≡ backwardAnswer (refusalBeside (f .spacing) s (g .windows)) s (openBeside (f .spacing) s (g .windows)) slot l k → r ≡ backwardOf g slot l k
-    unfolding backwardOf refusalWithin shapeOf
+    unfolding backwardOf refusal shapeOf
     backward-is slot l k r h =
         h
-        ∙ rw spacing-is (backward-beside (fieldsRefusal lastSubframe g) (g .spacing) (shapeOf g) (g .windows) (sym fields-number ∙ z) s size order own-shape slot l k)
+        ∙ rw spacing-is (backward-beside (fieldsRefusal g) (g .spacing) (shapeOf g) (g .windows) (sym fields-number ∙ z) s size order own-shape slot l k)
 
 -- ---- fields with no window
 
 module _ (f : UplinkFields) where
-  pub plain-refusal : fieldsRefusal lastSubframe (unwindowed f) ≡ refusal (unwindowed f)
-  unfolding refusalWithin
-  plain-refusal = first-alone (fieldsRefusal lastSubframe (unwindowed f)) (windowsNumber (unwindowed f)) (none-refuses (f .spacing) _ _ none refl)
+  pub plain-refusal : fieldsRefusal (unwindowed f) ≡ refusal (unwindowed f)
+  unfolding refusal
+  plain-refusal = first-alone (fieldsRefusal (unwindowed f)) (windowsNumber (unwindowed f)) (none-refuses (f .spacing) _ _ none refl)
 
   pub plain-open : (u : ℕ) → allOpen u ≡ openOf (unwindowed f) u
   plain-open u = none-closes (f .spacing) _ _ none refl u
 
   -- their number, and if there is none their shape, but for size and order
-  module _ (n : ℕ) (e : n ≡ fieldsRefusal lastSubframe (unwindowed f)) where
+  module _ (n : ℕ) (e : n ≡ fieldsRefusal (unwindowed f)) where
     pub plain-number : n ≡ refusal (unwindowed f)
     plain-number = e ∙ plain-refusal
 

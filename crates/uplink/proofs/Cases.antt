@@ -19,7 +19,7 @@ use Rattle.windows.proofs.Spaced.{none-refuses}
 use Rattle.uplink.specs.declared.UplinkGrant.{UplinkGrant}
 use Rattle.numerology.specs.Numerology.{firstAfter}
 use Rattle.uplink.specs.Fields.{toneFields, tonesOf, firstTone, unitSlots, rowOf}
-use Rattle.uplink.specs.Refusals.{lastSubframe, fieldsRefusal, refusalWithin, refusal}
+use Rattle.uplink.specs.Refusals.{lastSubframe, fieldsRefusal, refusal}
 use Rattle.uplink.specs.Shaping.{shapeOf, openOf}
 use Rattle.uplink.specs.Unwindowed.{fieldsOf}
 use Rattle.uplink.specs.Questions.{planOf, forwardOf}
@@ -38,7 +38,7 @@ sends g a b e x y =
 plain : (n spacing subcarrier units copies delay mcs : ℕ) → n ≤ lastSubframe → spacing ≤ 1 → subcarrier ≤ 63 → subcarrier < toneFields spacing → units ≤ 7
     → copies ≤ 7 → delay ≤ 3 → mcs ≤ 4 → refusal (grant n spacing subcarrier units copies delay mcs) ≡ 0
 plain n spacing subcarrier units copies delay mcs a b c d e f h k =
-    accepts lastSubframe (grant n spacing subcarrier units copies delay mcs)
+    accepts (grant n spacing subcarrier units copies delay mcs)
     (record {
       range = record { early = a; spacing = b; subcarrier = c; tones = d; units = e; copies = f; delay = h; mcs = k };
       windows = none-refuses spacing _ _ none refl;
@@ -56,7 +56,7 @@ case3 n mcs (inr e) h = rw e (sends (grant 101 0 47 0 0 0 mcs) 55 70 (plain 101 
 -- the chain passes 9 and 10, and stops at 11
 case4 : (n spacing subcarrier units copies delay mcs : ℕ) → n ≤ lastSubframe → spacing ≤ 1 → toneFields spacing ≤ subcarrier → subcarrier ≤ 63
     → units ≤ 7 → copies ≤ 7 → delay ≤ 3 → mcs ≤ 15 → planOf (grant n spacing subcarrier units copies delay mcs) ≡ refusedPlan 11
-unfolding planOf refusalWithin fieldsRefusal
+unfolding planOf refusal fieldsRefusal
 case4 n spacing subcarrier units copies delay mcs a b c d e f g h =
     let x : UplinkGrant = grant n spacing subcarrier units copies delay mcs in
     sym (refused-plan-is (refusal x) 11 (shapeOf x) (openOf x)

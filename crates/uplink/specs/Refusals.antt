@@ -28,18 +28,15 @@ aboveMcs g = ltb 4 (g .mcs)
 abbrev pub windowsNumber : UplinkGrant → ℕ
 windowsNumber g = refusalOn (g .spacing) (firstTone (g .spacing) (g .subcarrier)) (tonesOf (g .spacing) (g .subcarrier)) (g .windows)
 
--- the number of the fields, or 0; limit is the last subframe in which a grant may end
-unfoldable pub fieldsRefusal : ℕ → UplinkGrant → ℕ
-fieldsRefusal limit g =
-    cond (ltb limit (g .n)) 9
+-- the number of the fields, or 0
+unfoldable pub fieldsRefusal : UplinkGrant → ℕ
+fieldsRefusal g =
+    cond (ltb lastSubframe (g .n)) 9
     (cond (aboveLargest g) 10
     (cond (namesNoTone g) 11
     (cond (aboveMcs g) 13
     0)))
 
 -- the number, or 0: the windows' after those of the fields
-unfoldable pub refusalWithin : ℕ → UplinkGrant → ℕ
-refusalWithin limit g = cond (eqb (fieldsRefusal limit g) 0) (windowsNumber g) (fieldsRefusal limit g)
-
-abbrev pub refusal : UplinkGrant → ℕ
-refusal g = refusalWithin lastSubframe g
+unfoldable pub refusal : UplinkGrant → ℕ
+refusal g = cond (eqb (fieldsRefusal g) 0) (windowsNumber g) (fieldsRefusal g)

@@ -3,7 +3,7 @@ ghost use mathlib.Core.Path.{_≡_};
 ghost use Rattle.slots.specs.Quick.{sized};
 ghost use Rattle.uplink.specs.Unwindowed.{fieldsOf, unwindowed};
 ghost use Rattle.uplink.specs.Quick.{sizesOf, forwardOr};
-ghost use Rattle.uplink.specs.Refusals.{lastSubframe, aboveLargest, fieldsRefusal};
+ghost use Rattle.uplink.specs.Refusals.{aboveLargest, fieldsRefusal};
 ghost use Rattle.uplink.specs.Shaping.{shapeOf};
 ghost use Rattle.uplink.specs.Questions.{planOf, forwardOf, backwardOf};
 use grid::UplinkGrid;
@@ -70,13 +70,13 @@ fn above_largest(f: UplinkFields) -> bool
 }
 
 // The number with which the fields are refused, or 0.
-fn judge_fields(limit: u64, f: UplinkFields) -> u64
-    ensures { λ r. ⌜ r ≡ fieldsRefusal limit (unwindowed f) ⌝ }
+fn judge_fields(f: UplinkFields) -> u64
+    ensures { λ r. ⌜ r ≡ fieldsRefusal (unwindowed f) ⌝ }
 {
     let n = f.n;
     let subcarrier = f.subcarrier;
     let mcs = f.mcs;
-    if n > limit {
+    if n > LAST_SUBFRAME {
         return 9;
     }
     if above_largest(f) {
@@ -93,7 +93,7 @@ fn judge_fields(limit: u64, f: UplinkFields) -> u64
 
 // The shape of accepted fields, with a size and an order: only a plan asks for the grant's own.
 fn shape(f: UplinkFields, size: u64, order: u64) -> Shape
-    requires { ⌜ fieldsRefusal lastSubframe (unwindowed f) ≡ 0 ⌝ }
+    requires { ⌜ fieldsRefusal (unwindowed f) ≡ 0 ⌝ }
     ensures { λ r. ⌜ r ≡ sized (shapeOf (unwindowed f)) size order ⌝ }
 {
     let spacing = f.spacing;
@@ -126,7 +126,7 @@ struct Sizes {
 
 // Those of accepted fields.
 fn sizes_of(f: UplinkFields) -> Sizes
-    requires { ⌜ fieldsRefusal lastSubframe (unwindowed f) ≡ 0 ⌝ }
+    requires { ⌜ fieldsRefusal (unwindowed f) ≡ 0 ⌝ }
     ensures { λ r. ⌜ r ≡ sizesOf f ⌝ }
 {
     let tones = fields::tones(f.spacing, f.subcarrier);
@@ -140,7 +140,7 @@ pub fn plan(g: UplinkGrant) -> UplinkPlan
     ensures { λ r. ⌜ r ≡ planOf g ⌝ }
 {
     let f = fields_of(g);
-    let no = judge_fields(LAST_SUBFRAME, f);
+    let no = judge_fields(f);
     if no != 0 {
         return slots::refused_plan(no);
     }
@@ -151,7 +151,7 @@ pub fn plan(g: UplinkGrant) -> UplinkPlan
 pub fn plain_plan(f: UplinkFields) -> UplinkPlan
     ensures { λ r. ⌜ r ≡ planOf (unwindowed f) ⌝ }
 {
-    let no = judge_fields(LAST_SUBFRAME, f);
+    let no = judge_fields(f);
     if no != 0 {
         return slots::refused_plan(no);
     }
@@ -171,7 +171,7 @@ pub fn forward_or(g: UplinkGrant, p: u64, end: u64) -> UplinkPlace
     ensures { λ r. ⌜ r ≡ forwardOr end g p ⌝ }
 {
     let f = fields_of(g);
-    let no = judge_fields(LAST_SUBFRAME, f);
+    let no = judge_fields(f);
     if no != 0 {
         return slots::refused_place(no);
     }
@@ -182,7 +182,7 @@ pub fn forward_or(g: UplinkGrant, p: u64, end: u64) -> UplinkPlace
 pub fn plain_forward(f: UplinkFields, p: u64) -> UplinkPlace
     ensures { λ r. ⌜ r ≡ forwardOf (unwindowed f) p ⌝ }
 {
-    let no = judge_fields(LAST_SUBFRAME, f);
+    let no = judge_fields(f);
     if no != 0 {
         return slots::refused_place(no);
     }
@@ -194,7 +194,7 @@ pub fn plain_forward(f: UplinkFields, p: u64) -> UplinkPlace
 pub fn plain_forward_or(f: UplinkFields, p: u64, end: u64) -> UplinkPlace
     ensures { λ r. ⌜ r ≡ forwardOr end (unwindowed f) p ⌝ }
 {
-    let no = judge_fields(LAST_SUBFRAME, f);
+    let no = judge_fields(f);
     if no != 0 {
         return slots::refused_place(no);
     }
@@ -208,7 +208,7 @@ pub fn backward(g: UplinkGrant, slot: u64, l: u64, k: u64) -> Back
     ensures { λ r. ⌜ r ≡ backwardOf g slot l k ⌝ }
 {
     let f = fields_of(g);
-    let no = judge_fields(LAST_SUBFRAME, f);
+    let no = judge_fields(f);
     if no != 0 {
         return sending::refused(no);
     }
@@ -218,7 +218,7 @@ pub fn backward(g: UplinkGrant, slot: u64, l: u64, k: u64) -> Back
 pub fn plain_backward(f: UplinkFields, slot: u64, l: u64, k: u64) -> Back
     ensures { λ r. ⌜ r ≡ backwardOf (unwindowed f) slot l k ⌝ }
 {
-    let no = judge_fields(LAST_SUBFRAME, f);
+    let no = judge_fields(f);
     if no != 0 {
         return sending::refused(no);
     }

@@ -50,7 +50,7 @@ windows-number spacing tone tones ws = by (areListed ws)
     by false = lit< tt
 
 pub up-number : (g : UplinkGrant) → up.refusal g < 255
-unfolding up.refusalWithin up.fieldsRefusal
+unfolding up.refusal up.fieldsRefusal
 up-number g =
     then (after (ltb up.lastSubframe (g .n)) 9 tt (after (up.aboveLargest g) 10 tt (after (up.namesNoTone g) 11 tt (after (up.aboveMcs g) 13 tt last))))
     (windows-number (g .spacing) (firstTone (g .spacing) (g .subcarrier)) (tonesOf (g .spacing) (g .subcarrier)) (g .windows))

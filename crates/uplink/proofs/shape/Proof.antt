@@ -1,14 +1,13 @@
 use native.Mathlib.Omega.{arith}
 use Rattle.grid.proofs.Rules.{uplink-copies-bounds}
 use Rattle.uplink.specs.Unwindowed.{unwindowed}
-use Rattle.uplink.specs.Refusals.{lastSubframe}
 use Rattle.uplink.proofs.Acceptance.{InRange, ranged}
 use Rattle.uplink.proofs.Shaped.{shape-is}
 use Rattle.uplink.proofs.shape.Statement.{statement}
 use Rattle.uplink.proofs.shape.Tie as tie
 
-in-range : (c : tie.Start) → InRange lastSubframe (unwindowed (c .args .f))
-in-range c = ranged lastSubframe (unwindowed (c .args .f)) (c .pre)
+in-range : (c : tie.Start) → InRange (unwindowed (c .args .f))
+in-range c = ranged (unwindowed (c .args .f)) (c .pre)
 
 pub shape-spec : {M : Type 1} → statement M
 shape-spec =

@@ -3,13 +3,12 @@ use Prim.Native.Nat.{ℕ}
 use native.Mathlib.Omega.{arith}
 use Rattle.uplink.specs.Fields.{blockSize, orderOf}
 use Rattle.uplink.specs.Unwindowed.{unwindowed}
-use Rattle.uplink.specs.Refusals.{lastSubframe}
 use Rattle.uplink.proofs.Acceptance.{InRange, ranged}
 use Rattle.uplink.proofs.sizes_of.Statement.{statement}
 use Rattle.uplink.proofs.sizes_of.Tie as tie
 
-in-range : (c : tie.Start) → InRange lastSubframe (unwindowed (c .args .f))
-in-range c = ranged lastSubframe (unwindowed (c .args .f)) (c .pre)
+in-range : (c : tie.Start) → InRange (unwindowed (c .args .f))
+in-range c = ranged (unwindowed (c .args .f)) (c .pre)
 
 pub sizes-of-spec : {M : Type 1} → statement M
 sizes-of-spec =
