@@ -9,10 +9,11 @@ use lib.Dec.{eqb, ltb, leb}
 use lib.ListN.{length, take}
 use borrow.Author.Tests.{ltb-false, eqb-true, leb-true, not-false, eq-eqb, ne-eqb}
 use Rattle.counting.proofs.Facts.{passed, chained, both-parts, either-parts, either-case}
+use Rattle.bitmap.specs.Bitmap.{bytesOf, listedLength, spareSet, badBitmap}
+use Rattle.bitmap.specs.Quick.{BitmapFits}
 use Rattle.cell.specs.declared.Cell.{Cell}
-use Rattle.cell.specs.Bitmap.{ownBuffer, bytesOf, listedLength, spareSet, bitmapIn, badBitmap}
+use Rattle.cell.specs.Bitmap.{ownBuffer, bitmapIn}
 use Rattle.cell.specs.Judge.{inBand, cellPortsListed, controlListed, numbersRefusal, formRefusal, noneAllowed, noneUsable, useRefusal, cellRefusal, judgeOf, inForceOf}
-use Rattle.cell.specs.Quick.{BitmapFits}
 
 pub record WellFormed (c : Cell) : Type 0 where
   pub carrier : c .carrier ≤ 1

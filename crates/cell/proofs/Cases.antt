@@ -3,8 +3,8 @@ use mathlib.Core.List.{List, [], _∷_}
 use mathlib.Core.Path.{_≡_, refl}
 use Prim.Native.Nat.{ℕ}
 use Rattle.counting.specs.Counting.{rank}
+use Rattle.bitmap.specs.Bitmap.{bytesOf, listedLength, badBitmap, allowed}
 use Rattle.cell.specs.declared.Cell.{Cell}
-use Rattle.cell.specs.Bitmap.{bytesOf, listedLength, badBitmap, allowed}
 use Rattle.cell.specs.Usable.{why}
 use Rattle.cell.specs.Judge.{numbersRefusal, formRefusal, useRefusal, cellRefusal, judgeOf}
 

@@ -9,14 +9,16 @@ use borrow.Author.Tests.{eq-eqb, ne-eqb}
 use Rattle.counting.specs.Counting.{rank}
 use Rattle.spans.specs.declared.Pattern.{Pattern}
 use Rattle.spans.specs.Pattern.{allows, periodOf}
+use Rattle.bitmap.specs.Bitmap.{allowed}
+use Rattle.bitmap.specs.Quick.{Loaded}
 use Rattle.cell.specs.declared.Cell.{Cell}
 use Rattle.cell.specs.declared.Cause.{Cause}
 use Rattle.cell.specs.declared.Cause.the-variants.{None}
 use Rattle.cell.specs.declared.Verdict.{Verdict}
-use Rattle.cell.specs.Bitmap.{allowed, bitmapIn}
+use Rattle.cell.specs.Bitmap.{bitmapIn}
 use Rattle.cell.specs.Usable.{period, usable}
 use Rattle.cell.specs.Judge.{formRefusal, noneAllowed, noneUsable, useRefusal, cellRefusal}
-use Rattle.cell.specs.Quick.{Loaded, Shows, Leaves, VerdictOn, seen, causeOn}
+use Rattle.cell.specs.Quick.{Shows, Leaves, VerdictOn, seen, causeOn}
 use Rattle.cell.proofs.Accepted.{form-bitmap}
 use Rattle.cell.proofs.Showing.{none-allowed, some-allowed, seen-is, some-usable, none-usable}
 

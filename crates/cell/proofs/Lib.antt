@@ -1,4 +1,3 @@
-pub mod Forty
 pub mod Taken
 pub mod Accepted
 pub mod Showing

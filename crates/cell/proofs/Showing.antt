@@ -19,15 +19,19 @@ use Rattle.counting.proofs.Period.{rank-whole, repeats-times, select-same}
 use Rattle.spans.specs.declared.Pattern.{Pattern}
 use Rattle.spans.specs.Pattern.{span, maskBit, withSib1, maskAt, allows, periodOf, Regular}
 use Rattle.spans.proofs.Laws.{ones-none, ones-some, mask-bits, repeats}
+use Rattle.bitmap.specs.Bitmap.{allowed}
+use Rattle.bitmap.specs.Quick.{Loaded, BitmapFits}
+use Rattle.bitmap.proofs.Forty.{allowed-forty, allowed-front}
+use Rattle.anchor.specs.Quick.{anchorPattern}
+use Rattle.anchor.proofs.Taken.{taken, anchor-regular, anchor-allows}
 use Rattle.cell.specs.declared.Cell.{Cell}
 use Rattle.cell.specs.declared.Cause.{Cause}
 use Rattle.cell.specs.declared.Cause.the-variants.{None}
-use Rattle.cell.specs.Bitmap.{bytesOf, listedLength, allowed, bitmapIn}
+use Rattle.cell.specs.Bitmap.{bitmapIn}
 use Rattle.cell.specs.Usable.{period, isAnchor, why, none, usable}
 use Rattle.cell.specs.Judge.{formRefusal, cellRefusal}
-use Rattle.cell.specs.Quick.{Loaded, BitmapFits, anchorPattern, Shows, whyNot, seen}
-use Rattle.cell.proofs.Forty.{allowed-forty, allowed-front}
-use Rattle.cell.proofs.Taken.{taken, usable-is, why-by, anchor-regular, anchorTurns, anchor-whole, anchor-allows}
+use Rattle.cell.specs.Quick.{Shows, whyNot, seen}
+use Rattle.cell.proofs.Taken.{usable-is, why-by, anchorTurns, anchor-whole}
 
 and-true : (b : Bool) → (b && true) ≡ b
 and-true true = refl

@@ -5,10 +5,11 @@ use mathlib.Core.List.{List, []}
 use Prim.Native.Nat.{ℕ}
 use lib.Dec.{eqb, ltb, leb}
 use Rattle.counting.specs.Counting.{rank}
+use Rattle.bitmap.specs.Bitmap.{badBitmap, allowed}
 use Rattle.cell.specs.declared.Cell.{Cell}
 use Rattle.cell.specs.declared.Cause.the-variants.{None}
 use Rattle.cell.specs.declared.CauseAnswer.{CauseAnswer}
-use Rattle.cell.specs.Bitmap.{ownBuffer, bitmapIn, badBitmap, allowed}
+use Rattle.cell.specs.Bitmap.{ownBuffer, bitmapIn}
 use Rattle.cell.specs.Usable.{period, why, usable}
 
 -- modes 0 and 1

@@ -1,40 +1,22 @@
--- What the quick code chooses: the bitmap as a number, the anchor's masks, and the cause read off a mask. No definition of 01 cites this file.
-use mathlib.Core.Bool.{Bool, true, false, cond, _&&_}
-use mathlib.Core.List.{List, [], _∷_}
+-- What the quick code chooses: the cell's masks, and the cause read off a mask. No definition of 01 cites this file.
+use mathlib.Core.Bool.{cond, _&&_}
+use mathlib.Core.List.{List}
 use mathlib.Core.Path.{_≡_}
-use Prim.Native.Nat.{ℕ, _+_, _-_, _*_, _/_, _%_, _^_, _≤_, _<_}
+use Prim.Native.Nat.{ℕ, _+_, _*_, _<_}
 use lib.Dec.{eqb}
-use lib.ListN.{length, getD}
 use Rattle.counting.specs.Counting.{rank}
 use Rattle.spans.specs.declared.Pattern.{Pattern}
 use Rattle.spans.specs.Pattern.{span, maskBit, maskAt, allows, periodOf, Regular}
+use Rattle.bitmap.specs.Quick.{BitmapFits, Loaded}
+use Rattle.anchor.specs.Anchor.{npbch, npss, nsss, sib1}
 use Rattle.cell.specs.declared.Cell.{Cell}
 use Rattle.cell.specs.declared.Cause.{Cause}
 use Rattle.cell.specs.declared.Cause.the-variants.{None, Npbch, Npss, Nsss, Sib1, Bitmap}
 use Rattle.cell.specs.declared.CauseAnswer.{CauseAnswer}
 use Rattle.cell.specs.declared.Verdict.{Verdict}
-use Rattle.cell.specs.Bitmap.{bytesOf, listedLength, allowed, bitmapIn}
-use Rattle.cell.specs.Usable.{period, npbch, npss, nsss, bySchedule, sib1, isAnchor, why, none}
+use Rattle.cell.specs.Bitmap.{bitmapIn}
+use Rattle.cell.specs.Usable.{period, isAnchor, why, none}
 use Rattle.cell.specs.Judge.{cellRefusal}
-
--- bits and bytes that fit each other
-pub record BitmapFits (bits : ℕ) (b : List ℕ) : Type 0 where
-  pub listed : listedLength bits ≡ true
-  pub long : bytesOf bits ≤ length b
-
--- m has bit i for subframe i of forty
-pub record Loaded (b : List ℕ) (bits m : ℕ) : Type 0 where
-  pub small : m < 2 ^ 40
-  pub digits : (i : ℕ) → i < 40 → maskBit m i ≡ allowed b bits i
-
--- the pattern of an anchor whose bitmap allows all: no NPBCH, NPSS and NSSS, and in four spans no SIB1, in the even or in the odd frames
-unfoldable pub anchorPattern : ℕ → ℕ → Pattern
-anchorPattern identity schedule = record {
-  log = bySchedule (schedule % 3) 4 3 2;
-  first = bySchedule (schedule % 3) (4 * (identity % 4)) (4 * (identity % 2)) 0;
-  plain = 0x7b_9ef7_b9ef;
-  sib1 = cond (eqb (schedule % 3) 2 && eqb (identity % 2) 1) 0x7b_9cf7_b9cf 0x73_9ef7_39ef;
-}
 
 -- bit i of a span's mask says that no cause stands against subframe i of the span; and a period has the pattern a whole number of times
 pub record Shows (c : Cell) (b : List ℕ) (p : Pattern) : Type 0 where

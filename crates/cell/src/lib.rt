@@ -8,10 +8,8 @@ ghost use Rattle.cell.specs.Bitmap.{ownBuffer};
 ghost use Rattle.cell.specs.Judge.{numbersRefusal, formRefusal, cellRefusal, judgeOf, inForceOf, causeOf};
 ghost use Rattle.cell.specs.Quick.{whyNot, seen, Leaves, VerdictOn, causeOn};
 ghost use Rattle.cell.specs.Usable.{numberOf};
+pub use bitmap::bytes as bitmap_bytes;
 use spans::Pattern;
-
-mod anchor;
-mod bitmap;
 
 pub struct Cell {
     pub mode: u64,

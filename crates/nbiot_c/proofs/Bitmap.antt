@@ -7,8 +7,9 @@ use lib.Dec.{eqb}
 use lib.ListN.{length, take, drop, take-append-drop}
 use lib.Seq.{take-append-seam}
 use borrow.Author.Tests.{ne-eqb}
+use Rattle.bitmap.specs.Bitmap.{bytesOf}
 use Rattle.cell.specs.declared.Cell.{Cell}
-use Rattle.cell.specs.Bitmap.{ownBuffer, bytesOf, bitmapIn}
+use Rattle.cell.specs.Bitmap.{ownBuffer, bitmapIn}
 use Rattle.cell.specs.Judge.{judgeOf, inForceOf}
 use Rattle.nbiot_c.specs.Calls.{bitmapNumbers, partNamed}
 

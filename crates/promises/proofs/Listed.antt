@@ -9,7 +9,7 @@ use Rattle.counting.specs.Counting.{rank, count, next, select, amongFirst}
 use Rattle.counting.proofs.Facts.{each, each-at}
 use Rattle.grid.specs.Grid.{subcarriers}
 use Rattle.grid.specs.Tables.{downlinkDelay, isRepetition}
-use Rattle.cell.specs.Bitmap.{bytesOf, listedLength, badBitmap, allowed}
+use Rattle.bitmap.specs.Bitmap.{bytesOf, listedLength, badBitmap, allowed}
 use Rattle.cell.specs.Usable.{period, why, usable}
 use Rattle.cell.specs.Judge.{numbersRefusal, formRefusal, useRefusal, cellRefusal, judgeOf}
 use Rattle.cell.proofs.Cases as cell

@@ -6,8 +6,9 @@ use lib.Dec.{T, eqb, ltb, lit<}
 use Rattle.counting.specs.Counting.{rank}
 use Rattle.grid.specs.Tables.{isRepetition}
 use Rattle.numerology.specs.Numerology.{groupMs}
+use Rattle.bitmap.specs.Bitmap.{badBitmap}
 use Rattle.cell.specs.declared.Cell.{Cell}
-use Rattle.cell.specs.Bitmap.{badBitmap, ownBuffer}
+use Rattle.cell.specs.Bitmap.{ownBuffer}
 use Rattle.cell.specs.Judge.{cellPortsListed, controlListed, numbersRefusal, formRefusal, noneAllowed, noneUsable, useRefusal, cellRefusal, judgeOf}
 use Rattle.subframes.specs.Cells.{lastSubframe, fieldsRefusal, questionRefusal}
 use Rattle.windows.specs.declared.Windows.{Windows}

@@ -7,8 +7,9 @@ use native.Mathlib.Omega.{arith}
 use borrow.Author.Needs.{needs}
 use lib.Dec.{eqb}
 use lib.ListN.{length, take, length-take}
+use Rattle.bitmap.specs.Bitmap.{bytesOf}
 use Rattle.cell.specs.declared.Cell.{Cell}
-use Rattle.cell.specs.Bitmap.{ownBuffer, bytesOf}
+use Rattle.cell.specs.Bitmap.{ownBuffer}
 use Rattle.cell.specs.Judge.{judgeOf, inForceOf}
 use Rattle.query.proofs.asking.bitmap.Statement.{statement}
 use Rattle.query.proofs.asking.bitmap.Tie as tie
