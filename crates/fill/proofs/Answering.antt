@@ -1,40 +1,34 @@
--- The answers of the public questions, from a judged call.
-use mathlib.Core.Bool.{Bool, false, cond, not, _&&_}
+-- What a fill leaves in the output, from a judged call.
+use mathlib.Core.Bool.{Bool, false, cond, not}
 use mathlib.Core.List.{List, _++_}
-use mathlib.Core.Path.{_≡_, refl, sym, ap, ap₂, _∙_}
-use Prim.Native.Nat.{ℕ, _+_, _*_, _<_}
+use mathlib.Core.Path.{_≡_, sym, ap, ap₂, _∙_}
+use Prim.Native.Nat.{ℕ, _+_, _*_}
 use native.Mathlib.Nat.{zero-add}
-use lib.Dec.{eqb, ltb}
+use lib.Dec.{eqb}
 use lib.Ieee.{Float}
 use lib.ListN.{length}
-use borrow.Author.Tests.{eq-eqb, ne-eqb, eqb-true, ltb-true, not-false}
+use borrow.Author.Tests.{eq-eqb, ne-eqb, eqb-true, not-false}
 use Rattle.counting.specs.Counting.{count}
-use Rattle.counting.proofs.Facts.{both-parts}
-use Rattle.grid.specs.Grid.{subcarriers, symbols, slots, slotElements, numbers, elementOf}
+use Rattle.grid.specs.Grid.{subcarriers, slotElements, numbers}
 use Rattle.cell.specs.declared.Cell.{Cell}
 use Rattle.elements.specs.declared.Layout.{Layout}
 use Rattle.elements.specs.Elements.{used}
 use Rattle.subframes.specs.Cells.{layoutOf}
-use Rattle.subframes.specs.Answers.{insideGrid}
 use Rattle.downlink.specs.declared.DownlinkGrant.{DownlinkGrant}
 use Rattle.symbol.specs.declared.Symbol.{Symbol}
-use Rattle.symbol.specs.declared.Outgoing.{Outgoing}
-use Rattle.symbol.specs.declared.Element.the-variants.{Refused}
-use Rattle.symbol.specs.Outgoing.{writtenOf, answerOf}
+use Rattle.symbol.specs.Outgoing.{writtenOf}
 use Rattle.symbol.specs.Quick.{symbolsOf}
-use Rattle.fill.specs.declared.Call.{Call}
-use Rattle.fill.specs.GoesOut.{outgoingOf}
+use Rattle.transmitted.specs.declared.Call.{Call}
+use Rattle.transmitted.specs.GoesOut.{outgoingOf}
+use Rattle.transmitted.specs.Quick.{goesIn, CallFor}
+use Rattle.transmitted.proofs.Calling.{call-passed}
 use Rattle.fill.specs.Refusals.{fillRefusal}
 use Rattle.fill.specs.Fill.{laid, filledOf, outputOf}
-use Rattle.fill.specs.Element.{elementAnswer}
-use Rattle.fill.specs.Quick.{goesIn, writtenIn, CallFor}
+use Rattle.fill.specs.Quick.{writtenIn}
 use Rattle.fill.proofs.Laid.{laid-plus, laid-same}
-use Rattle.fill.proofs.Calling.{call-passed}
-use Rattle.fill.proofs.Going.{first-on, second-on, written-from}
+use Rattle.fill.proofs.Writing.{first-on, second-on, written-from}
 
 module _ (c : Cell) (anchor other : List ℕ) (g : DownlinkGrant) (i : ℕ) (bits : List ℕ) (level : Float) where
-  -- ---- the fill
-
   module _ (out : List Float) (k : Call) (j : CallFor c anchor other g i false bits (not (eqb (length out) numbers)) level k) where
     pub output-size : k .no ≡ 0 → length out ≡ numbers
     output-size z =
@@ -66,25 +60,3 @@ module _ (c : Cell) (anchor other : List ℕ) (g : DownlinkGrant) (i : ℕ) (bit
     output-filled z =
         sym (ap (λ (t : Bool). cond t (filledOf c anchor other g i bits level) out)
         (eq-eqb (fillRefusal c anchor other g i bits level out) 0 (sym (j .number) ∙ z)))
-
-  -- ---- one element
-
-  module _ (slot l k : ℕ) (v : Call) (j : CallFor c anchor other g i (not (insideGrid slot l k)) bits false level v) where
-    pub element-inside : v .no ≡ 0 → (slot < slots) × (l < symbols) × (k < subcarriers)
-    element-inside z =
-        let inside = not-false (insideGrid slot l k) (call-passed c anchor other g i (not (insideGrid slot l k)) bits false level v j z .inside) in
-        let a = both-parts (ltb slot slots) (ltb l symbols && ltb k subcarriers) inside in
-        let b = both-parts (ltb l symbols) (ltb k subcarriers) (a .1) in
-        (ltb-true slot slots (a .0), ltb-true l symbols (b .0), ltb-true k subcarriers (b .1))
-
-    pub element-refused : (v .no ≡ 0 → ⊥) → Refused (v .no) ≡ elementAnswer c anchor other g i slot l k bits level
-    unfolding elementAnswer
-    element-refused n = rw (← j .number, ne-eqb (v .no) 0 n) refl
-
-    pub element-answered : (h : Layout) (o : Outgoing) → v .no ≡ 0 → h ≡ layoutOf c → o ≡ goesIn h (v .first) (elementOf slot l k)
-        → answerOf bits level o ≡ elementAnswer c anchor other g i slot l k bits level
-    unfolding elementAnswer
-    element-answered h o z hl ho =
-        let x = elementOf slot l k in
-        rw (← j .number, eq-eqb (v .no) 0 z)
-        (ap (answerOf bits level) (ho ∙ ap (λ (y : Layout). goesIn y (v .first) x) hl ∙ j .going z x))

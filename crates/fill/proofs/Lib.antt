@@ -1,5 +1,4 @@
 pub mod Laid
-pub mod Going
-pub mod Calling
+pub mod Writing
 pub mod Answering
 pub mod Rowwise

@@ -9,7 +9,7 @@ use Rattle.cell.specs.declared.Cell.{Cell}
 use Rattle.downlink.specs.declared.DownlinkGrant.{DownlinkGrant}
 use Rattle.symbol.specs.declared.Symbol.{Symbol}
 use Rattle.symbol.specs.Outgoing.{writtenOf}
-use Rattle.fill.specs.GoesOut.{outgoingOf}
+use Rattle.transmitted.specs.GoesOut.{outgoingOf}
 use Rattle.fill.specs.Refusals.{fillRefusal}
 
 -- the numbers of elements 0 to n - 1, each real then imaginary: element x at twice its number

@@ -1,5 +1,3 @@
-pub mod GoesOut
 pub mod Refusals
 pub mod Fill
-pub mod Element
 pub mod Quick

@@ -149,5 +149,5 @@ pub use inplace::step;
 pub use inplace::step_value;
 
 // The numbers of one transmitted subframe of an NPDSCH on one port, and what goes out at one of its elements.
-pub use fill::element;
 pub use fill::fill;
+pub use transmitted::element;

@@ -16,7 +16,7 @@ use Rattle.walk.specs.Step.{steppedOf}
 use Rattle.symbol.specs.Outgoing.{numbersOf}
 use Rattle.fill.specs.Refusals.{fillRefusal}
 use Rattle.fill.specs.Fill.{outputOf}
-use Rattle.fill.specs.Element.{elementAnswer}
+use Rattle.transmitted.specs.Element.{elementAnswer}
 use Rattle.buffers.specs.Buffers.{cellOf, upGrantOf, ackGrantOf, downGrantOf, controlGrantOf, upPlanNumbers, downPlanNumbers, upPlaceNumbers, downPlaceNumbers, backNumbers, downBackNumbers, causeNumbers, countNumbers, upWalkOf, ackWalkOf, downWalkOf, controlWalkOf, lacks, windowsShort, tooShort, Reply, replyOf, StepReply, stepReplyOf, FillReply, fillReplyOf, ElementReply, elementReplyOf}
 
 unfoldable pub judge : List ℕ → List ℕ → List ℕ → ℕ

@@ -552,7 +552,7 @@ pub extern "C" fn nbiot_element(
     {
         return TOO_SHORT;
     }
-    let e = fill::element(
+    let e = transmitted::element(
         buffers::cell_of(cell),
         anchor,
         other,

@@ -9,7 +9,7 @@ use Rattle.counting.specs.Counting.{count}
 use Rattle.grid.specs.Grid.{subcarriers, slotElements, slotNumbers, numbers}
 use Rattle.elements.specs.declared.Layout.{Layout}
 use Rattle.elements.specs.Elements.{used}
-use Rattle.fill.specs.Quick.{Prepared}
+use Rattle.transmitted.specs.Quick.{Prepared}
 use Rattle.fill.proofs.Laid.{halves, length-laid, front-size, joined-size, back-size}
 use Rattle.fill.proofs.Rowwise.{few, slots-room}
 use Rattle.fill.proofs.Answering.{output-size, output-refused, output-filled, both-slots}

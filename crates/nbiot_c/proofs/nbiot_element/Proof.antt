@@ -4,7 +4,7 @@ use borrow.Author.Needs.{needs}
 use Rattle.cell.specs.declared.Cell.{Cell}
 use Rattle.downlink.specs.declared.DownlinkGrant.{DownlinkGrant}
 use Rattle.symbol.specs.Outgoing.{numbersOf}
-use Rattle.fill.specs.Element.{elementAnswer}
+use Rattle.transmitted.specs.Element.{elementAnswer}
 use Rattle.counting.proofs.Facts.{either-parts}
 use Rattle.nbiot_c.specs.Calls as calls
 use Rattle.buffers.proofs.Replies.{unread-element, replied-element}

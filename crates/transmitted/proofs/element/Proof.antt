@@ -1,10 +1,10 @@
 use mathlib.Core.Path.{sym, subst, _∙_}
 use Rattle.elements.specs.declared.Layout.{Layout}
-use Rattle.fill.specs.Quick.{Prepared}
-use Rattle.fill.proofs.Going.{goes-within}
-use Rattle.fill.proofs.Answering.{element-inside, element-refused, element-answered}
-use Rattle.fill.proofs.element.Statement.{statement}
-use Rattle.fill.proofs.element.Tie as tie
+use Rattle.transmitted.specs.Quick.{Prepared}
+use Rattle.transmitted.proofs.Going.{goes-within}
+use Rattle.transmitted.proofs.Answering.{element-inside, element-refused, element-answered}
+use Rattle.transmitted.proofs.element.Statement.{statement}
+use Rattle.transmitted.proofs.element.Tie as tie
 
 -- what an accepted call has
 prepared : (c : tie.After-layout) → let j = c .before .before .before in

@@ -10,8 +10,8 @@ use Rattle.downlink.specs.declared.DownlinkGrant.{DownlinkGrant}
 use Rattle.symbol.specs.declared.Element.{Element}
 use Rattle.symbol.specs.declared.Element.the-variants.{Refused}
 use Rattle.symbol.specs.Outgoing.{answerOf}
-use Rattle.fill.specs.GoesOut.{outgoingOf}
-use Rattle.fill.specs.Refusals.{elementRefusal}
+use Rattle.transmitted.specs.GoesOut.{outgoingOf}
+use Rattle.transmitted.specs.Refusals.{elementRefusal}
 
 unfoldable pub elementAnswer : Cell → List ℕ → List ℕ → DownlinkGrant → ℕ → ℕ → ℕ → ℕ → List ℕ → Float → Element
 elementAnswer c anchor other g i slot l k bits level =

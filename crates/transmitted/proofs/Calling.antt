@@ -27,10 +27,10 @@ use Rattle.subframes.specs.Quick.{ReadyFor}
 use Rattle.downlink.specs.declared.DownlinkGrant.{DownlinkGrant}
 use Rattle.downlink.specs.Refusals.{refusalOf}
 use Rattle.downlink.specs.Questions.{burstOf}
-use Rattle.fill.specs.declared.Call.{Call}
-use Rattle.fill.specs.Refusals.{codewordBytes, lateRefusal, callRefusal}
-use Rattle.fill.specs.Quick.{Prepared, CallFor}
-use Rattle.fill.proofs.Going.{going}
+use Rattle.transmitted.specs.declared.Call.{Call}
+use Rattle.transmitted.specs.Refusals.{codewordBytes, lateRefusal, callRefusal}
+use Rattle.transmitted.specs.Quick.{Prepared, CallFor}
+use Rattle.transmitted.proofs.Going.{going}
 
 -- what 14 and 15 leave
 pub record Passed (b : Burst) (i : ℕ) (outside : Bool) (bits : List ℕ) (wrong : Bool) : Type 0 where

@@ -6,9 +6,9 @@ use borrow.Author.Needs.{needs}
 use Rattle.grid.specs.Grid.{subcarriers, elementOf}
 use Rattle.elements.specs.Elements.{used, kindOf, numberOf}
 use Rattle.elements.proofs.Laws.{whole-part, used-listed, count-le, standing-used, standing-other}
-use Rattle.fill.proofs.Going.{goes-ours, goes-silent, goes-reference}
-use Rattle.fill.proofs.outgoing.Statement.{statement}
-use Rattle.fill.proofs.outgoing.Tie as tie
+use Rattle.transmitted.proofs.Going.{goes-ours, goes-silent, goes-reference}
+use Rattle.transmitted.proofs.outgoing.Statement.{statement}
+use Rattle.transmitted.proofs.outgoing.Tie as tie
 
 abbrev x : tie.Start → ℕ
 x s = elementOf (s .args .slot) (s .args .l) (s .args .k)

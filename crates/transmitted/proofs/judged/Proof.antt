@@ -6,9 +6,9 @@ use Rattle.subframes.specs.Quick.{ReadyFor}
 use Rattle.downlink.specs.Refusals.{refusalOf}
 use Rattle.downlink.specs.Questions.{burstOf}
 use Rattle.downlink.proofs.Accepting.{question}
-use Rattle.fill.proofs.Calling.{refused-early, refused-late, accepted}
-use Rattle.fill.proofs.judged.Statement.{statement}
-use Rattle.fill.proofs.judged.Tie as tie
+use Rattle.transmitted.proofs.Calling.{refused-early, refused-late, accepted}
+use Rattle.transmitted.proofs.judged.Statement.{statement}
+use Rattle.transmitted.proofs.judged.Tie as tie
 
 abbrev args : tie.After-ready → tie.Start
 args q = q .before .before .before .before .before

@@ -5,9 +5,9 @@ use borrow.Author.Needs.{needs}
 use borrow.Author.Tests.{eq-eqb, ne-eqb}
 use Rattle.grid.specs.Grid.{elements}
 use Rattle.elements.proofs.Laws.{count-le}
-use Rattle.fill.specs.Refusals.{lateRefusal}
-use Rattle.fill.proofs.late_refusal.Statement.{statement}
-use Rattle.fill.proofs.late_refusal.Tie as tie
+use Rattle.transmitted.specs.Refusals.{lateRefusal}
+use Rattle.transmitted.proofs.late_refusal.Statement.{statement}
+use Rattle.transmitted.proofs.late_refusal.Tie as tie
 
 -- the codeword's symbols fit a word
 symbols : (c : tie.Start) → c .args .b .codeword * c .args .w ≤ 2 ^ 8 * elements

@@ -1,0 +1,4 @@
+pub mod GoesOut
+pub mod Refusals
+pub mod Element
+pub mod Quick
