@@ -5,10 +5,11 @@ use mathlib.Core.Path.{_≡_, refl, sym, ap, _∙_}
 use Prim.Native.Nat.{ℕ}
 use lib.Dec.{eqb}
 use lib.ListN.{length, take, drop, take-append-drop}
-use lib.Seq.{take-append-seam}
+use lib.Seq.{take-append-seam, length-take-le}
 use borrow.Author.Tests.{ne-eqb}
 use Rattle.bitmap.specs.Bitmap.{bytesOf}
 use Rattle.cell.specs.declared.Cell.{Cell}
+use Rattle.cell.proofs.Accepted.{accepted-bitmap}
 use Rattle.cell.specs.Bitmap.{ownBuffer, bitmapIn}
 use Rattle.cell.specs.Judge.{judgeOf, inForceOf}
 use Rattle.nbiot_c.specs.Calls.{bitmapNumbers, partNamed}
@@ -19,11 +20,12 @@ module _ (c : Cell) (anchor other : List ℕ) where
   refused-numbers {no} e h =
       rw (ne-eqb (judgeOf c anchor other) 0 (λ z. h (e ∙ z))) (ap (λ (n : ℕ). n ∷ 0 ∷ 0 ∷ []) e)
 
-  pub accepted-numbers : {no : ℕ} (part : List ℕ) → no ≡ judgeOf c anchor other → no ≡ 0 → part ≡ inForceOf c anchor other
-      → (0 ∷ c .carrier ∷ length part ∷ []) ≡ bitmapNumbers c anchor other
-  accepted-numbers part e h p =
+  pub accepted-numbers : {no n : ℕ} → no ≡ judgeOf c anchor other → no ≡ 0 → n ≡ bytesOf (c .bits) → (0 ∷ c .carrier ∷ n ∷ []) ≡ bitmapNumbers c anchor other
+  unfolding inForceOf
+  accepted-numbers {no} {n} e h f =
       let z : judgeOf c anchor other ≡ 0 = sym e ∙ h in
-      rw (z, p) refl
+      let long = length-take-le (bytesOf (c .bits)) (ownBuffer c anchor other) (accepted-bitmap c anchor other z .long) in
+      rw z (ap (λ (x : ℕ). 0 ∷ c .carrier ∷ x ∷ []) (f ∙ sym long))
 
 part-taken : (n : ℕ) (l : List ℕ) → take (length (take n l)) l ≡ take n l
 part-taken n l = ap (take (length (take n l))) (sym (take-append-drop n l)) ∙ take-append-seam (take n l) (drop n l)

@@ -36,8 +36,8 @@ pub extern "C" fn nbiot_bitmap<'a>(
     if no != 0 {
         return buffers::put3(answer, no, 0, 0);
     }
-    let part = nbiot::bitmap(c, anchor, other);
-    buffers::put3(answer, 0, c.carrier, part.len() as u64)
+    let n = cell::bitmap_bytes(c.bits);
+    buffers::put3(answer, 0, c.carrier, n as u64)
 }
 
 // Why subframe t is not usable.

@@ -48,7 +48,7 @@ returns-3 c =
     let e = judged .before .before in
     let x = e .before .before .before .before .before .before .args in
     replied _ (e .before .short2 .ensures .says) (e .if1 .left)
-    (accepted-numbers _ (x .anchor .now) (x .other .now) _ (judged .judge .ensures) (accepted .if2 .left) (asked .bitmap .ensures)
+    (accepted-numbers _ (x .anchor .now) (x .other .now) (judged .judge .ensures) (accepted .if2 .left) (asked .bytes .ensures)
     ∙ ap (λ (d : Cell). calls.bitmapNumbers d (x .anchor .now) (x .other .now)) (judged .before .cell-of .ensures))
     (put .put32 .ensures .0)
     (put .put32 .ensures .1)
