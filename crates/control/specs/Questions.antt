@@ -4,7 +4,7 @@ use Prim.Native.Nat.{ℕ, _+_}
 use Rattle.cell.specs.declared.Cell.{Cell}
 use Rattle.cell.specs.Bitmap.{ownBuffer, bitmapIn}
 use Rattle.cell.specs.Usable.{period, why, usable}
-use Rattle.elements.specs.Elements.{npdcchFrom, npdcchWidth}
+use Rattle.ncce.specs.Ncce.{npdcchFrom, npdcchWidth}
 use Rattle.subframes.specs.declared.Burst.{Burst}
 use Rattle.subframes.specs.declared.DownlinkPlan.{DownlinkPlan}
 use Rattle.subframes.specs.declared.DownlinkPlace.{DownlinkPlace}

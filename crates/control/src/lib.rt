@@ -32,8 +32,8 @@ fn burst(c: Cell, g: ControlGrant) -> Burst
     ensures { λ r. ⌜ r ≡ burstOf c g ⌝ }
 {
     let layout = subframes::layout(c);
-    let low = elements::npdcch_from(g.format, g.ncce);
-    let width = elements::npdcch_width(g.format);
+    let low = ncce::npdcch_from(g.format, g.ncce);
+    let width = ncce::npdcch_width(g.format);
     Burst {
         layout,
         low,

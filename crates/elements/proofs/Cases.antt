@@ -3,8 +3,9 @@ use mathlib.Core.Path.{_≡_, refl}
 use Prim.Native.Nat.{ℕ}
 use Rattle.counting.specs.Counting.{rank, next, select}
 use Rattle.grid.specs.Grid.{subcarriers, elementOf}
+use Rattle.ncce.specs.Ncce.{npdcchFrom, npdcchWidth}
 use Rattle.elements.specs.declared.Layout.{Layout}
-use Rattle.elements.specs.Elements.{nrs, crs, eligible, used, countOf, elementAt, npdcchFrom, npdcchWidth}
+use Rattle.elements.specs.Elements.{nrs, crs, eligible, used, countOf, elementAt}
 
 abbrev layout : ℕ → ℕ → ℕ → ℕ → Layout
 layout v nports cports control = record { v = v; nports = nports; cports = cports; control = control }

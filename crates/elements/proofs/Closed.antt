@@ -13,10 +13,12 @@ use borrow.Author.Tests.{lt-ltb, le-ltb, ltb-false, lt-leb, le-leb}
 use Rattle.counting.proofs.Facts.{order}
 use Rattle.counting.proofs.Rank.{rank-zero}
 use Rattle.grid.specs.Grid.{subcarriers, symbols, slots, elementOf}
+use Rattle.ncce.specs.Ncce.{ncceWidth}
+use Rattle.ncce.specs.Quick.{closedCount}
 use Rattle.elements.specs.declared.Layout.{Layout}
 use Rattle.elements.specs.declared.Spot.{Spot}
-use Rattle.elements.specs.Elements.{controlRegion, used, numberOf, ncceWidth, Valid, Part}
-use Rattle.elements.specs.Quick.{closedCount, rows, sumsOf, byteOf, sixBefore, freeOf, sixInRows, SpotOf}
+use Rattle.elements.specs.Elements.{controlRegion, used, numberOf, Valid, Part}
+use Rattle.elements.specs.Quick.{rows, sumsOf, byteOf, sixBefore, freeOf, sixInRows, SpotOf}
 use Rattle.elements.proofs.Marked.{listed, listed-at, free-some, row-all}
 use Rattle.elements.proofs.Rows.{shut-whole, open-part}
 

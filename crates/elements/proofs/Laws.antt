@@ -11,10 +11,11 @@ use Rattle.counting.proofs.Range.{in-range}
 use Rattle.counting.proofs.Rank.{rank-le, rank-same, rank-strict}
 use Rattle.counting.proofs.Select.{lists-below}
 use Rattle.grid.specs.Grid.{subcarriers, elements, elementOf, slotOf, symbolOf, subcarrierOf}
+use Rattle.ncce.specs.Ncce.{ncceWidth, npdcchFrom, npdcchWidth}
 use Rattle.elements.specs.declared.Layout.{Layout}
 use Rattle.elements.specs.declared.Standing.{Standing}
 use Rattle.elements.specs.declared.Standing.the-variants.{Used, Other}
-use Rattle.elements.specs.Elements.{nrs, crs, reference, controlRegion, eligible, used, kindOf, countOf, elementAt, numberOf, standingOf, ncceWidth, npdcchFrom, npdcchWidth, Part}
+use Rattle.elements.specs.Elements.{nrs, crs, reference, controlRegion, eligible, used, kindOf, countOf, elementAt, numberOf, standingOf, Part}
 use Rattle.elements.proofs.Marked.{and-false}
 use Rattle.elements.proofs.Rows.{row-used}
 

@@ -10,18 +10,16 @@ use borrow.Author.Tests.{le-ltb, le-leb, lt-leb}
 use Rattle.counting.specs.Counting.{rank, inRange}
 use Rattle.counting.proofs.Facts.{order, each, each-at, alike, alike-eq}
 use Rattle.grid.specs.Grid.{subcarriers, symbols}
+use Rattle.ncce.specs.declared.Marks.{Marks}
+use Rattle.ncce.specs.Ncce.{ncceWidth}
+use Rattle.ncce.specs.Quick.{marksBy, marksOf}
 use Rattle.elements.specs.declared.Layout.{Layout}
-use Rattle.elements.specs.declared.Marks.{Marks}
-use Rattle.elements.specs.Elements.{nrsOn, nrs, crsOn, crs, reference, ncceWidth, Valid, Part}
-use Rattle.elements.specs.Quick.{sumsOf, sixBefore, freeOf, marksBy, marksOf, isFree, nthIn, placeIn, referenceKind}
+use Rattle.elements.specs.Elements.{nrsOn, nrs, crsOn, crs, reference, Valid, Part}
+use Rattle.elements.specs.Quick.{sumsOf, sixBefore, freeOf, isFree, nthIn, placeIn, referenceKind}
 
 pub and-false : (a : Bool) → (a && false) ≡ false
 and-false true = refl
 and-false false = refl
-
--- k where it is no more than v, else 0
-pub held : (k v : ℕ) → k * boolByte (leb k v) ≤ v
-held k v = ⊎-elim (λ h. rw (lt-leb k v h) (omega arith)) (λ h. rw (le-leb k v h) (omega arith)) (order v k)
 
 -- one of twelve subcarriers, in its six
 pub six-of : (k : ℕ) → k < subcarriers → k - 6 * boolByte (leb 6 k) ≡ k % 6

@@ -7,6 +7,7 @@ use lib.Dec.{eqb, ltb, leb}
 use mir.Val.{boolByte}
 use Rattle.counting.specs.Counting.{rank, select, inRange}
 use Rattle.grid.specs.Grid.{subcarriers, elements, slotOf, symbolOf, subcarrierOf}
+use Rattle.ncce.specs.Ncce.{ncceWidth}
 use Rattle.elements.specs.declared.Layout.{Layout}
 use Rattle.elements.specs.declared.Standing.{Standing}
 use Rattle.elements.specs.declared.Standing.the-variants.{Used, Other}
@@ -95,17 +96,6 @@ unfoldable pub standingOf : Layout → ℕ → ℕ → ℕ → Standing
 standingOf g from width x = cond (used g from width x) (Used (numberOf g from width x)) (Other (kindOf g x))
 
 -- ---- the parts that are used: NPDSCH uses all subcarriers, NPDCCH one NCCE or both (clause 10.2.5.1)
-
--- NCCE 0 is k 0 to 5, NCCE 1 is k 6 to 11
-abbrev pub ncceWidth : ℕ
-ncceWidth = 6
-
--- NPDCCH format 0 uses one NCCE, format 1 both
-abbrev pub npdcchFrom : ℕ → ℕ → ℕ
-npdcchFrom format ncce = cond (eqb format 0) (ncceWidth * ncce) 0
-
-abbrev pub npdcchWidth : ℕ → ℕ
-npdcchWidth format = cond (eqb format 0) ncceWidth subcarriers
 
 -- one NCCE or both
 pub record Part (from width : ℕ) : Type 0 where

@@ -2,12 +2,15 @@
 ghost use mathlib.Core.Bool.{false};
 ghost use mathlib.Core.Path.{_≡_};
 ghost use Prim.Native.Nat.{_+_, _*_, _/_, _^_, _<_, _≤_};
-ghost use mir.Val.{boolByte};
 ghost use Rattle.grid.specs.Grid.{subcarriers, symbols, slots, elements, elementOf};
 ghost use Rattle.counting.specs.Counting.{inRange};
-ghost use Rattle.elements.specs.Elements.{controlRegion, countOf, elementAt, numberOf, standingOf, ncceWidth, npdcchFrom, npdcchWidth, Valid, Part};
-ghost use Rattle.elements.specs.Quick.{rows, takenAt0, takenAt1, closedCount, sumsOf, byteOf, sixBefore, freeOf, sixInRows, marksOf, nthFree, nthIn, placeIn, referenceKind, SpotOf, RowOf, hasIn};
+ghost use Rattle.ncce.specs.Ncce.{ncceWidth};
+ghost use Rattle.elements.specs.Elements.{controlRegion, countOf, elementAt, numberOf, standingOf, Valid, Part};
+ghost use Rattle.elements.specs.Quick.{rows, sumsOf, byteOf, sixBefore, freeOf, sixInRows, nthFree, nthIn, placeIn, referenceKind, SpotOf, RowOf, hasIn};
 use grid::Grid;
+use ncce::Marks;
+use ncce::NCCE_WIDTH;
+use ncce::one;
 
 // The layout of a subframe, apart from the cell: identity mod 6, narrowband and cell reference ports, control region.
 pub struct Layout {
@@ -21,12 +24,6 @@ pub struct Layout {
 pub enum Standing {
     Used(u64),
     Other(u64),
-}
-
-// Where references lie among six subcarriers: one of the first three, one of the last three; 8 more for none.
-struct Marks {
-    low: u64,
-    high: u64,
 }
 
 // A row: its slot and symbol; and one of its subcarriers, by how many of six before it carry no reference.
@@ -43,8 +40,6 @@ pub struct Row {
     pub high: u64,
 }
 
-const NCCE_WIDTH: u64 = 6;
-
 // By bytes: of six subcarriers, how many lie in the symbols of a slot before l = 0 to 7. All of them; one at symbols 0 and 4; one at
 // symbol 1; one at symbols 5 and 6.
 const ALL: u64 = 0x2a24_1e18_120c_0600;
@@ -60,36 +55,10 @@ const ONCE: u64 = 0x0001_0101_0101_0100;
 
 const HIGHEST: u64 = 0x0080_8080_8080_8000;
 
-// 1 for true, 0 for false.
-fn one(b: bool) -> u64
-    ensures { λ r. ⌜ (r ≡ boolByte b) × (r ≤ 1) ⌝ }
-{
-    b as u64
-}
-
 fn in_control(g: Layout, slot: u64, l: u64) -> bool
     ensures { λ r. ⌜ r ≡ controlRegion g slot l ⌝ }
 {
     (slot == 0) & (l < g.control)
-}
-
-// References in six subcarriers of symbols 0 and 4, and of symbol 1.
-fn taken_at_0(cports: u64) -> u64
-    ensures { λ r. ⌜ (r ≡ takenAt0 cports) × (r ≤ 2) ⌝ }
-{
-    if cports < 2 {
-        return cports;
-    }
-    2
-}
-
-fn taken_at_1(cports: u64) -> u64
-    ensures { λ r. ⌜ (r ≡ takenAt1 cports) × (r ≤ 2) ⌝ }
-{
-    if cports < 4 {
-        return 0;
-    }
-    2
 }
 
 // By bytes: how many of six subcarriers carry no reference, in all symbols of a slot before l = 0 to 7.
@@ -98,8 +67,8 @@ fn sums(g: Layout) -> u64
     ensures { λ r. ⌜ r ≡ sumsOf (g .nports) (g .cports) ⌝ }
 {
     let n = g.nports;
-    let c = taken_at_0(g.cports);
-    let d = taken_at_1(g.cports);
+    let c = ncce::taken_at_0(g.cports);
+    let d = ncce::taken_at_1(g.cports);
     ALL - c * AT_0_AND_4 - d * AT_1 - n * AT_5_AND_6
 }
 
@@ -140,38 +109,12 @@ fn over_ncces(from: u64, width: u64, e: u64) -> u64
     e / 2
 }
 
-// E of one NCCE: of fourteen symbols those outside the control region, less their references. Cell references lie on symbols 0 and 4,
-// and for four ports on symbol 1; of the first slot's, those on symbols 0 and 1 as far as the control region leaves them.
-fn closed_count(nports: u64, cports: u64, control: u64) -> u64
-    requires { ⌜ (nports ≤ 2) × (control ≤ 3) ⌝ }
-    ensures { λ r. ⌜ r ≡ closedCount nports cports control ⌝ }
-{
-    let at_0 = (4 - one(1 <= control)) * taken_at_0(cports);
-    let at_1 = (2 - one(2 <= control)) * taken_at_1(cports);
-    84 - 6 * control - (4 * nports + at_0 + at_1)
-}
-
 // E: how many elements are used.
 pub fn count(g: Layout, from: u64, width: u64) -> u64
     requires { ⌜ Valid g × Part from width ⌝ }
     ensures { λ r. ⌜ r ≡ countOf g from width ⌝ }
 {
-    ncces(from, width) * closed_count(g.nports, g.cports, g.control)
-}
-
-// The references of symbol l, so many of six: first the near ones, at v, but on symbols 4 and 6 the far ones.
-fn marks_on(v: u64, l: u64, taken: u64) -> Marks
-    requires { ⌜ (v < 6) × (taken ≤ 2) ⌝ }
-    ensures { λ r. ⌜ r ≡ marksOf v l taken ⌝ }
-{
-    let upper = one(3 <= v);
-    let low = v - 3 * upper;
-    let far = one((l == 4) | (l == 6));
-    let first = one(far == upper);
-    Marks {
-        low: low + 8 * one(taken + first < 2),
-        high: low + 3 + 8 * one(taken < 1 + first),
-    }
+    ncces(from, width) * ncce::closed_count(g.nports, g.cports, g.control)
 }
 
 // The symbol of a slot with the y-th of the subcarriers that are counted: all bytes compared at once, and the passed ones counted.
@@ -231,7 +174,7 @@ pub fn element_at(g: Layout, from: u64, width: u64, e: u64) -> u64
     let l = spot.l;
     let free = free_in(g, s, l);
     let j = n * spot.rest + (e - n * q);
-    let k = nth_in(marks_on(g.v, l, 6 - free), free, from, j);
+    let k = nth_in(ncce::marks_on(g.v, l, 6 - free), free, from, j);
     Grid::element(spot.slot, l, k)
 }
 
@@ -277,7 +220,7 @@ pub fn stands_at(g: Layout, from: u64, width: u64, slot: u64, l: u64, k: u64) ->
 {
     let s = sums(g);
     let free = free_in(g, s, l);
-    let m = marks_on(g.v, l, 6 - free);
+    let m = ncce::marks_on(g.v, l, 6 - free);
     let six = k - NCCE_WIDTH * one(NCCE_WIDTH <= k);
     if (six == m.low) | (six == m.high) {
         return Standing::Other(reference_kind(l));
@@ -295,7 +238,7 @@ pub fn used_row(g: Layout, slot: u64, l: u64) -> Row
     ensures { λ r. ⌜ RowOf g slot l r ⌝ }
 {
     let free = free_in(g, sums(g), l);
-    let m = marks_on(g.v, l, 6 - free);
+    let m = ncce::marks_on(g.v, l, 6 - free);
     Row {
         shut: in_control(g, slot, l),
         low: m.low,
@@ -308,24 +251,4 @@ pub fn has(r: Row, k: u64) -> bool
 {
     let six = k % NCCE_WIDTH;
     !r.shut & ((six != r.low) & (six != r.high))
-}
-
-// NPDCCH format 0 uses one NCCE, format 1 both: the first subcarrier, and how many.
-pub fn npdcch_from(format: u64, ncce: u64) -> u64
-    requires { ⌜ ncce ≤ 1 ⌝ }
-    ensures { λ r. ⌜ r ≡ npdcchFrom format ncce ⌝ }
-{
-    if format == 0 {
-        return NCCE_WIDTH * ncce;
-    }
-    0
-}
-
-pub fn npdcch_width(format: u64) -> u64
-    ensures { λ r. ⌜ r ≡ npdcchWidth format ⌝ }
-{
-    if format == 0 {
-        return NCCE_WIDTH;
-    }
-    Grid::SUBCARRIERS
 }

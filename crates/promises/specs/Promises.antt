@@ -12,7 +12,8 @@ use Rattle.cell.specs.declared.Cause.the-variants.{None, Npbch, Npss, Nsss, Sib
 use Rattle.cell.specs.Bitmap.{ownBuffer, bitmapIn}
 use Rattle.cell.specs.Usable.{period, why, usable}
 use Rattle.cell.specs.Judge.{judgeOf, causeOf}
-use Rattle.elements.specs.Elements.{reference, controlRegion, eligible, countOf, npdcchFrom, npdcchWidth}
+use Rattle.ncce.specs.Ncce.{npdcchFrom, npdcchWidth}
+use Rattle.elements.specs.Elements.{reference, controlRegion, eligible, countOf}
 use Rattle.slots.specs.Mapping as slots
 use Rattle.sending.specs.Sending as sending
 use Rattle.sending.specs.Answer.{backOf}

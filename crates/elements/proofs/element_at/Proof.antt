@@ -4,9 +4,11 @@ use Prim.Native.Nat.{ℕ, _+_, _-_, _*_, _/_, _≤_, _<_}
 use native.Mathlib.Nat.{mul-le-mul}
 use native.Mathlib.Omega.{arith}
 use Rattle.grid.specs.Grid.{subcarriers, symbols, elementOf}
-use Rattle.elements.specs.declared.Marks.{Marks}
-use Rattle.elements.specs.Elements.{numberOf, ncceWidth}
-use Rattle.elements.specs.Quick.{rows, freeOf, sixInRows, marksOf, nthIn}
+use Rattle.ncce.specs.declared.Marks.{Marks}
+use Rattle.ncce.specs.Ncce.{ncceWidth}
+use Rattle.ncce.specs.Quick.{marksOf}
+use Rattle.elements.specs.Elements.{numberOf}
+use Rattle.elements.specs.Quick.{rows, freeOf, sixInRows, nthIn}
 use Rattle.elements.proofs.Marked.{free-some, marksIn, Nth, row-nth}
 use Rattle.elements.proofs.Rows.{open-found}
 use Rattle.elements.proofs.Closed.{six-few, rows-second, rows-counted, spot-open, Over, over, under, some-ncces}

@@ -5,10 +5,12 @@ use native.Mathlib.Omega.{arith}
 use lib.Dec.{eqb}
 use Rattle.counting.proofs.Facts.{either-parts}
 use borrow.Author.Tests.{not-false}
-use Rattle.elements.specs.declared.Marks.{Marks}
+use Rattle.ncce.specs.declared.Marks.{Marks}
+use Rattle.ncce.specs.Quick.{marksOf}
+use Rattle.ncce.proofs.Held.{held}
 use Rattle.elements.specs.declared.Standing.the-variants.{Other}
-use Rattle.elements.specs.Quick.{marksOf, isFree, placeIn}
-use Rattle.elements.proofs.Marked.{held, six-of, marksIn}
+use Rattle.elements.specs.Quick.{isFree, placeIn}
+use Rattle.elements.proofs.Marked.{six-of, marksIn}
 use Rattle.elements.proofs.Stands.{marked-or, stands-reference, stands-plain, stands-used}
 use Rattle.elements.proofs.stands_at.Statement.{statement}
 use Rattle.elements.proofs.stands_at.Tie as tie

@@ -1,7 +1,8 @@
 use mathlib.Core.Path.{_≡_, sym, ap, subst, _∙_}
 use Prim.Native.Nat.{ℕ, _-_}
 use native.Mathlib.Omega.{arith}
-use Rattle.elements.specs.Quick.{marksOf, RowOf}
+use Rattle.ncce.specs.Quick.{marksOf}
+use Rattle.elements.specs.Quick.{RowOf}
 use Rattle.elements.proofs.Marked.{marksIn}
 use Rattle.elements.proofs.Stands.{row-is}
 use Rattle.elements.proofs.used_row.Statement.{statement}

@@ -1,7 +1,7 @@
 use native.Mathlib.Omega.{arith}
 use borrow.Author.Tests.{lt-ltb, le-ltb}
-use Rattle.elements.proofs.taken_at_0.Statement.{statement}
-use Rattle.elements.proofs.taken_at_0.Tie as tie
+use Rattle.ncce.proofs.taken_at_0.Statement.{statement}
+use Rattle.ncce.proofs.taken_at_0.Tie as tie
 
 pub taken-at-0-spec : {M : Type 1} → statement M
 taken-at-0-spec =

@@ -1,7 +1,7 @@
 use native.Mathlib.Omega.{arith}
 use borrow.Author.Tests.{lt-ltb, le-ltb}
-use Rattle.elements.proofs.taken_at_1.Statement.{statement}
-use Rattle.elements.proofs.taken_at_1.Tie as tie
+use Rattle.ncce.proofs.taken_at_1.Statement.{statement}
+use Rattle.ncce.proofs.taken_at_1.Tie as tie
 
 pub taken-at-1-spec : {M : Type 1} → statement M
 taken-at-1-spec =

@@ -1,8 +1,8 @@
 use native.Mathlib.Omega.{arith}
 use borrow.Author.Needs.{needs}
-use Rattle.elements.proofs.Marked.{held}
-use Rattle.elements.proofs.marks_on.Statement.{statement}
-use Rattle.elements.proofs.marks_on.Tie as tie
+use Rattle.ncce.proofs.Held.{held}
+use Rattle.ncce.proofs.marks_on.Statement.{statement}
+use Rattle.ncce.proofs.marks_on.Tie as tie
 
 sub-low : tie.Need-sub-low
 sub-low c = omega (arith, c .one .ensures .0, held 3 (c .before .args .v))

@@ -2,8 +2,8 @@ use mathlib.Core.Path.{_≡_, ap₂}
 use Prim.Native.Nat.{ℕ, _+_, _-_, _*_, _≤_}
 use native.Mathlib.Nat.{mul-le-mul}
 use native.Mathlib.Omega.{arith}
-use Rattle.elements.proofs.closed_count.Statement.{statement}
-use Rattle.elements.proofs.closed_count.Tie as tie
+use Rattle.ncce.proofs.closed_count.Statement.{statement}
+use Rattle.ncce.proofs.closed_count.Tie as tie
 
 few : (a b t : ℕ) → a ≤ 4 → t ≤ 2 → (a - b) * t ≤ 8
 few a b t h l = omega (arith, mul-le-mul {n₁ = a - b} {m₁ = t} {n₂ = 4} {m₂ = 2} (omega arith) l)

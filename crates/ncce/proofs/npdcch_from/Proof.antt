@@ -1,8 +1,8 @@
 use mathlib.Core.Path.{refl}
 use borrow.Author.Needs.{needs}
 use borrow.Author.Tests.{eq-eqb, ne-eqb}
-use Rattle.elements.proofs.npdcch_from.Statement.{statement}
-use Rattle.elements.proofs.npdcch_from.Tie as tie
+use Rattle.ncce.proofs.npdcch_from.Statement.{statement}
+use Rattle.ncce.proofs.npdcch_from.Tie as tie
 
 pub npdcch-from-spec : {M : Type 1} → statement M
 npdcch-from-spec =

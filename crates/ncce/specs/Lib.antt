@@ -1,0 +1,2 @@
+pub mod Ncce
+pub mod Quick
