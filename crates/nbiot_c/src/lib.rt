@@ -18,7 +18,7 @@ pub extern "C" fn nbiot_judge(cell: &[u64], anchor: &[u8], other: &[u8]) -> u64
     nbiot::judge(buffers::cell_of(cell), anchor, other)
 }
 
-// The bitmap in force: the buffer that it is a part of, and its bytes.
+// The bitmap in force: the buffer that it is a part of, and its bytes. It asks for the whole verdict, so that the judge has one caller and is put into it.
 #[no_mangle]
 pub extern "C" fn nbiot_bitmap<'a>(
     cell: &[u64],
@@ -32,7 +32,7 @@ pub extern "C" fn nbiot_bitmap<'a>(
         return TOO_SHORT;
     }
     let c = buffers::cell_of(cell);
-    let no = nbiot::judge(c, anchor, other);
+    let no = cell::judged(c, anchor, other).no;
     if no != 0 {
         return buffers::put3(answer, no, 0, 0);
     }

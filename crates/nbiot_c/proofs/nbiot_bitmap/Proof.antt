@@ -2,7 +2,7 @@ use mathlib.Core.Path.{ap, _∙_}
 use borrow.Author.Needs.{needs}
 use Rattle.cell.specs.declared.Cell.{Cell}
 use Rattle.nbiot_c.specs.Calls as calls
-use Rattle.nbiot_c.proofs.Bitmap.{refused-numbers, accepted-numbers}
+use Rattle.nbiot_c.proofs.Bitmap.{verdict-number, refused-numbers, accepted-numbers}
 use Rattle.buffers.proofs.Replies.{unread, replied}
 use Rattle.nbiot_c.proofs.nbiot_bitmap.Statement.{statement}
 use Rattle.nbiot_c.proofs.nbiot_bitmap.Tie as tie
@@ -28,7 +28,7 @@ returns-2 c =
     let e = judged .before .before in
     let x = e .before .before .before .before .before .before .args in
     replied _ (e .before .short2 .ensures .says) (e .if1 .left)
-    (refused-numbers _ (x .anchor .now) (x .other .now) (judged .judge .ensures) (refused .if2 .taken)
+    (refused-numbers _ (x .anchor .now) (x .other .now) (verdict-number _ (x .anchor .now) (x .other .now) (judged .judged .ensures)) (refused .if2 .taken)
     ∙ ap (λ (d : Cell). calls.bitmapNumbers d (x .anchor .now) (x .other .now)) (judged .before .cell-of .ensures))
     (put .put3 .ensures .0)
     (put .put3 .ensures .1)
@@ -48,7 +48,7 @@ returns-3 c =
     let e = judged .before .before in
     let x = e .before .before .before .before .before .before .args in
     replied _ (e .before .short2 .ensures .says) (e .if1 .left)
-    (accepted-numbers _ (x .anchor .now) (x .other .now) (judged .judge .ensures) (accepted .if2 .left) (asked .bytes .ensures)
+    (accepted-numbers _ (x .anchor .now) (x .other .now) (verdict-number _ (x .anchor .now) (x .other .now) (judged .judged .ensures)) (accepted .if2 .left) (asked .bytes .ensures)
     ∙ ap (λ (d : Cell). calls.bitmapNumbers d (x .anchor .now) (x .other .now)) (judged .before .cell-of .ensures))
     (put .put32 .ensures .0)
     (put .put32 .ensures .1)
