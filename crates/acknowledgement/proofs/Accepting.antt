@@ -13,17 +13,14 @@ use Rattle.grid.specs.Tables.{entry, uplinkCopies}
 use Rattle.grid.proofs.Rules.{parts, uplink-copies-bounds}
 use Rattle.slots.specs.Timing.{allOpen}
 use Rattle.slots.specs.Fits.{Fits, Leaves}
-use Rattle.slots.specs.Quick.{sized, shapeForwardOr, forwardAnswerOr}
+use Rattle.slots.specs.Quick.{sized, shapeForwardOr}
 use Rattle.slots.proofs.Judging.{forward-or-14, fits-asked, plan-asked, forward-asked, backward-asked}
 use Rattle.numerology.proofs.Spacing.{first-bound, by-spacing-bounds, spaced}
-use Rattle.sending.specs.declared.Back.{Back}
 use Rattle.slots.specs.declared.Shape.{Shape}
-use Rattle.slots.specs.declared.UplinkPlan.{UplinkPlan}
-use Rattle.slots.specs.declared.UplinkPlace.{UplinkPlace}
-use Rattle.slots.specs.Answers.{shapePlan, shapeBackward, planAnswer, backwardAnswer}
+use Rattle.slots.specs.Answers.{shapePlan, shapeBackward}
 use Rattle.windows.specs.Windows.{none}
 use Rattle.windows.proofs.Spaced.{none-refuses, none-closes}
-use Rattle.windowed.specs.Beside.{refusalBeside, openBeside, Spaced}
+use Rattle.windowed.specs.Beside.{planBeside, forwardBeside, backwardBeside, Spaced}
 use Rattle.windowed.proofs.Beside.{leaves, first-refuses, plan-beside, forward-beside, backward-beside, shape-beside}
 use Rattle.acknowledgement.specs.declared.AckFields.{AckFields}
 use Rattle.acknowledgement.specs.Unwindowed.{fieldsOf, unwindowed}
@@ -193,36 +190,29 @@ module _ (g : AckGrant) (f : AckFields) (h : f ≡ fieldsOf g) (n : ℕ) (e : n 
 
   -- its shape, asked beside its windows
   module _ (z : n ≡ 0) (s : Shape) (own : s ≡ shapeOf (unwindowed f)) where
-    in-range : InRange g
-    in-range = ranged g (sym fields-number ∙ z)
+    no-refusal : fieldsRefusal g ≡ 0
+    no-refusal = sym fields-number ∙ z
 
     own-shape : s ≡ sized (shapeOf g) 1 1
     unfolding shapeOf
     own-shape = own ∙ ap (λ (x : AckFields). shapeOf (unwindowed x)) h
 
-    spacing-is : f .spacing ≡ g .spacing
-    spacing-is = ap (λ (x : AckFields). x .spacing) h
-
-    pub ready : Fits s × Spaced (f .spacing) s
+    pub ready : Fits s × Spaced (g .spacing) s
     ready =
-        rw spacing-is
-        (shape-beside (fieldsRefusal g) (g .spacing) (shapeOf g) (g .windows) (sym fields-number ∙ z) s 1 1 own-shape (fits-in g in-range) (spaced-of g in-range))
+        let a = ranged g no-refusal in
+        shape-beside (fieldsRefusal g) (g .spacing) (shapeOf g) (g .windows) no-refusal s 1 1 own-shape (fits-in g a) (spaced-of g a)
 
-    pub plan-is : (r : UplinkPlan) → r ≡ planAnswer (refusalBeside (f .spacing) s (g .windows)) s (openBeside (f .spacing) s (g .windows)) → r ≡ planOf g
+    pub plan-is : planBeside (g .spacing) s (g .windows) ≡ planOf g
     unfolding planOf refusal shapeOf
-    plan-is r h = h ∙ rw spacing-is (plan-beside (fieldsRefusal g) (g .spacing) (shapeOf g) (g .windows) (sym fields-number ∙ z) s 1 1 own-shape (sized-own g))
+    plan-is = plan-beside (fieldsRefusal g) (g .spacing) (shapeOf g) (g .windows) no-refusal s 1 1 own-shape (sized-own g)
 
-    pub forward-is : (end p : ℕ) (r : UplinkPlace)
-        → r ≡ forwardAnswerOr end (refusalBeside (f .spacing) s (g .windows)) s (openBeside (f .spacing) s (g .windows)) p → r ≡ forwardOr end g p
+    pub forward-is : (end p : ℕ) → forwardBeside end (g .spacing) s (g .windows) p ≡ forwardOr end g p
     unfolding forwardOr refusal shapeOf
-    forward-is end p r h =
-        h ∙ rw spacing-is (forward-beside (fieldsRefusal g) (g .spacing) (shapeOf g) (g .windows) (sym fields-number ∙ z) s 1 1 own-shape end p)
+    forward-is = forward-beside (fieldsRefusal g) (g .spacing) (shapeOf g) (g .windows) no-refusal s 1 1 own-shape
 
-    pub backward-is : (slot l k : ℕ) (r : Back)
-        → r ≡ backwardAnswer (refusalBeside (f .spacing) s (g .windows)) s (openBeside (f .spacing) s (g .windows)) slot l k → r ≡ backwardOf g slot l k
+    pub backward-is : (slot l k : ℕ) → backwardBeside (g .spacing) s (g .windows) slot l k ≡ backwardOf g slot l k
     unfolding backwardOf refusal shapeOf
-    backward-is slot l k r h =
-        h ∙ rw spacing-is (backward-beside (fieldsRefusal g) (g .spacing) (shapeOf g) (g .windows) (sym fields-number ∙ z) s 1 1 own-shape slot l k)
+    backward-is = backward-beside (fieldsRefusal g) (g .spacing) (shapeOf g) (g .windows) no-refusal s 1 1 own-shape
 
 -- ---- fields with no window
 

@@ -145,7 +145,7 @@ pub fn plan(g: AckGrant) -> UplinkPlan
     if no != 0 {
         return slots::refused_plan(no);
     }
-    windowed::plan(f.spacing, shape(f), g.windows)
+    windowed::plan(g.spacing, shape(f), g.windows)
 }
 
 pub fn plain_plan(f: AckFields) -> UplinkPlan
@@ -174,7 +174,7 @@ pub fn forward_or(g: AckGrant, p: u64, end: u64) -> UplinkPlace
     if no != 0 {
         return slots::refused_place(no);
     }
-    windowed::forward_or(f.spacing, shape(f), g.windows, p, end)
+    windowed::forward_or(g.spacing, shape(f), g.windows, p, end)
 }
 
 // A step of fields alone has a function of its own, so that the compiler puts either into its one caller.
@@ -211,7 +211,7 @@ pub fn backward(g: AckGrant, slot: u64, l: u64, k: u64) -> Back
     if no != 0 {
         return sending::refused(no);
     }
-    windowed::backward(f.spacing, shape(f), g.windows, slot, l, k)
+    windowed::backward(g.spacing, shape(f), g.windows, slot, l, k)
 }
 
 pub fn plain_backward(f: AckFields, slot: u64, l: u64, k: u64) -> Back

@@ -11,16 +11,13 @@ use Rattle.grid.proofs.Rules.{length-bounds, uplink-copies-bounds, uplink-delay
 use Rattle.slots.specs.Timing.{allOpen}
 use Rattle.slots.specs.Fits.{Fits, Leaves}
 use Rattle.numerology.proofs.Spacing.{first-bound, by-spacing-bounds, spaced}
-use Rattle.sending.specs.declared.Back.{Back}
 use Rattle.slots.specs.declared.Shape.{Shape}
-use Rattle.slots.specs.declared.UplinkPlan.{UplinkPlan}
-use Rattle.slots.specs.declared.UplinkPlace.{UplinkPlace}
-use Rattle.slots.specs.Answers.{shapePlan, shapeBackward, planAnswer, backwardAnswer}
-use Rattle.slots.specs.Quick.{sized, shapeForwardOr, forwardAnswerOr}
+use Rattle.slots.specs.Answers.{shapePlan, shapeBackward}
+use Rattle.slots.specs.Quick.{sized, shapeForwardOr}
 use Rattle.slots.proofs.Judging.{forward-or-14, fits-asked, plan-asked, forward-asked, backward-asked}
 use Rattle.windows.specs.Windows.{none}
 use Rattle.windows.proofs.Spaced.{none-refuses, none-closes}
-use Rattle.windowed.specs.Beside.{refusalBeside, openBeside, Spaced}
+use Rattle.windowed.specs.Beside.{planBeside, forwardBeside, backwardBeside, Spaced}
 use Rattle.windowed.proofs.Beside.{leaves, first-refuses, plan-beside, forward-beside, backward-beside, shape-beside}
 use Rattle.uplink.specs.declared.UplinkFields.{UplinkFields}
 use Rattle.uplink.specs.Unwindowed.{fieldsOf, unwindowed}
@@ -165,40 +162,29 @@ module _ (g : UplinkGrant) (f : UplinkFields) (h : f ≡ fieldsOf g) (n : ℕ) (
 
   -- its shape, but for size and order, asked beside its windows
   module _ (z : n ≡ 0) (s : Shape) (size order : ℕ) (own : s ≡ sized (shapeOf (unwindowed f)) size order) where
-    in-range : InRange g
-    in-range = ranged g (sym fields-number ∙ z)
+    no-refusal : fieldsRefusal g ≡ 0
+    no-refusal = sym fields-number ∙ z
 
     own-shape : s ≡ sized (shapeOf g) size order
     unfolding shapeOf
     own-shape = own ∙ ap (λ (x : UplinkFields). sized (shapeOf (unwindowed x)) size order) h
 
-    spacing-is : f .spacing ≡ g .spacing
-    spacing-is = ap (λ (x : UplinkFields). x .spacing) h
-
-    pub ready : Fits s × Spaced (f .spacing) s
+    pub ready : Fits s × Spaced (g .spacing) s
     ready =
-        rw spacing-is
-        (shape-beside (fieldsRefusal g) (g .spacing) (shapeOf g) (g .windows) (sym fields-number ∙ z) s size order own-shape
-        (fits-in g in-range) (spaced-of g in-range))
+        let a = ranged g no-refusal in
+        shape-beside (fieldsRefusal g) (g .spacing) (shapeOf g) (g .windows) no-refusal s size order own-shape (fits-in g a) (spaced-of g a)
 
-    pub plan-is : sized (shapeOf g) size order ≡ shapeOf g
-        → (r : UplinkPlan) → r ≡ planAnswer (refusalBeside (f .spacing) s (g .windows)) s (openBeside (f .spacing) s (g .windows)) → r ≡ planOf g
+    pub plan-is : sized (shapeOf g) size order ≡ shapeOf g → planBeside (g .spacing) s (g .windows) ≡ planOf g
     unfolding planOf refusal shapeOf
-    plan-is k r h =
-        h ∙ rw spacing-is (plan-beside (fieldsRefusal g) (g .spacing) (shapeOf g) (g .windows) (sym fields-number ∙ z) s size order own-shape k)
+    plan-is = plan-beside (fieldsRefusal g) (g .spacing) (shapeOf g) (g .windows) no-refusal s size order own-shape
 
-    pub forward-is : (end p : ℕ) (r : UplinkPlace)
-        → r ≡ forwardAnswerOr end (refusalBeside (f .spacing) s (g .windows)) s (openBeside (f .spacing) s (g .windows)) p → r ≡ forwardOr end g p
+    pub forward-is : (end p : ℕ) → forwardBeside end (g .spacing) s (g .windows) p ≡ forwardOr end g p
     unfolding forwardOr refusal shapeOf
-    forward-is end p r h =
-        h ∙ rw spacing-is (forward-beside (fieldsRefusal g) (g .spacing) (shapeOf g) (g .windows) (sym fields-number ∙ z) s size order own-shape end p)
+    forward-is = forward-beside (fieldsRefusal g) (g .spacing) (shapeOf g) (g .windows) no-refusal s size order own-shape
 
-    pub backward-is : (slot l k : ℕ) (r : Back)
-        → r ≡ backwardAnswer (refusalBeside (f .spacing) s (g .windows)) s (openBeside (f .spacing) s (g .windows)) slot l k → r ≡ backwardOf g slot l k
+    pub backward-is : (slot l k : ℕ) → backwardBeside (g .spacing) s (g .windows) slot l k ≡ backwardOf g slot l k
     unfolding backwardOf refusal shapeOf
-    backward-is slot l k r h =
-        h
-        ∙ rw spacing-is (backward-beside (fieldsRefusal g) (g .spacing) (shapeOf g) (g .windows) (sym fields-number ∙ z) s size order own-shape slot l k)
+    backward-is = backward-beside (fieldsRefusal g) (g .spacing) (shapeOf g) (g .windows) no-refusal s size order own-shape
 
 -- ---- fields with no window
 

@@ -145,7 +145,7 @@ pub fn plan(g: UplinkGrant) -> UplinkPlan
         return slots::refused_plan(no);
     }
     let own = sizes_of(f);
-    windowed::plan(f.spacing, shape(f, own.size, own.order), g.windows)
+    windowed::plan(g.spacing, shape(f, own.size, own.order), g.windows)
 }
 
 pub fn plain_plan(f: UplinkFields) -> UplinkPlan
@@ -175,7 +175,7 @@ pub fn forward_or(g: UplinkGrant, p: u64, end: u64) -> UplinkPlace
     if no != 0 {
         return slots::refused_place(no);
     }
-    windowed::forward_or(f.spacing, shape(f, 0, 0), g.windows, p, end)
+    windowed::forward_or(g.spacing, shape(f, 0, 0), g.windows, p, end)
 }
 
 // A step of fields alone has a function of its own, so that the compiler puts either into its one caller.
@@ -212,7 +212,7 @@ pub fn backward(g: UplinkGrant, slot: u64, l: u64, k: u64) -> Back
     if no != 0 {
         return sending::refused(no);
     }
-    windowed::backward(f.spacing, shape(f, 0, 0), g.windows, slot, l, k)
+    windowed::backward(g.spacing, shape(f, 0, 0), g.windows, slot, l, k)
 }
 
 pub fn plain_backward(f: UplinkFields, slot: u64, l: u64, k: u64) -> Back

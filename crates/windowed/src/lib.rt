@@ -2,9 +2,7 @@
 // the shape is asked by itself, which is quicker.
 ghost use mathlib.Core.Path.{_≡_};
 ghost use Rattle.slots.specs.Fits.{Fits};
-ghost use Rattle.slots.specs.Answers.{planAnswer, backwardAnswer};
-ghost use Rattle.slots.specs.Quick.{forwardAnswerOr};
-ghost use Rattle.windowed.specs.Beside.{refusalBeside, openBeside, Spaced};
+ghost use Rattle.windowed.specs.Beside.{planBeside, forwardBeside, backwardBeside, Spaced};
 use sending::Back;
 use slots::Shape;
 use slots::UplinkPlace;
@@ -19,7 +17,7 @@ const NEVER_FREE: u64 = 20;
 
 pub fn plan(spacing: u64, s: Shape, ws: Windows) -> UplinkPlan
     requires { ⌜ Fits s × Spaced spacing s ⌝ }
-    ensures { λ r. ⌜ r ≡ planAnswer (refusalBeside spacing s ws) s (openBeside spacing s ws) ⌝ }
+    ensures { λ r. ⌜ r ≡ planBeside spacing s ws ⌝ }
 {
     if ws.count == 0 {
         return slots::plain_plan(s);
@@ -37,7 +35,7 @@ pub fn plan(spacing: u64, s: Shape, ws: Windows) -> UplinkPlan
 // `end` is the number right after the last position.
 pub fn forward_or(spacing: u64, s: Shape, ws: Windows, p: u64, end: u64) -> UplinkPlace
     requires { ⌜ Fits s × Spaced spacing s ⌝ }
-    ensures { λ r. ⌜ r ≡ forwardAnswerOr end (refusalBeside spacing s ws) s (openBeside spacing s ws) p ⌝ }
+    ensures { λ r. ⌜ r ≡ forwardBeside end spacing s ws p ⌝ }
 {
     if ws.count == 0 {
         let at = slots::taken_apart(s, p);
@@ -56,7 +54,7 @@ pub fn forward_or(spacing: u64, s: Shape, ws: Windows, p: u64, end: u64) -> Upli
 
 pub fn backward(spacing: u64, s: Shape, ws: Windows, slot: u64, l: u64, k: u64) -> Back
     requires { ⌜ Fits s × Spaced spacing s ⌝ }
-    ensures { λ r. ⌜ r ≡ backwardAnswer (refusalBeside spacing s ws) s (openBeside spacing s ws) slot l k ⌝ }
+    ensures { λ r. ⌜ r ≡ backwardBeside spacing s ws slot l k ⌝ }
 {
     if ws.count == 0 {
         return slots::backward(s, slot, slots::plain_locate(s, slot), l, k);

@@ -30,4 +30,5 @@ backward-spec =
     let s = c .before in
     let j = s .before .before in
     let a = j .before .before .args in
-    backward-is (a .g) _ (j .before .fields-of .ensures) _ (j .judge-fields .ensures) (s .before .if1 .left) _ (s .shape .ensures) (a .slot) (a .l) (a .k) _ (c .backward .ensures)))
+    c .backward .ensures
+    ∙ backward-is (a .g) _ (j .before .fields-of .ensures) _ (j .judge-fields .ensures) (s .before .if1 .left) _ (s .shape .ensures) (a .slot) (a .l) (a .k)))

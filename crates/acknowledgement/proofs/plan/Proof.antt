@@ -30,4 +30,5 @@ plan-spec =
     let s = c .before in
     let j = s .before .before in
     let a = j .before .before .args in
-    plan-is (a .g) _ (j .before .fields-of .ensures) _ (j .judge-fields .ensures) (s .before .if1 .left) _ (s .shape .ensures) _ (c .plan .ensures)))
+    c .plan .ensures
+    ∙ plan-is (a .g) _ (j .before .fields-of .ensures) _ (j .judge-fields .ensures) (s .before .if1 .left) _ (s .shape .ensures)))

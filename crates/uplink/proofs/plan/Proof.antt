@@ -35,5 +35,6 @@ plan-spec =
     let e = s .before .before in
     let j = e .before in
     let g = j .before .before .args .g in
-    plan-is g _ (j .before .fields-of .ensures) _ (j .judge-fields .ensures) (e .if1 .left) _ _ _ (s .shape .ensures)
-    (sized-own g _ (s .before .sizes-of .ensures ∙ ap sizesOf (j .before .fields-of .ensures))) _ (c .plan .ensures)))
+    c .plan .ensures
+    ∙ plan-is g _ (j .before .fields-of .ensures) _ (j .judge-fields .ensures) (e .if1 .left) _ _ _ (s .shape .ensures)
+    (sized-own g _ (s .before .sizes-of .ensures ∙ ap sizesOf (j .before .fields-of .ensures)))))
