@@ -20,7 +20,7 @@ use Rattle.slots.specs.declared.Shape.{Shape}
 use Rattle.slots.specs.Answers.{shapePlan, shapeBackward}
 use Rattle.windows.specs.Windows.{none}
 use Rattle.windows.proofs.Spaced.{none-refuses, none-closes}
-use Rattle.windowed.specs.Beside.{planBeside, forwardBeside, backwardBeside, Spaced}
+use Rattle.windowed.specs.Beside.{planBeside, forwardBeside, backwardBeside, AtSpacing}
 use Rattle.windowed.proofs.Beside.{leaves, first-refuses, plan-beside, forward-beside, backward-beside, shape-beside}
 use Rattle.acknowledgement.specs.declared.AckFields.{AckFields}
 use Rattle.acknowledgement.specs.Unwindowed.{fieldsOf, unwindowed}
@@ -159,7 +159,7 @@ fits-in g a =
     }
 
 -- its numbers by its spacing
-pub spaced-of : (g : AckGrant) → InRange g → Spaced (g .spacing) (shapeOf g)
+pub spaced-of : (g : AckGrant) → InRange g → AtSpacing (g .spacing) (shapeOf g)
 unfolding shapeOf
 spaced-of g a = record { listed = a .spacing; subcarriers = refl; block = refl; gap = refl; group = refl }
 
@@ -197,7 +197,7 @@ module _ (g : AckGrant) (f : AckFields) (h : f ≡ fieldsOf g) (n : ℕ) (e : n 
     unfolding shapeOf
     own-shape = own ∙ ap (λ (x : AckFields). shapeOf (unwindowed x)) h
 
-    pub ready : Fits s × Spaced (g .spacing) s
+    pub ready : Fits s × AtSpacing (g .spacing) s
     ready =
         let a = ranged g no-refusal in
         shape-beside (fieldsRefusal g) (g .spacing) (shapeOf g) (g .windows) no-refusal s 1 1 own-shape (fits-in g a) (spaced-of g a)

@@ -17,7 +17,7 @@ use Rattle.slots.specs.Quick.{sized, shapeForwardOr}
 use Rattle.slots.proofs.Judging.{forward-or-14, fits-asked, plan-asked, forward-asked, backward-asked}
 use Rattle.windows.specs.Windows.{none}
 use Rattle.windows.proofs.Spaced.{none-refuses, none-closes}
-use Rattle.windowed.specs.Beside.{planBeside, forwardBeside, backwardBeside, Spaced}
+use Rattle.windowed.specs.Beside.{planBeside, forwardBeside, backwardBeside, AtSpacing}
 use Rattle.windowed.proofs.Beside.{leaves, first-refuses, plan-beside, forward-beside, backward-beside, shape-beside}
 use Rattle.uplink.specs.declared.UplinkFields.{UplinkFields}
 use Rattle.uplink.specs.Unwindowed.{fieldsOf, unwindowed}
@@ -136,7 +136,7 @@ module _ (g : UplinkGrant) where
       }
 
 -- its numbers by its spacing
-pub spaced-of : (g : UplinkGrant) → InRange g → Spaced (g .spacing) (shapeOf g)
+pub spaced-of : (g : UplinkGrant) → InRange g → AtSpacing (g .spacing) (shapeOf g)
 unfolding shapeOf
 spaced-of g a = record { listed = a .spacing; subcarriers = refl; block = refl; gap = refl; group = refl }
 
@@ -169,7 +169,7 @@ module _ (g : UplinkGrant) (f : UplinkFields) (h : f ≡ fieldsOf g) (n : ℕ) (
     unfolding shapeOf
     own-shape = own ∙ ap (λ (x : UplinkFields). sized (shapeOf (unwindowed x)) size order) h
 
-    pub ready : Fits s × Spaced (g .spacing) s
+    pub ready : Fits s × AtSpacing (g .spacing) s
     ready =
         let a = ranged g no-refusal in
         shape-beside (fieldsRefusal g) (g .spacing) (shapeOf g) (g .windows) no-refusal s size order own-shape (fits-in g a) (spaced-of g a)

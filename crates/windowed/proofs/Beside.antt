@@ -29,7 +29,7 @@ use Rattle.windows.specs.Quick.{doubles, Leveled}
 use Rattle.windows.proofs.Closing.{clear-again}
 use Rattle.windows.proofs.Listing.{allPass, of-list, step-of}
 use Rattle.windows.proofs.Spaced.{accepted-windows, none-refuses, none-closes}
-use Rattle.windowed.specs.Beside.{refusalBeside, openBeside, Spaced}
+use Rattle.windowed.specs.Beside.{refusalBeside, openBeside, AtSpacing}
 
 -- ---- windows that do not refuse leave a slot to send; e groups last 8 ms
 
@@ -54,7 +54,7 @@ module _ (s : Shape) (ms e a n : ℕ) (ws : Windows) (from : 1 ≤ ms) (to : ms 
     some = leaving-some s isOpen e group some hr hb again (next isOpen (allPeriods / ms) 0) (found .passes);
   }
 
-leaves-on : (s : Shape) (spacing tone tones : ℕ) (ws : Windows) → Spaced spacing s → refusalOn spacing tone tones ws ≡ 0 → Leaves s (openTo spacing tone tones ws)
+leaves-on : (s : Shape) (spacing tone tones : ℕ) (ws : Windows) → AtSpacing spacing s → refusalOn spacing tone tones ws ≡ 0 → Leaves s (openTo spacing tone tones ws)
 leaves-on s zero tone tones ws sp h =
     leaves-by s 2 4 (1 * tone) (1 * tones) ws (omega arith) (omega arith) h refl (omega (arith, sp .group)) (omega arith)
     (rw (sp .group) (omega (arith, sp .block, sp .gap))) (rw (sp .group) (omega (arith, sp .block)))
@@ -65,7 +65,7 @@ leaves-on s (suc (suc n)) tone tones ws sp h = absurd (omega (arith, sp .listed)
 
 -- ---- rounds of 37 parts of 8 ms, of which 5 are the gap
 
-parted : (s : Shape) (spacing : ℕ) → Spaced spacing s → Parted s (8 / groupMs spacing)
+parted : (s : Shape) (spacing : ℕ) → AtSpacing spacing s → Parted s (8 / groupMs spacing)
 parted s spacing sp = record {
   some = parts .0;
   rounds = ap₂ (λ (x y : ℕ). x / y) (ap₂ _+_ (sp .block) (sp .gap)) (sp .group) ∙ parts .1;
@@ -98,7 +98,7 @@ spread-evenly times h c =
 
 -- ---- a shape beside windows
 
-module _ (spacing : ℕ) (s : Shape) (sp : Spaced spacing s) (ws : Windows) where
+module _ (spacing : ℕ) (s : Shape) (sp : AtSpacing spacing s) (ws : Windows) where
   pub leaves : refusalBeside spacing s ws ≡ 0 → Leaves s (openBeside spacing s ws)
   leaves = leaves-on s spacing (s .tone) (s .tones) ws sp
 
@@ -174,6 +174,6 @@ module _ (fields spacing : ℕ) (g : Shape) (ws : Windows) (e : fields ≡ 0) wh
         ap (λ (x : Shape). backwardAnswer (refusalBeside spacing x ws) x (openBeside spacing x ws) slot l k) own
         ∙ ap₂ (λ (n : ℕ) (x : Back). cond (eqb n 0) x (refusedBack n)) last-refuses (backward-sized g size order (openBeside spacing g ws) slot l k)
 
-    pub shape-beside : Fits g → Spaced spacing g → Fits s × Spaced spacing s
+    pub shape-beside : Fits g → AtSpacing spacing g → Fits s × AtSpacing spacing s
     shape-beside f sp =
         rw own (fits-sized g size order f, record { listed = sp .listed; subcarriers = sp .subcarriers; block = sp .block; gap = sp .gap; group = sp .group })

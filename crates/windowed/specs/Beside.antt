@@ -33,7 +33,7 @@ abbrev pub backwardBeside : ℕ → Shape → Windows → ℕ → ℕ → ℕ �
 backwardBeside spacing s ws slot l k = backwardAnswer (refusalBeside spacing s ws) s (openBeside spacing s ws) slot l k
 
 -- the numbers of a shape that its spacing gives; whoever makes shapes shows them
-pub record Spaced (spacing : ℕ) (s : Shape) : Type 0 where
+pub record AtSpacing (spacing : ℕ) (s : Shape) : Type 0 where
   pub listed : spacing ≤ 1
   pub subcarriers : s .subcarriers ≡ uplinkSubcarriers spacing
   pub block : s .block ≡ slotsIn spacing 256

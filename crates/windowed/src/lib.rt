@@ -2,7 +2,7 @@
 // the shape is asked by itself, which is quicker.
 ghost use mathlib.Core.Path.{_≡_};
 ghost use Rattle.slots.specs.Fits.{Fits};
-ghost use Rattle.windowed.specs.Beside.{planBeside, forwardBeside, backwardBeside, Spaced};
+ghost use Rattle.windowed.specs.Beside.{planBeside, forwardBeside, backwardBeside, AtSpacing};
 use sending::Back;
 use slots::Shape;
 use slots::UplinkPlace;
@@ -16,7 +16,7 @@ const NOT_LISTED: u64 = 19;
 const NEVER_FREE: u64 = 20;
 
 pub fn plan(spacing: u64, s: Shape, ws: Windows) -> UplinkPlan
-    requires { ⌜ Fits s × Spaced spacing s ⌝ }
+    requires { ⌜ Fits s × AtSpacing spacing s ⌝ }
     ensures { λ r. ⌜ r ≡ planBeside spacing s ws ⌝ }
 {
     if ws.count == 0 {
@@ -34,7 +34,7 @@ pub fn plan(spacing: u64, s: Shape, ws: Windows) -> UplinkPlan
 
 // `end` is the number right after the last position.
 pub fn forward_or(spacing: u64, s: Shape, ws: Windows, p: u64, end: u64) -> UplinkPlace
-    requires { ⌜ Fits s × Spaced spacing s ⌝ }
+    requires { ⌜ Fits s × AtSpacing spacing s ⌝ }
     ensures { λ r. ⌜ r ≡ forwardBeside end spacing s ws p ⌝ }
 {
     if ws.count == 0 {
@@ -53,7 +53,7 @@ pub fn forward_or(spacing: u64, s: Shape, ws: Windows, p: u64, end: u64) -> Upli
 }
 
 pub fn backward(spacing: u64, s: Shape, ws: Windows, slot: u64, l: u64, k: u64) -> Back
-    requires { ⌜ Fits s × Spaced spacing s ⌝ }
+    requires { ⌜ Fits s × AtSpacing spacing s ⌝ }
     ensures { λ r. ⌜ r ≡ backwardBeside spacing s ws slot l k ⌝ }
 {
     if ws.count == 0 {
