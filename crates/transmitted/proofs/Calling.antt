@@ -1,8 +1,8 @@
 -- A call judged: what its refusal says, and what an accepted one has.
 use mathlib.Core.Bool.{Bool, true, false, cond, not, _||_}
 use mathlib.Core.List.{List}
-use mathlib.Core.Path.{_≡_, sym, ap, ap₂, _∙_, subst}
-use Prim.Native.Nat.{ℕ, _+_, _*_, _≤_, _<_}
+use mathlib.Core.Path.{_≡_, refl, sym, ap, ap₂, _∙_, subst}
+use Prim.Native.Nat.{ℕ, _+_, _*_, _≤_, _<_, _%_}
 use native.Mathlib.Nat.{mul-le-mul, mul-le-mul-right, suc-mul, mod-one}
 use native.Mathlib.Omega.{arith}
 use lib.Dec.{eqb, leb}
@@ -62,7 +62,7 @@ module _ (c : Cell) (anchor other : List ℕ) (g : DownlinkGrant) (i : ℕ) (out
   Judged k = CallFor c anchor other g i outside bits wrong level k
 
   refused-by : (k : Call) → (k .no ≡ 0 → ⊥) → k .no ≡ refusal → Judged k
-  refused-by k n e = record { number = e; prepared = λ z. absurd (n z); going = λ z. absurd (n z) }
+  refused-by k n e = record { number = e; prepared = λ z. absurd (n z); shift = λ z. absurd (n z); going = λ z. absurd (n z) }
 
   module _ (q : Ready) (p : Pattern) (r : ReadyFor c (bitmapIn c (ownBuffer c anchor other)) (refusalOf c anchor other g) (burstOf c g) q p) where
     -- the chain by its first part
@@ -112,21 +112,22 @@ module _ (c : Cell) (anchor other : List ℕ) (g : DownlinkGrant) (i : ℕ) (out
             small = omega (arith, within, mul-le-mul (fits .codewordSmall) (count-le (layoutOf c) 0 subcarriers));
           }
 
-      accepted-at : lateRefusal (burstOf c g) i outside bits wrong level ≡ 0 → Judged (record { no = 0; first = unit * W })
+      accepted-at : lateRefusal (burstOf c g) i outside bits wrong level ≡ 0 → Judged (record { no = 0; first = unit * W; v = c .identity % 6 })
       accepted-at e = record {
         number = sym e ∙ by-late z;
         prepared = λ y. prepared-by e;
+        shift = λ y. refl;
         going = λ y x. going c anchor other g (refusalOf c anchor other g) q p r z i x (late-passed (burstOf c g) i outside bits wrong level e .sent);
       }
 
     pub accepted : (n w u : ℕ) → q .no ≡ 0 → n ≡ lateRefusal (q .burst) i outside bits wrong level → n ≡ 0
         → w ≡ countOf (q .burst .layout) (q .burst .low) (q .burst .width) → u ≡ carried (q .burst .row) 1 (q .burst .codeword) i
-        → Judged (record { no = 0; first = u * w })
+        → Judged (record { no = 0; first = u * w; v = q .burst .layout .v })
     accepted n w u z e h hw hu =
         let b = r .burst z in
         let m : u * w ≡ unit z * W z = ap₂ (λ (x y : ℕ). x * y)
         (hu ∙ ap (λ (d : Burst). carried (d .row) 1 (d .codeword) i) b) (hw ∙ ap (λ (d : Burst). countOf (d .layout) (d .low) (d .width)) b) in
-        subst Judged (sym (λ k. record { no = 0; first = m k })) (accepted-at z (sym (late-is n e z) ∙ h))
+        subst Judged (sym (λ k. record { no = 0; first = m k; v = b k .layout .v })) (accepted-at z (sym (late-is n e z) ∙ h))
 
   -- an accepted call passed 14 and 15
   pub call-passed : (k : Call) → Judged k → k .no ≡ 0 → Passed (burstOf c g) i outside bits wrong

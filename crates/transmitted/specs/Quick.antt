@@ -2,7 +2,7 @@
 use mathlib.Core.Bool.{Bool, cond}
 use mathlib.Core.List.{List}
 use mathlib.Core.Path.{_≡_}
-use Prim.Native.Nat.{ℕ, _+_, _*_, _^_, _≤_, _<_}
+use Prim.Native.Nat.{ℕ, _+_, _*_, _%_, _^_, _≤_, _<_}
 use lib.Ieee.{Float}
 use lib.ListN.{length}
 use Rattle.grid.specs.Grid.{subcarriers}
@@ -33,4 +33,5 @@ pub record CallFor (c : Cell) (anchor other : List ℕ) (g : DownlinkGrant) (i :
     (level : Float) (r : Call) : Type 0 where
   pub number : r .no ≡ callRefusal c anchor other g i outside bits wrongOutput level
   pub prepared : r .no ≡ 0 → Prepared (layoutOf c) (r .first) bits
+  pub shift : r .no ≡ 0 → r .v ≡ c .identity % 6
   pub going : r .no ≡ 0 → (x : ℕ) → goesIn (layoutOf c) (r .first) x ≡ outgoingOf c anchor other g i x

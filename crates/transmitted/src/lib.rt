@@ -1,9 +1,10 @@
 // A transmitted subframe of an NPDSCH on one port: the call judged, and what goes out at an element.
 ghost use mathlib.Core.Path.{_≡_};
-ghost use Prim.Native.Nat.{_^_, _<_};
+ghost use Prim.Native.Nat.{_%_, _^_, _<_};
 ghost use Rattle.grid.specs.Grid.{subcarriers, symbols, slots, elementOf};
 ghost use Rattle.elements.specs.Elements.{Valid, countOf};
 ghost use Rattle.subframes.specs.Fits.{Fits};
+ghost use Rattle.subframes.specs.Cells.{layoutOf};
 ghost use Rattle.transmitted.specs.Refusals.{lateRefusal};
 ghost use Rattle.transmitted.specs.Element.{elementAnswer};
 ghost use Rattle.transmitted.specs.Quick.{goesIn, CallFor};
@@ -16,16 +17,17 @@ use subframes::Burst;
 use symbol::Element;
 use symbol::Outgoing;
 
-// A call judged: the refusal number, and for an accepted one the codeword symbol that goes out first in the subframe.
+// A call judged: the refusal number, and for an accepted one the codeword symbol that goes out first in the subframe, and the shift of the references.
 pub struct Call {
     pub no: u64,
     pub first: u64,
+    pub v: u64,
 }
 
 fn refused(no: u64) -> Call
     ensures { λ r. ⌜ r .no ≡ no ⌝ }
 {
-    Call { no, first: 0 }
+    Call { no, first: 0, v: 0 }
 }
 
 // Refusals 14 to 17; w is the number of used elements.
@@ -86,6 +88,20 @@ pub fn judged(
     Call {
         no: 0,
         first: unit * w,
+        v: b.layout.v,
+    }
+}
+
+// The layout of a cell by its shift.
+pub fn layout(c: Cell, v: u64) -> Layout
+    requires { ⌜ v ≡ c .identity % 6 ⌝ }
+    ensures { λ r. ⌜ r ≡ layoutOf c ⌝ }
+{
+    Layout {
+        v,
+        nports: c.nports,
+        cports: c.cports,
+        control: c.control,
     }
 }
 
@@ -126,6 +142,6 @@ pub fn element(
     if call.no != 0 {
         return Element::Refused(call.no);
     }
-    let o = outgoing(subframes::layout(c), call.first, slot, l, k);
+    let o = outgoing(layout(c, call.v), call.first, slot, l, k);
     symbol::answer(o, bits, level)
 }

@@ -87,7 +87,7 @@ pub fill-spec : {M : Type 1} → statement M
 fill-spec =
     tie.close
     (tie.spec (λ c κs. tt) returns
-    (λ c κs. tt)
+    (λ c κs. c .before .before .judged .ensures .shift (c .if1 .left))
     (λ c κs. tt)
     (λ c. search needs)
     (λ c. search needs)

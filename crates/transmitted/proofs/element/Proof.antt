@@ -34,7 +34,7 @@ pub element-spec : {M : Type 1} → statement M
 element-spec =
     tie.close
     (tie.spec (λ c κs. tt) returns
-    (λ c κs. tt)
+    (λ c κs. c .before .before .judged .ensures .shift (c .if1 .left))
     (λ c κs.
     let e = c .before in
     let j = e .before .before in
