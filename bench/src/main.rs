@@ -1,7 +1,9 @@
-//! The proved library beside hand-written Rust: times of each question, and how they grow.
+//! The proved library beside hand-written Rust: times of each question, and how they grow. With the word `instructions` the library alone is
+//! called, for a count of its instructions.
 
 mod fast;
 mod growth;
+mod instructions;
 mod measure;
 mod none;
 mod ours;
@@ -13,17 +15,39 @@ use scene::{Random, Scene};
 const TIMED: usize = 512;
 const COMPARED: usize = 1 << 18;
 
-fn main() {
-    let mut r = Random::new(0x9e37_79b9_7f4a_7c15);
-    let mut timed: Vec<Scene> = (0..TIMED).map(|_| Scene::accepted(&mut r)).collect();
-    let mut ported: Vec<Scene> = timed.iter().map(|s| s.clone().with_one_port(&mut r)).collect();
+/// Accepted scenes, and the same with one port.
+fn accepted(r: &mut Random) -> (Vec<Scene>, Vec<Scene>) {
+    let timed: Vec<Scene> = (0..TIMED).map(|_| Scene::accepted(r)).collect();
+    let ported = timed.iter().map(|s| s.clone().with_one_port(r)).collect();
+    (timed, ported)
+}
+
+fn times(mut r: Random, mut w: Random) {
+    let (mut timed, mut ported) = accepted(&mut r);
     let mut compared: Vec<Scene> = (0..COMPARED).map(|_| Scene::any(&mut r)).collect();
     none::compare(&compared);
     questions::table(&mut timed, &mut ported, &mut compared);
-    let mut w = Random::new(0x2545_f491_4f6c_dd1d);
-    let mut timed: Vec<Scene> = timed.into_iter().map(|s| s.beside_windows(&mut w)).collect();
+    let mut timed: Vec<Scene> = timed.into_iter().map(|s| s.beside_windows(&mut w, 3)).collect();
     let mut compared: Vec<Scene> = compared.into_iter().map(|s| s.beside_any_windows(&mut w)).collect();
     questions::beside_windows(&mut timed, &mut compared);
     growth::table(&mut r);
     growth::uplink_table(&mut w);
+}
+
+/// Scenes as the times take them, but that there may be four windows.
+fn calls(mut r: Random, mut w: Random, part: &str) {
+    let (plain, ported) = accepted(&mut r);
+    let beside: Vec<Scene> = plain.iter().map(|s| s.clone().beside_windows(&mut w, 4)).collect();
+    instructions::call(part, &plain, &ported, &beside);
+}
+
+fn main() {
+    let (r, w) = (Random::new(0x9e37_79b9_7f4a_7c15), Random::new(0x2545_f491_4f6c_dd1d));
+    let words: Vec<String> = std::env::args().skip(1).collect();
+    match words.iter().map(String::as_str).collect::<Vec<_>>()[..] {
+        [] => times(r, w),
+        ["instructions"] => calls(r, w, "each"),
+        ["instructions", part] => calls(r, w, part),
+        _ => panic!("expected nothing, or: instructions [PART]"),
+    }
 }

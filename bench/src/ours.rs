@@ -4,6 +4,9 @@ use crate::fast::{AckGrant, AckWalk, Cell, ControlGrant, ControlWalk, DownGrant,
 
 extern "C" {
     fn nbiot_judge(cell: *const u64, cells: usize, anchor: *const u8, anchors: usize, other: *const u8, others: usize) -> u64;
+    fn nbiot_bitmap(
+        cell: *const u64, cells: usize, anchor: *const u8, anchors: usize, other: *const u8, others: usize, answer: *mut u64, answers: usize,
+    ) -> u64;
     fn nbiot_count(
         cell: *const u64, cells: usize, anchor: *const u8, anchors: usize, other: *const u8, others: usize, answer: *mut u64, answers: usize,
     ) -> u64;
@@ -102,6 +105,14 @@ uplink! {
 pub fn judge(cell: &Cell, anchor: &[u8], other: &[u8]) -> u64 {
     // SAFETY: the pointers and lengths are those of slices, and nothing is written.
     unsafe { nbiot_judge(cell.as_ptr(), cell.len(), anchor.as_ptr(), anchor.len(), other.as_ptr(), other.len()) }
+}
+
+#[inline(always)]
+pub fn bitmap(cell: &Cell, anchor: &[u8], other: &[u8], answer: &mut [u64; 3]) -> u64 {
+    // SAFETY: as above; only `answer` is written.
+    unsafe {
+        nbiot_bitmap(cell.as_ptr(), cell.len(), anchor.as_ptr(), anchor.len(), other.as_ptr(), other.len(), answer.as_mut_ptr(), answer.len())
+    }
 }
 
 #[inline(always)]

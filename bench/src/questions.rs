@@ -258,7 +258,8 @@ fn steps_beside(timed: &mut [Scene], compared: &mut [Scene]) {
     );
 }
 
-fn elements(s: &Scene) -> [u64; 4] {
+/// The place of an element that is asked for.
+pub fn elements(s: &Scene) -> [u64; 4] {
     [s.i, s.at_down[1], s.at_down[2], s.at_down[3]]
 }
 

@@ -106,9 +106,9 @@ fn control(r: &mut Random) -> ControlGrant {
     [r.below(1 << 30), 1 << r.below(12), format, if format == 0 { r.below(2) } else { 0 }]
 }
 
-/// One to three windows that share a tone of 3.75 kHz.
-fn windows(r: &mut Random, tone: u64) -> Vec<u64> {
-    let count = 1 + r.below(3);
+/// One to so many windows that share a tone of 3.75 kHz.
+fn windows(r: &mut Random, tone: u64, most: u64) -> Vec<u64> {
+    let count = 1 + r.below(most);
     let mut numbers = vec![count];
     for _ in 0..4 {
         let (period, start) = (40 << r.below(7), 8 << r.below(8));
@@ -154,7 +154,7 @@ impl Scene {
     }
 
     /// How many places each grant has.
-    fn places(&self) -> [u64; 4] {
+    pub fn places(&self) -> [u64; 4] {
         [
             fast::plan_up_windows(&self.up, &self.windows[0])[4],
             fast::plan_down(&self.cell, &self.anchor, &self.other, &self.down)[4],
@@ -227,11 +227,11 @@ impl Scene {
         [up, ack]
     }
 
-    /// Beside windows that push its uplink grants aside.
-    pub fn beside_windows(mut self, r: &mut Random) -> Scene {
+    /// Beside one to so many windows that push its uplink grants aside.
+    pub fn beside_windows(mut self, r: &mut Random, most: u64) -> Scene {
         let [up, ack] = self.first_tones();
         loop {
-            self.windows = [windows(r, up), windows(r, ack)];
+            self.windows = [windows(r, up, most), windows(r, ack, most)];
             let no = [fast::plan_up_windows(&self.up, &self.windows[0])[0], fast::plan_ack_windows(&self.ack, &self.windows[1])[0]];
             if no == [0, 0] {
                 self.aim(r);
@@ -244,7 +244,7 @@ impl Scene {
     /// Beside any windows: now and then a number that is not listed, or the position after the last.
     pub fn beside_any_windows(mut self, r: &mut Random) -> Scene {
         let tones = self.first_tones();
-        self.windows = tones.map(|tone| windows(r, tone));
+        self.windows = tones.map(|tone| windows(r, tone, 3));
         self.aim(r);
         for numbers in &mut self.windows {
             let i = r.below(68) as usize;

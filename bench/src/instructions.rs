@@ -1,0 +1,161 @@
+//! Calls whose instructions are counted, each C function once on each of the same accepted scenes. `bench/instructions` has them counted by
+//! valgrind's callgrind, part by part: a count is over all calls of a function in one run. The scenes do not depend on the library.
+
+use crate::ours;
+use crate::questions::elements;
+use crate::scene::Scene;
+
+/// Fails unless all calls of a scene gave this number: what is counted is no refusal but the one that is meant.
+fn expect<const N: usize>(numbers: [u64; N], expected: u64) {
+    assert_eq!(numbers, [expected; N], "not the refusal that was expected");
+}
+
+fn cell(s: &Scene) -> [u64; 4] {
+    let (cell, anchor, other) = (&s.cell, &s.anchor, &s.other);
+    [
+        ours::judge(cell, anchor, other),
+        ours::bitmap(cell, anchor, other, &mut [0; 3]),
+        ours::count(cell, anchor, other, &mut [0; 2]),
+        ours::cause(cell, anchor, other, s.at_down[0], &mut [0; 2]),
+    ]
+}
+
+fn up(s: &Scene) -> [u64; 3] {
+    let [slot, l, k] = s.at_up;
+    [
+        ours::plan_up(&s.up, &mut [0; 7]),
+        ours::forward_up(&s.up, s.p[0], &mut [0; 5]),
+        ours::backward_up(&s.up, slot, l, k, &mut [0; 5]),
+    ]
+}
+
+fn ack(s: &Scene) -> [u64; 3] {
+    let [slot, l, k] = s.at_ack;
+    [
+        ours::plan_ack(&s.ack, &mut [0; 7]),
+        ours::forward_ack(&s.ack, s.p[3], &mut [0; 5]),
+        ours::backward_ack(&s.ack, slot, l, k, &mut [0; 5]),
+    ]
+}
+
+fn down(s: &Scene) -> [u64; 3] {
+    let (cell, anchor, other, [t, slot, l, k]) = (&s.cell, &s.anchor, &s.other, s.at_down);
+    [
+        ours::plan_down(cell, anchor, other, &s.down, &mut [0; 5]),
+        ours::forward_down(cell, anchor, other, &s.down, s.p[1], &mut [0; 6]),
+        ours::backward_down(cell, anchor, other, &s.down, t, slot, l, k, &mut [0; 6]),
+    ]
+}
+
+fn control(s: &Scene) -> [u64; 3] {
+    let (cell, anchor, other, [t, slot, l, k]) = (&s.cell, &s.anchor, &s.other, s.at_control);
+    [
+        ours::plan_control(cell, anchor, other, &s.control, &mut [0; 5]),
+        ours::forward_control(cell, anchor, other, &s.control, s.p[2], &mut [0; 6]),
+        ours::backward_control(cell, anchor, other, &s.control, t, slot, l, k, &mut [0; 6]),
+    ]
+}
+
+/// The numbers of four steps, and how many of them finished.
+fn steps(s: &Scene) -> ([u64; 4], u64) {
+    let mut walks = s.clone();
+    let mut answers = [[0; 7]; 4];
+    let [up, ack, down, control] = &mut answers;
+    let numbers = [
+        ours::step_up(&mut walks.walk_up, up),
+        ours::step_ack(&mut walks.walk_ack, ack),
+        ours::step_down(&mut walks.walk_down, &s.anchor, &s.other, down),
+        ours::step_control(&mut walks.walk_control, &s.anchor, &s.other, control),
+    ];
+    (numbers, answers.iter().map(|a| a[1]).sum())
+}
+
+/// With one port.
+fn subframe(s: &Scene) -> [u64; 2] {
+    let lent: [&[u8]; 2] = [&s.anchor, &s.other];
+    [
+        ours::fill(&s.cell, lent, &s.down, s.i, &s.bits, s.level, &mut [0.0; 336]),
+        ours::element(&s.cell, lent, &s.down, elements(s), &s.bits, s.level, &mut [0; 2], &mut [0.0; 2]),
+    ]
+}
+
+/// Beside the windows that are lent to each of the two kinds of grant.
+fn windows(s: &Scene, lent: [&[u64]; 2]) -> [u64; 6] {
+    let ([up, ack], [slot, l, k], [ack_slot, ack_l, ack_k]) = (lent, s.at_up, s.at_ack);
+    [
+        ours::plan_up_windows(&s.up, up, &mut [0; 7]),
+        ours::forward_up_windows(&s.up, up, s.p[0], &mut [0; 5]),
+        ours::backward_up_windows(&s.up, up, slot, l, k, &mut [0; 5]),
+        ours::plan_ack_windows(&s.ack, ack, &mut [0; 7]),
+        ours::forward_ack_windows(&s.ack, ack, s.p[3], &mut [0; 5]),
+        ours::backward_ack_windows(&s.ack, ack, ack_slot, ack_l, ack_k, &mut [0; 5]),
+    ]
+}
+
+/// As `steps`.
+fn windows_steps(s: &Scene, lent: [&[u64]; 2]) -> ([u64; 2], u64) {
+    let mut walks = s.clone();
+    let mut answers = [[0; 7]; 2];
+    let [up, ack] = &mut answers;
+    let numbers = [
+        ours::step_up_windows(&mut walks.walk_up, lent[0], up),
+        ours::step_ack_windows(&mut walks.walk_ack, lent[1], ack),
+    ];
+    (numbers, answers.iter().map(|a| a[1]).sum())
+}
+
+fn lent(s: &Scene) -> [&[u64]; 2] {
+    [&s.windows[0], &s.windows[1]]
+}
+
+/// What is asked of a cell and its grants without windows.
+fn unwindowed(s: &Scene) {
+    expect(cell(s), 0);
+    expect(up(s), 0);
+    expect(ack(s), 0);
+    expect(down(s), 0);
+    expect(control(s), 0);
+    assert_eq!(steps(s), ([0; 4], 0));
+}
+
+fn windowed(s: &Scene, lent: [&[u64]; 2]) {
+    expect(windows(s, lent), 0);
+    assert_eq!(windows_steps(s, lent), ([0; 2], 0));
+}
+
+/// The walks so many positions past their last place.
+fn past(scenes: &[Scene], more: u64) -> Vec<Scene> {
+    let moved = scenes.iter().map(|s| {
+        let mut scene = s.clone();
+        scene.p = s.places().map(|places| places + more);
+        scene.record();
+        scene
+    });
+    moved.collect()
+}
+
+/// Steps that all give a number, and a mark of the end.
+fn stopped(plain: &[Scene], beside: &[Scene], number: u64, finished: u64) {
+    for s in plain {
+        assert_eq!(steps(s), ([number; 4], 4 * finished));
+    }
+    for s in beside {
+        assert_eq!(windows_steps(s, lent(s)), ([number; 2], 2 * finished));
+    }
+}
+
+/// `plain` are scenes without windows, `ported` those with one port, `beside` those beside windows.
+pub fn call(part: &str, plain: &[Scene], ported: &[Scene], beside: &[Scene]) {
+    match part {
+        "each" => {
+            plain.iter().for_each(unwindowed);
+            ported.iter().for_each(|s| expect(subframe(s), 0));
+            beside.iter().for_each(|s| windowed(s, lent(s)));
+        }
+        "none" => plain.iter().for_each(|s| windowed(s, [&[], &[]])),
+        "zero" => plain.iter().for_each(|s| windowed(s, [&[0; 17], &[0; 17]])),
+        "end" => stopped(&past(plain, 0), &past(beside, 0), 0, 1),
+        "past" => stopped(&past(plain, 1), &past(beside, 1), 14, 0),
+        _ => panic!("no part {part}"),
+    }
+}
