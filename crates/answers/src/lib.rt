@@ -3,20 +3,20 @@ ghost use Prim.Native.Nat.{_+_, _≤_};
 ghost use lib.ListN.{length};
 use cell::Cause;
 use cell::CauseAnswer;
+use cell::ElementCount;
+use downlink::DownlinkBack;
+use downlink::DownlinkPlace;
+use downlink::DownlinkPlan;
 use questions::Fault;
 use sending::Back;
-use slots::UplinkPlace;
-use slots::UplinkPlan;
-use subframes::DownlinkBack;
-use subframes::DownlinkPlace;
-use subframes::DownlinkPlan;
-use subframes::ElementCount;
 use symbol::ElementNumbers;
 use text::Page;
 use text::put;
 use text::put_decimal;
 use text::put_hex;
 use text::put_word;
+use uplink::UplinkPlace;
+use uplink::UplinkPlan;
 use walk::WalkPlace;
 
 pub fn put_fault(f: Fault, out: &mut Page, at: usize) -> usize

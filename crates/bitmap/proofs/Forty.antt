@@ -15,7 +15,8 @@ use Rattle.counting.specs.Bits.{bitAt}
 use Rattle.counting.proofs.Facts.{each, each-at, either-case}
 use Rattle.counting.proofs.Ones.{Front, front-none, front-more}
 use Rattle.spans.specs.Pattern.{maskBit}
-use Rattle.bitmap.specs.Bitmap.{bytesOf, listedLength, bitOf, allowed}
+use Rattle.bitmap.specs.Bitmap.{bytesOf, listedLength, allowed}
+use Rattle.counting.specs.Bits.{bitOf}
 use Rattle.bitmap.specs.Quick.{Loaded}
 
 -- ---- 0, 10 and 40 bits

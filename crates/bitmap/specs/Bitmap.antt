@@ -1,10 +1,10 @@
 -- The bitmap of usable subframes: 01 "The cell".
 use mathlib.Core.Bool.{Bool, true, cond, not, _&&_, _||_}
 use mathlib.Core.List.{List}
-use Prim.Native.Nat.{ℕ, _-_, _/_, _%_}
+use Prim.Native.Nat.{ℕ, _%_}
 use lib.Dec.{eqb, ltb}
 use lib.ListN.{length, getD}
-use Rattle.counting.specs.Bits.{bitAt}
+use Rattle.counting.specs.Bits.{bitOf}
 
 -- 0, 2 or 5 bytes for 0, 10 or 40 bits; other lengths are refused
 unfoldable pub bytesOf : ℕ → ℕ
@@ -20,10 +20,6 @@ spareSet bits b = eqb bits 10 && not (eqb (getD b 1 0 % 64) 0)
 -- length not listed, buffer too short, or spare bits set
 unfoldable pub badBitmap : ℕ → List ℕ → Bool
 badBitmap bits own = not (listedLength bits) || (ltb (length own) (bytesOf bits) || spareSet bits own)
-
--- bit i of bytes b, the first bit the highest of byte 0
-abbrev pub bitOf : List ℕ → ℕ → Bool
-bitOf b i = bitAt (getD b (i / 8) 0) (7 - i % 8)
 
 -- bit t mod 10, or t mod 40, allows subframe t; length 0 allows all
 unfoldable pub allowed : List ℕ → ℕ → ℕ → Bool

@@ -1,60 +1,85 @@
 // Buffers of numbers: cells and grants read from them, answers put at their front.
 ghost use mathlib.Core.List.{[], _∷_};
 ghost use mathlib.Core.Path.{_≡_};
-ghost use Prim.Native.Nat.{_+_, _≤_};
-ghost use lib.ListN.{length};
-ghost use Rattle.windows.specs.Windows.{none};
-ghost use Rattle.buffers.specs.Buffers.{cellOf, windowAt, windowsOf, upGrantOf, ackGrantOf, upFieldsOf, ackFieldsOf, downGrantOf, controlGrantOf, Short2, Short3, ShortUp, laid};
-use acknowledgement::AckFields;
-use acknowledgement::AckGrant;
+ghost use Prim.Native.Nat.{_+_, _^_, _≤_, _<_};
+ghost use lib.ListN.{length, getD};
+ghost use Rattle.nprach.specs.Windows.{none};
+ghost use Rattle.symbol.specs.Outgoing.{numbersOf};
+ghost use Rattle.buffers.specs.Buffers.{cellAt, windowAt, windowsOf, npuschAt, harqAckAt, npdschAt, npdcchAt};
+ghost use Rattle.buffers.specs.Buffers.{causeNumbers, countNumbers, uplinkPlanNumbers, downlinkPlanNumbers};
+ghost use Rattle.buffers.specs.Buffers.{uplinkPlaceNumbers, downlinkPlaceNumbers, backNumbers};
+ghost use Rattle.buffers.specs.Buffers.{downlinkBackNumbers};
+ghost use Rattle.buffers.specs.Buffers.{Short2, Short3, ShortBeside, put, putMoved, putElement, placeAt};
+ghost use Rattle.buffers.specs.Buffers.{movedBy, endOf};
+use cell::CauseAnswer;
 use cell::Cell;
-use control::ControlGrant;
-use downlink::DownlinkGrant;
-use uplink::UplinkFields;
-use uplink::UplinkGrant;
-use windows::Window;
-use windows::Windows;
+use cell::ElementCount;
+use downlink::DownlinkBack;
+use downlink::DownlinkPlace;
+use downlink::DownlinkPlan;
+use harq_ack::HarqAckGrant;
+use npdcch::NpdcchGrant;
+use npdsch::NpdschGrant;
+use nprach::Window;
+use nprach::Windows;
+use npusch::NpuschGrant;
+use sending::Back;
+use symbol::Element;
+use uplink::UplinkPlace;
+use uplink::UplinkPlan;
 
 // The numbers of windows: the count, and four of four.
 const WINDOWS: usize = 17;
+
+// ---- buffers too short
 
 // A buffer has fewer numbers than it needs; of two buffers, and of three.
 pub fn short2(m: usize, n: usize, s: usize, t: usize) -> bool
     ensures { λ r. ⌜ Short2 m n s t r ⌝ }
 {
-    (s < m) | (t < n)
+    if s < m {
+        return true;
+    }
+    t < n
 }
 
 pub fn short3(m: usize, n: usize, k: usize, s: usize, t: usize, u: usize) -> bool
     ensures { λ r. ⌜ Short3 m n k s t u r ⌝ }
 {
-    (s < m) | ((t < n) | (u < k))
+    if s < m {
+        return true;
+    }
+    short2(n, k, t, u)
 }
 
-// The same of two buffers and the windows, which may be none.
-pub fn short_up(m: usize, n: usize, s: usize, t: usize, windows: &[u64]) -> bool
-    ensures { λ r. ⌜ ShortUp m n s t (now (windows .entry)) r ⌝ }
+// The same of two buffers beside the windows, which may be none.
+pub fn short_beside(windows: &[u64], m: usize, n: usize, s: usize, t: usize) -> bool
+    ensures { λ r. ⌜ ShortBeside (now (windows .entry)) m n s t r ⌝ }
 {
-    (s < m) | ((t < n) | ((0 < windows.len()) & (windows.len() < WINDOWS)))
+    if (0 < windows.len()) & (windows.len() < WINDOWS) {
+        return true;
+    }
+    short2(m, n, s, t)
 }
 
-pub fn cell_of(s: &[u64]) -> Cell
-    requires { ⌜ 8 ≤ length (now s) ⌝ }
-    ensures { λ r. ⌜ r ≡ cellOf (now (s .entry)) ⌝ }
+// ---- what is asked: records whose numbers stand from a place of a buffer on
+
+pub fn cell_at(s: &[u64], i: usize) -> Cell
+    requires { ⌜ i + 8 ≤ length (now s) ⌝ }
+    ensures { λ r. ⌜ r ≡ cellAt (now (s .entry)) i ⌝ }
 {
     Cell {
-        mode: s[0],
-        carrier: s[1],
-        identity: s[2],
-        nports: s[3],
-        cports: s[4],
-        control: s[5],
-        sib1: s[6],
-        bits: s[7],
+        mode: s[i],
+        carrier: s[i + 1],
+        identity: s[i + 2],
+        nports: s[i + 3],
+        cports: s[i + 4],
+        control: s[i + 5],
+        sib1: s[i + 6],
+        bits: s[i + 7],
     }
 }
 
-// The window whose numbers stand from a place on.
 fn window_at(s: &[u64], i: usize) -> Window
     requires { ⌜ i + 4 ≤ length (now s) ⌝ }
     ensures { λ r. ⌜ r ≡ windowAt (now (s .entry)) i ⌝ }
@@ -85,7 +110,7 @@ fn no_windows() -> Windows
     }
 }
 
-fn windows_of(windows: &[u64]) -> Windows
+pub fn windows_of(windows: &[u64]) -> Windows
     ensures { λ r. ⌜ r ≡ windowsOf (now (windows .entry)) ⌝ }
 {
     if windows.len() < WINDOWS {
@@ -104,99 +129,63 @@ fn windows_of(windows: &[u64]) -> Windows
     }
 }
 
-pub fn up_grant_of(s: &[u64], windows: &[u64]) -> UplinkGrant
-    requires { ⌜ 7 ≤ length (now s) ⌝ }
-    ensures { λ r. ⌜ r ≡ upGrantOf (now (s .entry)) (now (windows .entry)) ⌝ }
+pub fn npusch_at(s: &[u64], i: usize) -> NpuschGrant
+    requires { ⌜ i + 7 ≤ length (now s) ⌝ }
+    ensures { λ r. ⌜ r ≡ npuschAt (now (s .entry)) i ⌝ }
 {
-    UplinkGrant {
-        n: s[0],
-        spacing: s[1],
-        subcarrier: s[2],
-        units: s[3],
-        copies: s[4],
-        delay: s[5],
-        mcs: s[6],
-        windows: windows_of(windows),
+    NpuschGrant {
+        n: s[i],
+        spacing: s[i + 1],
+        subcarrier: s[i + 2],
+        units: s[i + 3],
+        copies: s[i + 4],
+        delay: s[i + 5],
+        mcs: s[i + 6],
     }
 }
 
-pub fn ack_grant_of(s: &[u64], windows: &[u64]) -> AckGrant
-    requires { ⌜ 4 ≤ length (now s) ⌝ }
-    ensures { λ r. ⌜ r ≡ ackGrantOf (now (s .entry)) (now (windows .entry)) ⌝ }
+pub fn harq_ack_at(s: &[u64], i: usize) -> HarqAckGrant
+    requires { ⌜ i + 4 ≤ length (now s) ⌝ }
+    ensures { λ r. ⌜ r ≡ harqAckAt (now (s .entry)) i ⌝ }
 {
-    AckGrant {
-        n: s[0],
-        spacing: s[1],
-        field: s[2],
-        copies: s[3],
-        windows: windows_of(windows),
+    HarqAckGrant {
+        n: s[i],
+        spacing: s[i + 1],
+        field: s[i + 2],
+        copies: s[i + 3],
     }
 }
 
-pub fn up_fields_of(s: &[u64]) -> UplinkFields
-    requires { ⌜ 7 ≤ length (now s) ⌝ }
-    ensures { λ r. ⌜ r ≡ upFieldsOf (now (s .entry)) ⌝ }
+pub fn npdsch_at(s: &[u64], i: usize) -> NpdschGrant
+    requires { ⌜ i + 5 ≤ length (now s) ⌝ }
+    ensures { λ r. ⌜ r ≡ npdschAt (now (s .entry)) i ⌝ }
 {
-    UplinkFields {
-        n: s[0],
-        spacing: s[1],
-        subcarrier: s[2],
-        units: s[3],
-        copies: s[4],
-        delay: s[5],
-        mcs: s[6],
+    NpdschGrant {
+        n: s[i],
+        delay: s[i + 1],
+        rmax: s[i + 2],
+        subframes: s[i + 3],
+        copies: s[i + 4],
     }
 }
 
-pub fn ack_fields_of(s: &[u64]) -> AckFields
-    requires { ⌜ 4 ≤ length (now s) ⌝ }
-    ensures { λ r. ⌜ r ≡ ackFieldsOf (now (s .entry)) ⌝ }
+pub fn npdcch_at(s: &[u64], i: usize) -> NpdcchGrant
+    requires { ⌜ i + 4 ≤ length (now s) ⌝ }
+    ensures { λ r. ⌜ r ≡ npdcchAt (now (s .entry)) i ⌝ }
 {
-    AckFields {
-        n: s[0],
-        spacing: s[1],
-        field: s[2],
-        copies: s[3],
+    NpdcchGrant {
+        n: s[i],
+        r: s[i + 1],
+        format: s[i + 2],
+        ncce: s[i + 3],
     }
 }
 
-pub fn down_grant_of(s: &[u64]) -> DownlinkGrant
-    requires { ⌜ 5 ≤ length (now s) ⌝ }
-    ensures { λ r. ⌜ r ≡ downGrantOf (now (s .entry)) ⌝ }
-{
-    DownlinkGrant {
-        n: s[0],
-        delay: s[1],
-        rmax: s[2],
-        subframes: s[3],
-        copies: s[4],
-    }
-}
+// ---- numbers at the front of a buffer; the first is returned
 
-pub fn control_grant_of(s: &[u64]) -> ControlGrant
-    requires { ⌜ 4 ≤ length (now s) ⌝ }
-    ensures { λ r. ⌜ r ≡ controlGrantOf (now (s .entry)) ⌝ }
-{
-    ControlGrant {
-        n: s[0],
-        r: s[1],
-        format: s[2],
-        ncce: s[3],
-    }
-}
-
-// Numbers at the front of a buffer; the first is returned.
-pub fn put1(s: &mut [u64], a: u64) -> u64
-    requires { ⌜ 1 ≤ length (now s) ⌝ }
-    ensures { λ r. ⌜ (r ≡ a) × (now (s .exit) ≡ laid (a ∷ []) (now (s .entry))) ⌝ }
-{
-    s[0] = a;
-    a
-}
-
-pub fn put2(s: &mut [u64], a: u64, b: u64) -> u64
+fn put2(s: &mut [u64], a: u64, b: u64) -> u64
     requires { ⌜ 2 ≤ length (now s) ⌝ }
-    ensures { λ r. ⌜ (r ≡ a) × (now (s .exit) ≡ laid (a ∷ b ∷ []) (now (s .entry))) ⌝ }
+    ensures { λ r. ⌜ (r, now (s .exit)) ≡ put (a ∷ b ∷ []) (now (s .entry)) ⌝ }
 {
     s[0] = a;
     s[1] = b;
@@ -205,7 +194,7 @@ pub fn put2(s: &mut [u64], a: u64, b: u64) -> u64
 
 pub fn put3(s: &mut [u64], a: u64, b: u64, c: u64) -> u64
     requires { ⌜ 3 ≤ length (now s) ⌝ }
-    ensures { λ r. ⌜ (r ≡ a) × (now (s .exit) ≡ laid (a ∷ b ∷ c ∷ []) (now (s .entry))) ⌝ }
+    ensures { λ r. ⌜ (r, now (s .exit)) ≡ put (a ∷ b ∷ c ∷ []) (now (s .entry)) ⌝ }
 {
     s[0] = a;
     s[1] = b;
@@ -213,9 +202,9 @@ pub fn put3(s: &mut [u64], a: u64, b: u64, c: u64) -> u64
     a
 }
 
-pub fn put5(s: &mut [u64], a: u64, b: u64, c: u64, d: u64, e: u64) -> u64
+fn put5(s: &mut [u64], a: u64, b: u64, c: u64, d: u64, e: u64) -> u64
     requires { ⌜ 5 ≤ length (now s) ⌝ }
-    ensures { λ r. ⌜ (r ≡ a) × (now (s .exit) ≡ laid (a ∷ b ∷ c ∷ d ∷ e ∷ []) (now (s .entry))) ⌝ }
+    ensures { λ r. ⌜ (r, now (s .exit)) ≡ put (a ∷ b ∷ c ∷ d ∷ e ∷ []) (now (s .entry)) ⌝ }
 {
     s[0] = a;
     s[1] = b;
@@ -225,9 +214,9 @@ pub fn put5(s: &mut [u64], a: u64, b: u64, c: u64, d: u64, e: u64) -> u64
     a
 }
 
-pub fn put6(s: &mut [u64], a: u64, b: u64, c: u64, d: u64, e: u64, f: u64) -> u64
+fn put6(s: &mut [u64], a: u64, b: u64, c: u64, d: u64, e: u64, f: u64) -> u64
     requires { ⌜ 6 ≤ length (now s) ⌝ }
-    ensures { λ r. ⌜ (r ≡ a) × (now (s .exit) ≡ laid (a ∷ b ∷ c ∷ d ∷ e ∷ f ∷ []) (now (s .entry))) ⌝ }
+    ensures { λ r. ⌜ (r, now (s .exit)) ≡ put (a ∷ b ∷ c ∷ d ∷ e ∷ f ∷ []) (now (s .entry)) ⌝ }
 {
     s[0] = a;
     s[1] = b;
@@ -238,9 +227,9 @@ pub fn put6(s: &mut [u64], a: u64, b: u64, c: u64, d: u64, e: u64, f: u64) -> u6
     a
 }
 
-pub fn put7(s: &mut [u64], a: u64, b: u64, c: u64, d: u64, e: u64, f: u64, g: u64) -> u64
+fn put7(s: &mut [u64], a: u64, b: u64, c: u64, d: u64, e: u64, f: u64, g: u64) -> u64
     requires { ⌜ 7 ≤ length (now s) ⌝ }
-    ensures { λ r. ⌜ (r ≡ a) × (now (s .exit) ≡ laid (a ∷ b ∷ c ∷ d ∷ e ∷ f ∷ g ∷ []) (now (s .entry))) ⌝ }
+    ensures { λ r. ⌜ (r, now (s .exit)) ≡ put (a ∷ b ∷ c ∷ d ∷ e ∷ f ∷ g ∷ []) (now (s .entry)) ⌝ }
 {
     s[0] = a;
     s[1] = b;
@@ -252,11 +241,133 @@ pub fn put7(s: &mut [u64], a: u64, b: u64, c: u64, d: u64, e: u64, f: u64, g: u6
     a
 }
 
-// Amplitudes at the front of a buffer.
-pub fn put_amplitudes(s: &mut [f32], re: f32, im: f32)
+// ---- what is answered
+
+pub fn put_count(s: &mut [u64], a: ElementCount) -> u64
     requires { ⌜ 2 ≤ length (now s) ⌝ }
-    ensures { λ _. ⌜ now (s .exit) ≡ laid (re ∷ im ∷ []) (now (s .entry)) ⌝ }
+    ensures { λ r. ⌜ (r, now (s .exit)) ≡ put (countNumbers a) (now (s .entry)) ⌝ }
 {
-    s[0] = re;
-    s[1] = im;
+    put2(s, a.no, a.e)
+}
+
+pub fn put_cause(s: &mut [u64], a: CauseAnswer) -> u64
+    requires { ⌜ 2 ≤ length (now s) ⌝ }
+    ensures { λ r. ⌜ (r, now (s .exit)) ≡ put (causeNumbers a) (now (s .entry)) ⌝ }
+{
+    let cause = a.cause;
+    put2(s, a.no, cell::cause_number(cause))
+}
+
+pub fn put_uplink_plan(s: &mut [u64], a: UplinkPlan) -> u64
+    requires { ⌜ 7 ≤ length (now s) ⌝ }
+    ensures { λ r. ⌜ (r, now (s .exit)) ≡ put (uplinkPlanNumbers a) (now (s .entry)) ⌝ }
+{
+    put7(
+        s,
+        a.no,
+        a.first,
+        a.last,
+        a.copies,
+        a.places,
+        a.size,
+        a.order,
+    )
+}
+
+pub fn put_downlink_plan(s: &mut [u64], a: DownlinkPlan) -> u64
+    requires { ⌜ 5 ≤ length (now s) ⌝ }
+    ensures { λ r. ⌜ (r, now (s .exit)) ≡ put (downlinkPlanNumbers a) (now (s .entry)) ⌝ }
+{
+    put5(s, a.no, a.first, a.last, a.copies, a.places)
+}
+
+pub fn put_uplink_place(s: &mut [u64], a: UplinkPlace) -> u64
+    requires { ⌜ 5 ≤ length (now s) ⌝ }
+    ensures { λ r. ⌜ (r, now (s .exit)) ≡ put (uplinkPlaceNumbers a) (now (s .entry)) ⌝ }
+{
+    put5(s, a.no, a.slot, a.l, a.k, a.symbol)
+}
+
+pub fn put_downlink_place(s: &mut [u64], a: DownlinkPlace) -> u64
+    requires { ⌜ 6 ≤ length (now s) ⌝ }
+    ensures { λ r. ⌜ (r, now (s .exit)) ≡ put (downlinkPlaceNumbers a) (now (s .entry)) ⌝ }
+{
+    put6(s, a.no, a.t, a.slot, a.l, a.k, a.symbol)
+}
+
+pub fn put_back(s: &mut [u64], a: Back) -> u64
+    requires { ⌜ 5 ≤ length (now s) ⌝ }
+    ensures { λ r. ⌜ (r, now (s .exit)) ≡ put (backNumbers a) (now (s .entry)) ⌝ }
+{
+    put5(s, a.no, a.ours, a.symbol, a.position, a.kind)
+}
+
+pub fn put_downlink_back(s: &mut [u64], a: DownlinkBack) -> u64
+    requires { ⌜ 6 ≤ length (now s) ⌝ }
+    ensures { λ r. ⌜ (r, now (s .exit)) ≡ put (downlinkBackNumbers a) (now (s .entry)) ⌝ }
+{
+    let cause = a.cause;
+    let number = cell::cause_number(cause);
+    put6(
+        s,
+        a.back.no,
+        a.back.ours,
+        a.back.symbol,
+        a.back.position,
+        a.back.kind,
+        number,
+    )
+}
+
+// The state, and the amplitudes beside it.
+pub fn put_element(s: &mut [u64], amplitudes: &mut [f32], e: Element) -> u64
+    requires { ⌜ (2 ≤ length (now s)) × (2 ≤ length (now amplitudes)) ⌝ }
+    ensures { λ r. ⌜ (r, now (s .exit), now (amplitudes .exit))
+        ≡ putElement (numbersOf e) (now (s .entry)) (now (amplitudes .entry)) ⌝ }
+{
+    let a = symbol::numbers(e);
+    amplitudes[0] = a.re;
+    amplitudes[1] = a.im;
+    put2(s, a.no, a.state)
+}
+
+// ---- a step
+
+// Position p is the end of the planned grant.
+pub fn uplink_end(a: UplinkPlan, p: u64) -> bool
+    ensures { λ r. ⌜ r ≡ endOf (a .no) (a .places) p ⌝ }
+{
+    (a.no == 0) & (p == a.places)
+}
+
+pub fn downlink_end(a: DownlinkPlan, p: u64) -> bool
+    ensures { λ r. ⌜ r ≡ endOf (a .no) (a .places) p ⌝ }
+{
+    (a.no == 0) & (p == a.places)
+}
+
+// A step by what forward answers at the walk's position, which moves on where that is a place; `end`: it is the end.
+pub fn put_step(
+    walk: &mut [u64],
+    s: &mut [u64],
+    end: bool,
+    no: u64,
+    t: u64,
+    slot: u64,
+    l: u64,
+    k: u64,
+    symbol: u64,
+) -> u64
+    requires { ⌜ (1 ≤ length (now walk)) × (7 ≤ length (now s)) × (no ≡ 0 → getD (now walk) 0 0 < 2 ^ 63) ⌝ }
+    ensures { λ r. ⌜ (r, now (walk .exit), now (s .exit))
+        ≡ putMoved (movedBy end (placeAt no t slot l k symbol) (getD (now (walk .entry)) 0 0)) (now (walk .entry)) (now (s .entry)) ⌝ }
+{
+    if no == 0 {
+        walk[0] = walk[0] + 1;
+        return put7(s, no, 0, t, slot, l, k, symbol);
+    }
+    if end {
+        return put7(s, 0, 1, 0, 0, 0, 0, 0);
+    }
+    put7(s, no, 0, 0, 0, 0, 0, 0)
 }

@@ -14,6 +14,8 @@ use Rattle.bitmap.specs.Quick.{BitmapFits}
 use Rattle.cell.specs.declared.Cell.{Cell}
 use Rattle.cell.specs.Bitmap.{ownBuffer, bitmapIn}
 use Rattle.cell.specs.Judge.{inBand, cellPortsListed, controlListed, numbersRefusal, formRefusal, noneAllowed, noneUsable, useRefusal, cellRefusal, judgeOf, inForceOf}
+use Rattle.cell.specs.Layout.{layoutOf}
+use Rattle.elements.specs.Elements.{Valid}
 
 pub record WellFormed (c : Cell) : Type 0 where
   pub carrier : c .carrier ≤ 1
@@ -103,3 +105,15 @@ module _ (c : Cell) (anchor other : List ℕ) where
   pub none-in-force : (judgeOf c anchor other ≡ 0 → ⊥) → [] ≡ inForceOf c anchor other
   unfolding inForceOf
   none-in-force n = sym (ap (λ (b : Bool). cond b (bitmapIn c (ownBuffer c anchor other)) []) (ne-eqb (judgeOf c anchor other) 0 n))
+
+-- its layout
+pub layout-valid : (c : Cell) → WellFormed c → Valid (layoutOf c)
+layout-valid c w = record {
+  shift = omega arith;
+  narrowband = ⊎-elim (λ e. (omega arith, omega arith)) (λ e. (omega arith, omega arith)) (w .nports);
+  cell =
+      ⊎-elim (λ e. (omega arith, λ z. omega arith))
+      (λ r. ⊎-elim (λ e. (omega arith, λ z. omega arith)) (λ s. ⊎-elim (λ e. (omega arith, λ z. omega arith)) (λ e. (omega arith, λ z. omega arith)) s) r)
+      (w .cports);
+  region = w .control;
+}

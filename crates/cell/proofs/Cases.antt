@@ -1,52 +1,128 @@
--- P10 and P11 of 01, with 02 L2, computed from the definitions. What is left free is standalone with one port.
+-- P10 and P11 of 01, as 02 L2 has them, and cells with no bitmap: for every cell whose numbers are listed. Of the two buffers only the
+-- carrier's own is read, and it is the one given here.
+use mathlib.Core.Bool.{Bool, true, false, not, _&&_, _||_}
 use mathlib.Core.List.{List, [], _∷_}
-use mathlib.Core.Path.{_≡_, refl}
-use Prim.Native.Nat.{ℕ}
+use mathlib.Core.Path.{_≡_, refl, sym, _∙_}
+use Prim.Native.Nat.{ℕ, _%_, _<_}
+use native.Mathlib.Omega.{arith}
+use lib.Dec.{T, eqb}
+use lib.ListN.{length}
+use borrow.Author.Tests.{eq-eqb, ne-eqb, le-ltb}
 use Rattle.counting.specs.Counting.{rank}
+use Rattle.counting.proofs.Facts.{both-parts, each-at, alike, alike-eq}
+use Rattle.counting.proofs.Range.{and-none}
+use Rattle.counting.proofs.Rank.{rank-zero, rank-strict, rank-none, rank-same}
+use Rattle.counting.specs.Bits.{bitOf}
 use Rattle.bitmap.specs.Bitmap.{bytesOf, listedLength, badBitmap, allowed}
+use Rattle.sync.proofs.Taken.{taken}
 use Rattle.cell.specs.declared.Cell.{Cell}
-use Rattle.cell.specs.Usable.{why}
-use Rattle.cell.specs.Judge.{numbersRefusal, formRefusal, useRefusal, cellRefusal, judgeOf}
-
-abbrev cell : ℕ → ℕ → ℕ → Cell
-cell carrier schedule bits = record {
-  mode = 3;
-  carrier = carrier;
-  identity = 0;
-  nports = 1;
-  cports = 0;
-  control = 0;
-  sib1 = schedule;
-  bits = bits;
-}
+use Rattle.cell.specs.Bitmap.{bitmapIn}
+use Rattle.cell.specs.Usable.{period, why, isAnchor, usable}
+use Rattle.cell.specs.Judge.{numbersRefusal, formRefusal, noneAllowed, noneUsable, useRefusal, cellRefusal}
+use Rattle.cell.proofs.Taken.{usable-is}
 
 -- ten bits with only 0 and 5 set
-abbrev fives : List ℕ
-fives = 0x84 ∷ 0 ∷ []
+abbrev zeroAndFive : List ℕ
+zeroAndFive = 0x84 ∷ 0 ∷ []
 
 -- forty bits with only bit 4
-abbrev four : List ℕ
-four = 0x08 ∷ 0 ∷ 0 ∷ 0 ∷ 0 ∷ []
+abbrev onlyFour : List ℕ
+onlyFour = 0x08 ∷ 0 ∷ 0 ∷ 0 ∷ 0 ∷ []
 
+-- ten bits with none set
 abbrev nothing : List ℕ
 nothing = 0 ∷ 0 ∷ []
 
-pub record Cases : Type 0 where
-  pub p10-anchor : judgeOf (cell 0 0 10) fives [] ≡ 18
-  pub p10-other : judgeOf (cell 1 0 10) [] fives ≡ 0
-  pub p11-sixteen-copies : judgeOf (cell 0 2 40) four [] ≡ 18
-  pub p11-eight-copies : judgeOf (cell 0 1 40) four [] ≡ 0
-  -- a bitmap that allows nothing, on either carrier
-  pub nothing-anchor : judgeOf (cell 0 0 10) nothing [] ≡ 8
-  pub nothing-other : judgeOf (cell 1 0 10) [] nothing ≡ 8
+-- ---- a test that passes somewhere, or nowhere
 
-pub cases : Cases
-unfolding rank allowed why bytesOf listedLength badBitmap numbersRefusal formRefusal useRefusal cellRefusal judgeOf
-cases = record {
-  p10-anchor = refl;
-  p10-other = refl;
-  p11-sixteen-copies = refl;
-  p11-eight-copies = refl;
-  nothing-anchor = refl;
-  nothing-other = refl;
-}
+some-pass : (u : ℕ → Bool) (t : ℕ) → t < period → u t ≡ true → eqb (rank u period) 0 ≡ false
+some-pass u t h e = ne-eqb (rank u period) 0 (λ z. omega (arith, rank-strict u t period e h))
+
+none-pass : (u : ℕ → Bool) → ((t : ℕ) → u t ≡ false) → eqb (rank u period) 0 ≡ true
+none-pass u h = eq-eqb (rank u period) 0 (rank-none u 0 period (λ t a b. h t) ∙ rank-zero u)
+
+-- ---- a cell whose numbers and bitmap are listed
+
+module _ (c : Cell) (own : List ℕ) (numbers : numbersRefusal c ≡ 0) (bitmap : badBitmap (c .bits) own ≡ false) where
+  no-subframe : noneAllowed c own ≡ true → cellRefusal c own ≡ 8
+  unfolding cellRefusal formRefusal useRefusal
+  no-subframe a = rw (numbers, bitmap, a) refl
+
+  all-taken : noneAllowed c own ≡ false → noneUsable c own ≡ true → cellRefusal c own ≡ 18
+  unfolding cellRefusal formRefusal useRefusal
+  all-taken a u = rw (numbers, bitmap, a, u) refl
+
+  some-usable : (t : ℕ) → t < period → usable c (bitmapIn c own) t ≡ true → cellRefusal c own ≡ 0
+  unfolding cellRefusal formRefusal useRefusal
+  some-usable t h e =
+      let a : noneAllowed c own ≡ false = some-pass _ t h (both-parts _ _ (sym (usable-is c (bitmapIn c own) t) ∙ e) .0) in
+      let u : noneUsable c own ≡ false = some-pass (usable c (bitmapIn c own)) t h e in
+      rw (numbers, bitmap, a, u) refl
+
+-- ---- no bitmap: subframe 1 is always usable
+
+pub unmapped : (c : Cell) (own : List ℕ) → numbersRefusal c ≡ 0 → c .bits ≡ 0 → cellRefusal c own ≡ 0
+unfolding badBitmap listedLength bytesOf allowed
+unmapped c own numbers b =
+    some-usable c own numbers (rw (b, le-ltb (length own) 0 (omega arith)) refl) 1 (omega arith)
+    (usable-is c (bitmapIn c own) 1 ∙ rw (b, and-none (isAnchor c)) refl)
+
+-- ---- P10: the anchor takes subframes 0 and 5
+
+-- a subframe that is allowed is one of two that are taken
+shut : (allows first second rest : Bool) → T (not allows || (first || second)) → (allows && not (first || (second || rest))) ≡ false
+shut false first second rest t = refl
+shut true true second rest t = refl
+shut true false true rest t = refl
+shut true false false rest t = absurd t
+
+module _ (c : Cell) (numbers : numbersRefusal c ≡ 0) (b : c .bits ≡ 10) where
+  fits : badBitmap (c .bits) zeroAndFive ≡ false
+  unfolding badBitmap listedLength bytesOf
+  fits = rw b refl
+
+  pub ten-anchor : c .carrier ≡ 0 → cellRefusal c zeroAndFive ≡ 18
+  unfolding bytesOf allowed
+  ten-anchor a = all-taken c zeroAndFive numbers fits (some-pass _ 0 (omega arith) (rw b refl)) (none-pass _ never)
+    where
+      never : (t : ℕ) → usable c (bitmapIn c zeroAndFive) t ≡ false
+      never t =
+          usable-is c (bitmapIn c zeroAndFive) t
+          ∙ rw (b, a)
+          (shut (bitOf zeroAndFive (t % 10)) (eqb (t % 10) 0) (eqb (t % 10) 5) _
+          (each-at 10 (λ r. not (bitOf zeroAndFive r) || (eqb r 0 || eqb r 5)) tt (t % 10) (omega arith)))
+
+  pub ten-other : c .carrier ≡ 1 → cellRefusal c zeroAndFive ≡ 0
+  unfolding bytesOf allowed
+  ten-other a =
+      some-usable c zeroAndFive numbers fits 0 (omega arith)
+      (usable-is c (bitmapIn c zeroAndFive) 0 ∙ rw (b, ne-eqb (c .carrier) 0 (λ z. omega arith)) refl)
+
+  -- a bitmap that allows nothing, on either carrier
+  pub ten-nothing : cellRefusal c nothing ≡ 8
+  unfolding badBitmap listedLength bytesOf allowed
+  ten-nothing =
+      no-subframe c nothing numbers (rw b refl)
+      (none-pass _ (λ t. rw b (alike-eq (bitOf nothing (t % 10)) false (each-at 10 (λ r. alike (bitOf nothing r) false) tt (t % 10) (omega arith)))))
+
+-- ---- P11: SIB1 with 16 copies takes subframe 4 of every even frame, with 8 copies not of frame 16
+
+-- every fourth frame is even
+all-sixteen : rank (λ t. allowed onlyFour 40 t && not (taken 0 2 t)) period ≡ 0
+unfolding rank allowed
+all-sixteen = refl
+
+module _ (c : Cell) (numbers : numbersRefusal c ≡ 0) (a : c .carrier ≡ 0) (i : c .identity ≡ 0) (b : c .bits ≡ 40) where
+  four-fits : badBitmap (c .bits) onlyFour ≡ false
+  unfolding badBitmap listedLength bytesOf
+  four-fits = rw b refl
+
+  pub forty-16 : c .sib1 ≡ 2 → cellRefusal c onlyFour ≡ 18
+  unfolding bytesOf allowed
+  forty-16 s =
+      all-taken c onlyFour numbers four-fits (some-pass _ 4 (omega arith) (rw b refl))
+      (eq-eqb _ 0 (rank-same _ _ period (λ t h. usable-is c (bitmapIn c onlyFour) t ∙ rw (a, i, b, s) refl) ∙ all-sixteen))
+
+  pub forty-8 : c .sib1 ≡ 1 → cellRefusal c onlyFour ≡ 0
+  unfolding bytesOf allowed why
+  forty-8 s = some-usable c onlyFour numbers four-fits 164 (omega arith) (rw (a, i, b, s) refl)

@@ -18,7 +18,7 @@ use Rattle.cell.specs.declared.Verdict.{Verdict}
 use Rattle.cell.specs.Bitmap.{bitmapIn}
 use Rattle.cell.specs.Usable.{period, usable}
 use Rattle.cell.specs.Judge.{formRefusal, noneAllowed, noneUsable, useRefusal, cellRefusal}
-use Rattle.cell.specs.Quick.{Shows, Leaves, VerdictOn, seen, causeOn}
+use Rattle.cell.specs.Quick.{Shows, ShowsLoaded, VerdictOn, seen, causeOn}
 use Rattle.cell.proofs.Accepted.{form-bitmap}
 use Rattle.cell.proofs.Showing.{none-allowed, some-allowed, seen-is, some-usable, none-usable}
 
@@ -58,7 +58,7 @@ module _ (c : Cell) (own : List ℕ) where
         (by-use true (noneUsable c own) (eq-eqb (rank (allowed (bitmapIn c own) (c .bits)) period) 0 (none-allowed c own m (form-bitmap c own f) l e)) refl)
         (λ z. omega arith) h
 
-    module _ (some : m ≡ 0 → ⊥) (p : Pattern) (a : Leaves c m p) where
+    module _ (some : m ≡ 0 → ⊥) (p : Pattern) (a : ShowsLoaded c m p) where
       shown : Shows c (bitmapIn c own) p
       shown = a .shows own (form-bitmap c own f) l
 

@@ -22,8 +22,8 @@ use Rattle.spans.proofs.Laws.{ones-none, ones-some, mask-bits, repeats}
 use Rattle.bitmap.specs.Bitmap.{allowed}
 use Rattle.bitmap.specs.Quick.{Loaded, BitmapFits}
 use Rattle.bitmap.proofs.Forty.{allowed-forty, allowed-front}
-use Rattle.anchor.specs.Quick.{anchorPattern}
-use Rattle.anchor.proofs.Taken.{taken, anchor-regular, anchor-allows}
+use Rattle.sync.specs.Quick.{anchorPattern}
+use Rattle.sync.proofs.Taken.{taken, anchor-regular, anchor-allows}
 use Rattle.cell.specs.declared.Cell.{Cell}
 use Rattle.cell.specs.declared.Cause.{Cause}
 use Rattle.cell.specs.declared.Cause.the-variants.{None}
@@ -82,7 +82,7 @@ module _ (c : Cell) (own : List ℕ) (m : ℕ) (fits : BitmapFits (c .bits) own)
   left = record {
     log = anchorPattern (c .identity) (c .sib1) .log;
     first = anchorPattern (c .identity) (c .sib1) .first;
-    plain = bitAnd m (anchorPattern (c .identity) (c .sib1) .plain);
+    usual = bitAnd m (anchorPattern (c .identity) (c .sib1) .usual);
     sib1 = bitAnd m (anchorPattern (c .identity) (c .sib1) .sib1);
   }
 
@@ -94,7 +94,7 @@ module _ (c : Cell) (own : List ℕ) (m : ℕ) (fits : BitmapFits (c .bits) own)
   unfolding allows
   left-allows t =
       let p = anchorPattern (c .identity) (c .sib1) in
-      ap (λ (x : ℕ). maskBit x (t % span)) (both-masks (withSib1 p (t / span)) (p .sib1) (p .plain)) ∙ and-bits m (maskAt p (t / span)) (39 - t % span)
+      ap (λ (x : ℕ). maskBit x (t % span)) (both-masks (withSib1 p (t / span)) (p .sib1) (p .usual)) ∙ and-bits m (maskAt p (t / span)) (39 - t % span)
 
   pub shows-anchor : isAnchor c ≡ true → Shows c (bitmapIn c own) left
   shows-anchor e =
@@ -104,10 +104,10 @@ module _ (c : Cell) (own : List ℕ) (m : ℕ) (fits : BitmapFits (c .bits) own)
         regular = record {
           fits = ok .fits;
           few = ok .few;
-          plain-small = omega (arith, and-le-l m (p .plain), l .small);
+          usual-small = omega (arith, and-le-l m (p .usual), l .small);
           sib1-small = omega (arith, and-le-l m (p .sib1), l .small);
         };
-        turns = anchorTurns (c .sib1);
+        times = anchorTurns (c .sib1);
         whole = anchor-whole (c .identity) (c .sib1);
         bits = bits-of left λ t.
             left-allows t ∙ ap₂ (λ (x y : Bool). x && y) (digit-allows t) (anchor-allows (c .identity) (c .sib1) t) ∙ sym (usable-by t true e);
@@ -116,7 +116,7 @@ module _ (c : Cell) (own : List ℕ) (m : ℕ) (fits : BitmapFits (c .bits) own)
   -- ---- on a non-anchor the bitmap alone decides
 
   abbrev alone : Pattern
-  alone = record { log = 2; first = 0; plain = m; sib1 = m }
+  alone = record { log = 2; first = 0; usual = m; sib1 = m }
 
   one-mask : (b : Bool) → cond b m m ≡ m
   one-mask true = refl
@@ -128,8 +128,8 @@ module _ (c : Cell) (own : List ℕ) (m : ℕ) (fits : BitmapFits (c .bits) own)
 
   pub shows-other : isAnchor c ≡ false → Shows c (bitmapIn c own) alone
   shows-other e = record {
-    regular = record { fits = omega arith; few = omega arith; plain-small = l .small; sib1-small = l .small };
-    turns = 16;
+    regular = record { fits = omega arith; few = omega arith; usual-small = l .small; sib1-small = l .small };
+    times = 16;
     whole = refl;
     bits = bits-of alone λ t. alone-allows t ∙ digit-allows t ∙ sym (and-true (allowed (bitmapIn c own) (c .bits) t)) ∙ sym (usable-by t false e);
   }
@@ -151,17 +151,17 @@ module _ (c : Cell) (b : List ℕ) (p : Pattern) (s : Shows c b p) where
   unfolding seen
   seen-is t = ap (λ (u : Bool). cond u None (whyNot c t)) (same t) ∙ why-by c b t
 
-  period-rank : rank (usable c b) period ≡ s .turns * rank (allows p) (periodOf p)
+  period-rank : rank (usable c b) period ≡ s .times * rank (allows p) (periodOf p)
   period-rank =
       ap (λ (u : ℕ → Bool). rank u period) (sym same-test) ∙ ap (rank (allows p)) (sym (s .whole))
-      ∙ rank-whole (allows p) (periodOf p) (repeats p (s .regular)) (s .turns)
+      ∙ rank-whole (allows p) (periodOf p) (repeats p (s .regular)) (s .times)
 
-  some-turns : 0 < s .turns
-  some-turns = ⊎-elim (λ h. h) (λ h. absurd (none h)) (order 0 (s .turns))
+  some-turns : 0 < s .times
+  some-turns = ⊎-elim (λ h. h) (λ h. absurd (none h)) (order 0 (s .times))
     where
-      none : s .turns ≤ 0 → ⊥
+      none : s .times ≤ 0 → ⊥
       none h =
-          let z : s .turns ≡ 0 = omega arith in
+          let z : s .times ≡ 0 = omega arith in
           omega (arith, sym (s .whole) ∙ ap (λ (x : ℕ). x * periodOf p) z ∙ zero-mul (periodOf p))
 
   -- refusal 18, either way
@@ -169,12 +169,12 @@ module _ (c : Cell) (b : List ℕ) (p : Pattern) (s : Shows c b p) where
   some-usable h = omega (arith, period-rank, mul-pos some-turns h)
 
   pub none-usable : rank (allows p) (periodOf p) ≡ 0 → rank (usable c b) period ≡ 0
-  none-usable h = period-rank ∙ ap (λ (x : ℕ). s .turns * x) h ∙ mul-zero (s .turns)
+  none-usable h = period-rank ∙ ap (λ (x : ℕ). s .times * x) h ∙ mul-zero (s .times)
 
   pub usable-repeats : (t : ℕ) → usable c b (t + period) ≡ usable c b t
   usable-repeats t =
       sym (same (t + period)) ∙ ap (λ (x : ℕ). allows p (t + x)) (sym (s .whole))
-      ∙ repeats-times (allows p) (periodOf p) (repeats p (s .regular)) (s .turns) t ∙ same t
+      ∙ repeats-times (allows p) (periodOf p) (repeats p (s .regular)) (s .times) t ∙ same t
 
   pub select-usable : 0 < rank (allows p) (periodOf p) → (f j : ℕ) → select (allows p) (periodOf p) f j ≡ select (usable c b) period f j
   select-usable some f j =

@@ -8,9 +8,9 @@ use native.Mathlib.Omega.{arith}
 use lib.Dec.{lit<}
 use Rattle.spans.specs.Pattern.{span, periodOf}
 use Rattle.bitmap.specs.Bitmap.{allowed}
-use Rattle.anchor.specs.Anchor.{npbch, npss, nsss, bySchedule, sib1}
-use Rattle.anchor.specs.Quick.{anchorPattern}
-use Rattle.anchor.proofs.Taken.{taken}
+use Rattle.sync.specs.Sync.{npbch, npss, nsss, bySchedule, sib1}
+use Rattle.sync.specs.Quick.{anchorPattern}
+use Rattle.sync.proofs.Taken.{taken}
 use Rattle.cell.specs.declared.Cell.{Cell}
 use Rattle.cell.specs.declared.Cause.{Cause}
 use Rattle.cell.specs.declared.Cause.the-variants.{None, Npbch, Npss, Nsss, Sib1, Bitmap}

@@ -1,4 +1,5 @@
 pub mod Bitmap
 pub mod Usable
 pub mod Judge
+pub mod Layout
 pub mod Quick

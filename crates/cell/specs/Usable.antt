@@ -4,7 +4,7 @@ use mathlib.Core.List.{List}
 use Prim.Native.Nat.{ℕ}
 use lib.Dec.{eqb}
 use Rattle.bitmap.specs.Bitmap.{allowed}
-use Rattle.anchor.specs.Anchor.{npbch, npss, nsss, sib1}
+use Rattle.sync.specs.Sync.{npbch, npss, nsss, sib1}
 use Rattle.cell.specs.declared.Cell.{Cell}
 use Rattle.cell.specs.declared.Cause.{Cause}
 use Rattle.cell.specs.declared.Cause.the-variants.{None, Npbch, Npss, Nsss, Sib1, Bitmap}
@@ -35,13 +35,13 @@ none Sib1 = false
 none Bitmap = false
 
 -- a cause's number; 5 is kept for a system information message
-abbrev pub numberOf : Cause → ℕ
-numberOf None = 0
-numberOf Npbch = 1
-numberOf Npss = 2
-numberOf Nsss = 3
-numberOf Sib1 = 4
-numberOf Bitmap = 6
+abbrev pub causeNumber : Cause → ℕ
+causeNumber None = 0
+causeNumber Npbch = 1
+causeNumber Npss = 2
+causeNumber Nsss = 3
+causeNumber Sib1 = 4
+causeNumber Bitmap = 6
 
 abbrev pub usable : Cell → List ℕ → ℕ → Bool
 usable c b t = none (why c b t)

@@ -6,9 +6,12 @@ ghost use lib.Dec.{eqb, leb};
 ghost use Rattle.spans.specs.Pattern.{Regular};
 ghost use Rattle.cell.specs.Bitmap.{ownBuffer};
 ghost use Rattle.cell.specs.Judge.{numbersRefusal, formRefusal, cellRefusal, judgeOf, inForceOf, causeOf};
-ghost use Rattle.cell.specs.Quick.{whyNot, seen, Leaves, VerdictOn, causeOn};
-ghost use Rattle.cell.specs.Usable.{numberOf};
+ghost use Rattle.cell.specs.Quick.{whyNot, seen, ShowsLoaded, VerdictOn, causeOn, countOn};
+ghost use Rattle.cell.specs.Usable.{causeNumber};
+ghost use Rattle.cell.specs.Layout.{layoutOf, elementCountOf};
 pub use bitmap::bytes as bitmap_bytes;
+use elements::Layout;
+use grid::Grid;
 use spans::Pattern;
 
 pub struct Cell {
@@ -106,27 +109,28 @@ pub fn form_refusal(c: Cell, own: &[u8]) -> u64
 
 // What a pattern and a mask of forty both allow.
 fn withheld(p: Pattern, m: u64) -> Pattern
-    ensures { λ r. ⌜ r ≡ record { log = p .log; first = p .first; plain = bitAnd m (p .plain); sib1 = bitAnd m (p .sib1) } ⌝ }
+    ensures { λ r. ⌜ r
+        ≡ record { log = p .log; first = p .first; usual = bitAnd m (p .usual); sib1 = bitAnd m (p .sib1) } ⌝ }
 {
     Pattern {
         log: p.log,
         first: p.first,
-        plain: m & p.plain,
+        usual: m & p.usual,
         sib1: m & p.sib1,
     }
 }
 
 // The usable subframes of a well-formed cell, m its bitmap as a number.
 fn pattern(c: Cell, m: u64) -> Pattern
-    ensures { λ r. ⌜ Leaves c m r ⌝ }
+    ensures { λ r. ⌜ ShowsLoaded c m r ⌝ }
 {
     if c.carrier == 0 {
-        return withheld(anchor::pattern(c.identity, c.sib1), m);
+        return withheld(sync::pattern(c.identity, c.sib1), m);
     }
     Pattern {
         log: 2,
         first: 0,
-        plain: m,
+        usual: m,
         sib1: m,
     }
 }
@@ -139,14 +143,14 @@ fn refused(no: u64) -> Verdict
         pattern: Pattern {
             log: 2,
             first: 0,
-            plain: 0,
+            usual: 0,
             sib1: 0,
         },
     }
 }
 
-// 8, 18 or the pattern, of a cell with none of the refusals 1 to 7. Some questions ask for both in turn: one function of them is too long for
-// the compiler to put into each.
+// 8, 18 or the pattern, of a cell with none of the refusals 1 to 7. Some questions ask for both in turn: one function
+// of them is too long for the compiler to put into each.
 pub fn formed(c: Cell, own: &[u8]) -> Verdict
     requires { ⌜ formRefusal c (now own) ≡ 0 ⌝ }
     ensures { λ r. ⌜ VerdictOn c (now (own .entry)) r ⌝ }
@@ -222,16 +226,16 @@ pub fn why_not(c: Cell, t: u64) -> Cause
     if c.carrier != 0 {
         return Cause::Bitmap;
     }
-    if anchor::is_npbch(t) {
+    if sync::is_npbch(t) {
         return Cause::Npbch;
     }
-    if anchor::is_npss(t) {
+    if sync::is_npss(t) {
         return Cause::Npss;
     }
-    if anchor::is_nsss(t) {
+    if sync::is_nsss(t) {
         return Cause::Nsss;
     }
-    if anchor::is_sib1(c.identity, c.sib1, t) {
+    if sync::is_sib1(c.identity, c.sib1, t) {
         return Cause::Sib1;
     }
     Cause::Bitmap
@@ -283,8 +287,8 @@ pub fn cause_at(c: Cell, anchor: &[u8], other: &[u8], t: u64) -> CauseAnswer
 }
 
 // The number of a cause.
-pub fn number(cause: Cause) -> u64
-    ensures { λ r. ⌜ r ≡ numberOf cause ⌝ }
+pub fn cause_number(cause: Cause) -> u64
+    ensures { λ r. ⌜ r ≡ causeNumber cause ⌝ }
 {
     match cause {
         Cause::None => 0,
@@ -294,4 +298,49 @@ pub fn number(cause: Cause) -> u64
         Cause::Sib1 => 4,
         Cause::Bitmap => 6,
     }
+}
+
+// The layout of a subframe of a cell.
+pub fn layout(c: Cell) -> Layout
+    ensures { λ r. ⌜ r ≡ layoutOf c ⌝ }
+{
+    Layout {
+        v: c.identity % 6,
+        nports: c.nports,
+        cports: c.cports,
+        control: c.control,
+    }
+}
+
+// The answer: the refusal number; E.
+pub struct ElementCount {
+    pub no: u64,
+    pub e: u64,
+}
+
+// E of a cell, judged by its own buffer: the eligible elements of a subframe.
+fn count_own(c: Cell, own: &[u8]) -> ElementCount
+    ensures { λ r. ⌜ r ≡ countOn c (now (own .entry)) ⌝ }
+{
+    let form = form_refusal(c, own);
+    if form != 0 {
+        return ElementCount { no: form, e: 0 };
+    }
+    let no = formed(c, own).no;
+    if no != 0 {
+        return ElementCount { no, e: 0 };
+    }
+    ElementCount {
+        no: 0,
+        e: elements::count(layout(c), 0, Grid::SUBCARRIERS),
+    }
+}
+
+pub fn element_count(c: Cell, anchor: &[u8], other: &[u8]) -> ElementCount
+    ensures { λ r. ⌜ r ≡ elementCountOf c (now (anchor .entry)) (now (other .entry)) ⌝ }
+{
+    if c.carrier == 0 {
+        return count_own(c, anchor);
+    }
+    count_own(c, other)
 }

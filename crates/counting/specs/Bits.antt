@@ -1,7 +1,9 @@
 -- The binary digits of a number, the lowest first.
 use mathlib.Core.Bool.{Bool, true, false, _||_}
+use lib.ListN.{getD}
+use mathlib.Core.List.{List}
 use mathlib.Core.Path.{_≡_}
-use Prim.Native.Nat.{ℕ, zero, suc, _/_, _%_, _^_}
+use Prim.Native.Nat.{ℕ, zero, suc, _/_, _%_, _^_, _-_}
 use lib.Dec.{eqb}
 use Rattle.counting.specs.Counting.{rank}
 
@@ -18,3 +20,7 @@ pub record NthOne (m k r : ℕ) : Type 0 where
 abbrev pub powerBelow : ℕ → ℕ → Bool
 powerBelow zero x = false
 powerBelow (suc n) x = eqb x (2 ^ n) || powerBelow n x
+
+-- bit i of bytes b, the first bit the highest of byte 0
+abbrev pub bitOf : List ℕ → ℕ → Bool
+bitOf b i = bitAt (getD b (i / 8) 0) (7 - i % 8)

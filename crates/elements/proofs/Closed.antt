@@ -13,8 +13,8 @@ use borrow.Author.Tests.{lt-ltb, le-ltb, ltb-false, lt-leb, le-leb}
 use Rattle.counting.proofs.Facts.{order}
 use Rattle.counting.proofs.Rank.{rank-zero}
 use Rattle.grid.specs.Grid.{subcarriers, symbols, slots, elementOf}
-use Rattle.ncce.specs.Ncce.{ncceWidth}
-use Rattle.ncce.specs.Quick.{closedCount}
+use Rattle.elements.specs.Elements.{ncceWidth}
+use Rattle.references.specs.Quick.{closedCount}
 use Rattle.elements.specs.declared.Layout.{Layout}
 use Rattle.elements.specs.declared.Spot.{Spot}
 use Rattle.elements.specs.Elements.{controlRegion, used, numberOf, Valid, Part}

@@ -11,11 +11,11 @@ use Rattle.counting.proofs.Range.{in-range}
 use Rattle.counting.proofs.Rank.{rank-le, rank-same, rank-strict}
 use Rattle.counting.proofs.Select.{lists-below}
 use Rattle.grid.specs.Grid.{subcarriers, elements, elementOf, slotOf, symbolOf, subcarrierOf}
-use Rattle.ncce.specs.Ncce.{ncceWidth, npdcchFrom, npdcchWidth}
+use Rattle.elements.specs.Elements.{ncceWidth}
 use Rattle.elements.specs.declared.Layout.{Layout}
-use Rattle.elements.specs.declared.Standing.{Standing}
-use Rattle.elements.specs.declared.Standing.the-variants.{Used, Other}
-use Rattle.elements.specs.Elements.{nrs, crs, reference, controlRegion, eligible, used, kindOf, countOf, elementAt, numberOf, standingOf, Part}
+use Rattle.elements.specs.declared.ElementUse.{ElementUse}
+use Rattle.elements.specs.declared.ElementUse.the-variants.{Used, Unused}
+use Rattle.elements.specs.Elements.{nrs, crs, reference, controlRegion, eligible, used, kindOf, countOf, elementAt, numberOf, elementUseOf, Part}
 use Rattle.elements.proofs.Marked.{and-false}
 use Rattle.elements.proofs.Rows.{row-used}
 
@@ -83,38 +83,31 @@ module _ (g : Layout) (from width : ℕ) where
 
 -- ---- what an answer says of its element
 
-abbrev numberIn : Standing → ℕ
+abbrev numberIn : ElementUse → ℕ
 numberIn (Used e) = e
-numberIn (Other kind) = kind
+numberIn (Unused kind) = kind
 
-used-by : (b : Bool) (n k e : ℕ) → cond b (Used n) (Other k) ≡ Used e → (b ≡ true) × (n ≡ e)
+used-by : (b : Bool) (n k e : ℕ) → cond b (Used n) (Unused k) ≡ Used e → (b ≡ true) × (n ≡ e)
 used-by true n k e h = (refl, ap numberIn h)
 used-by false n k e h = let z : _≡_ {A = ℕ} 0 1 = cc in absurd (omega arith)
 
-other-by : (b : Bool) (n k e : ℕ) → cond b (Used n) (Other k) ≡ Other e → (b ≡ false) × (k ≡ e)
+other-by : (b : Bool) (n k e : ℕ) → cond b (Used n) (Unused k) ≡ Unused e → (b ≡ false) × (k ≡ e)
 other-by true n k e h = let z : _≡_ {A = ℕ} 0 1 = cc in absurd (omega arith)
 other-by false n k e h = (refl, ap numberIn h)
 
 module _ (g : Layout) (from width x e : ℕ) where
-  pub standing-used : standingOf g from width x ≡ Used e → (used g from width x ≡ true) × (numberOf g from width x ≡ e)
-  unfolding standingOf
-  standing-used h = used-by (used g from width x) (numberOf g from width x) (kindOf g x) e h
+  pub use-used : elementUseOf g from width x ≡ Used e → (used g from width x ≡ true) × (numberOf g from width x ≡ e)
+  unfolding elementUseOf
+  use-used h = used-by (used g from width x) (numberOf g from width x) (kindOf g x) e h
 
-  pub standing-other : standingOf g from width x ≡ Other e → (used g from width x ≡ false) × (kindOf g x ≡ e)
-  unfolding standingOf
-  standing-other h = other-by (used g from width x) (numberOf g from width x) (kindOf g x) e h
+  pub use-unused : elementUseOf g from width x ≡ Unused e → (used g from width x ≡ false) × (kindOf g x ≡ e)
+  unfolding elementUseOf
+  use-unused h = other-by (used g from width x) (numberOf g from width x) (kindOf g x) e h
 
 -- ---- the parts that grants use
 
 pub whole-part : Part 0 subcarriers
 whole-part = record { starts = refl; whole = refl; some = omega arith; inside = omega arith }
-
-pub npdcch-part : (format ncce : ℕ) → ncce ≤ 1 → Part (npdcchFrom format ncce) (npdcchWidth format)
-npdcch-part format ncce h = by (eqb format 0)
-  where
-    by : (b : Bool) → Part (cond b (ncceWidth * ncce) 0) (cond b ncceWidth subcarriers)
-    by true = record { starts = omega arith; whole = refl; some = omega arith; inside = omega arith }
-    by false = whole-part
 
 -- on all subcarriers each eligible element is used
 pub all-used : (g : Layout) → rank (eligible g) elements ≡ countOf g 0 subcarriers

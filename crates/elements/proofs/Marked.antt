@@ -10,9 +10,9 @@ use borrow.Author.Tests.{le-ltb, le-leb, lt-leb}
 use Rattle.counting.specs.Counting.{rank, inRange}
 use Rattle.counting.proofs.Facts.{order, each, each-at, alike, alike-eq}
 use Rattle.grid.specs.Grid.{subcarriers, symbols}
-use Rattle.ncce.specs.declared.Marks.{Marks}
-use Rattle.ncce.specs.Ncce.{ncceWidth}
-use Rattle.ncce.specs.Quick.{marksBy, marksOf}
+use Rattle.references.specs.declared.Marks.{Marks}
+use Rattle.elements.specs.Elements.{ncceWidth}
+use Rattle.references.specs.Quick.{marksBy, marksOf}
 use Rattle.elements.specs.declared.Layout.{Layout}
 use Rattle.elements.specs.Elements.{nrsOn, nrs, crsOn, crs, reference, Valid, Part}
 use Rattle.elements.specs.Quick.{sumsOf, sixBefore, freeOf, isFree, nthIn, placeIn, referenceKind}

@@ -7,8 +7,8 @@ use borrow.Author.Tests.{le-leb, lt-ltb}
 use Rattle.counting.specs.Counting.{inRange}
 use Rattle.grid.specs.Grid.{subcarriers, symbols, slots, elementOf}
 use Rattle.elements.specs.declared.Layout.{Layout}
-use Rattle.elements.specs.declared.Standing.the-variants.{Used, Other}
-use Rattle.elements.specs.Elements.{reference, controlRegion, used, kindOf, numberOf, standingOf, Valid, Part}
+use Rattle.elements.specs.declared.ElementUse.the-variants.{Used, Unused}
+use Rattle.elements.specs.Elements.{reference, controlRegion, used, kindOf, numberOf, elementUseOf, Valid, Part}
 use Rattle.elements.specs.Quick.{freeOf, isFree, placeIn, referenceKind, RowOf}
 use Rattle.elements.proofs.Marked.{and-false, marksIn, free-some, row-place, reference-marked}
 use Rattle.elements.proofs.Rows.{row-used, row-open, open-part, row-kind}
@@ -34,25 +34,25 @@ module _ (g : Layout) (v : Valid g) (from width : ℕ) (p : Part from width) (sl
   abbrev plain : Bool
   plain = isFree (marksIn g v l hl) (k % 6)
 
-  other : (n : ℕ) → used g from width x ≡ false → kindOf g x ≡ n → Other n ≡ standingOf g from width x
-  unfolding standingOf
+  other : (n : ℕ) → used g from width x ≡ false → kindOf g x ≡ n → Unused n ≡ elementUseOf g from width x
+  unfolding elementUseOf
   other n e f = rw (e, f) refl
 
-  pub stands-reference : plain ≡ false → Other (referenceKind l) ≡ standingOf g from width x
+  pub stands-reference : plain ≡ false → Unused (referenceKind l) ≡ elementUseOf g from width x
   stands-reference e =
       other (referenceKind l)
       (row-used g from width slot l hs hl k hk ∙ (rw (reference-marked g v l hl k, e, and-false (not (controlRegion g slot l))) refl))
       (row-kind g from width slot l hs hl v k hk ∙ (rw e refl))
 
-  pub stands-plain : plain ≡ true → (controlRegion g slot l || not (inRange from width k)) ≡ true → Other 0 ≡ standingOf g from width x
+  pub stands-plain : plain ≡ true → (controlRegion g slot l || not (inRange from width k)) ≡ true → Unused 0 ≡ elementUseOf g from width x
   stands-plain e f =
       other 0
       (row-used g from width slot l hs hl k hk ∙ shut-or (controlRegion g slot l) (inRange from width k) (not (reference g l k)) f)
       (row-kind g from width slot l hs hl v k hk ∙ (rw e refl))
 
   pub stands-used : plain ≡ true → controlRegion g slot l ≡ false → inRange from width k ≡ true → (start n : ℕ) → start ≡ numberOf g from width (elementOf slot l 0)
-      → n ≡ placeIn (marksIn g v l hl) (freeOf (g .nports) (g .cports) l) from k (k % 6) → Used (start + n) ≡ standingOf g from width x
-  unfolding standingOf
+      → n ≡ placeIn (marksIn g v l hl) (freeOf (g .nports) (g .cports) l) from k (k % 6) → Used (start + n) ≡ elementUseOf g from width x
+  unfolding elementUseOf
   stands-used e c i start n hb hn =
       let f = free-some g v l hl in
       let u : used g from width x ≡ true = row-open g from width slot l hs hl v c k hk ∙ (rw (e, i) refl) in

@@ -7,10 +7,9 @@ use lib.Dec.{eqb, ltb, leb}
 use mir.Val.{boolByte}
 use Rattle.counting.specs.Counting.{rank, select, inRange}
 use Rattle.grid.specs.Grid.{subcarriers, elements, slotOf, symbolOf, subcarrierOf}
-use Rattle.ncce.specs.Ncce.{ncceWidth}
 use Rattle.elements.specs.declared.Layout.{Layout}
-use Rattle.elements.specs.declared.Standing.{Standing}
-use Rattle.elements.specs.declared.Standing.the-variants.{Used, Other}
+use Rattle.elements.specs.declared.ElementUse.{ElementUse}
+use Rattle.elements.specs.declared.ElementUse.the-variants.{Used, Unused}
 
 -- every accepted cell has such a layout: v is the identity mod 6; 1 or 2 narrowband ports; 0, 1, 2 or 4 cell ports; control region 0 to 3
 pub record Valid (g : Layout) : Type 0 where
@@ -92,10 +91,14 @@ abbrev pub numberOf : Layout → ℕ → ℕ → ℕ → ℕ
 numberOf g from width x = rank (used g from width) x
 
 -- an element by its number where it is used, by its kind elsewhere
-unfoldable pub standingOf : Layout → ℕ → ℕ → ℕ → Standing
-standingOf g from width x = cond (used g from width x) (Used (numberOf g from width x)) (Other (kindOf g x))
+unfoldable pub elementUseOf : Layout → ℕ → ℕ → ℕ → ElementUse
+elementUseOf g from width x = cond (used g from width x) (Used (numberOf g from width x)) (Unused (kindOf g x))
 
 -- ---- the parts that are used: NPDSCH uses all subcarriers, NPDCCH one NCCE or both (clause 10.2.5.1)
+
+-- NCCE 0 is k 0 to 5, NCCE 1 is k 6 to 11
+abbrev pub ncceWidth : ℕ
+ncceWidth = 6
 
 -- one NCCE or both
 pub record Part (from width : ℕ) : Type 0 where

@@ -5,8 +5,8 @@ use Prim.Native.Nat.{ℕ, _+_, _-_, _*_, _/_, _%_, _^_, _<_}
 use lib.Dec.{eqb, ltb, leb}
 use mir.Val.{boolByte}
 use Rattle.grid.specs.Grid.{subcarriers, symbols, slots, elementOf}
-use Rattle.ncce.specs.declared.Marks.{Marks}
-use Rattle.ncce.specs.Quick.{takenAt0, takenAt1}
+use Rattle.references.specs.declared.Marks.{Marks}
+use Rattle.references.specs.Quick.{takenAt0, takenAt1}
 use Rattle.elements.specs.declared.Layout.{Layout}
 use Rattle.elements.specs.declared.Spot.{Spot}
 use Rattle.elements.specs.declared.Row.{Row}

@@ -4,13 +4,16 @@ ghost use mathlib.Core.Path.{_≡_};
 ghost use Prim.Native.Nat.{_+_, _*_, _/_, _^_, _<_, _≤_};
 ghost use Rattle.grid.specs.Grid.{subcarriers, symbols, slots, elements, elementOf};
 ghost use Rattle.counting.specs.Counting.{inRange};
-ghost use Rattle.ncce.specs.Ncce.{ncceWidth};
-ghost use Rattle.elements.specs.Elements.{controlRegion, countOf, elementAt, numberOf, standingOf, Valid, Part};
-ghost use Rattle.elements.specs.Quick.{rows, sumsOf, byteOf, sixBefore, freeOf, sixInRows, nthFree, nthIn, placeIn, referenceKind, SpotOf, RowOf, hasIn};
+ghost use Rattle.elements.specs.Elements.{ncceWidth};
+ghost use Rattle.elements.specs.Elements.{controlRegion, countOf, elementAt, numberOf, elementUseOf, Valid, Part};
+ghost use Rattle.elements.specs.Quick.{rows, sumsOf, byteOf, sixBefore, freeOf, sixInRows, nthFree, nthIn};
+ghost use Rattle.elements.specs.Quick.{placeIn, referenceKind, SpotOf, RowOf, hasIn};
 use grid::Grid;
-use ncce::Marks;
-use ncce::NCCE_WIDTH;
-use ncce::one;
+use references::Marks;
+use references::one;
+
+// Subcarriers of an NCCE.
+pub const NCCE_WIDTH: u64 = 6;
 
 // The layout of a subframe, apart from the cell: identity mod 6, narrowband and cell reference ports, control region.
 pub struct Layout {
@@ -21,9 +24,9 @@ pub struct Layout {
 }
 
 // What an element of a subframe is: used, by its number among the used ones; or not, by its kind.
-pub enum Standing {
+pub enum ElementUse {
     Used(u64),
-    Other(u64),
+    Unused(u64),
 }
 
 // A row: its slot and symbol; and one of its subcarriers, by how many of six before it carry no reference.
@@ -40,8 +43,8 @@ pub struct Row {
     pub high: u64,
 }
 
-// By bytes: of six subcarriers, how many lie in the symbols of a slot before l = 0 to 7. All of them; one at symbols 0 and 4; one at
-// symbol 1; one at symbols 5 and 6.
+// By bytes: of six subcarriers, how many lie in the symbols of a slot before l = 0 to 7. All of them; one at symbols
+// 0 and 4; one at symbol 1; one at symbols 5 and 6.
 const ALL: u64 = 0x2a24_1e18_120c_0600;
 
 const AT_0_AND_4: u64 = 0x0202_0201_0101_0100;
@@ -67,8 +70,8 @@ fn sums(g: Layout) -> u64
     ensures { λ r. ⌜ r ≡ sumsOf (g .nports) (g .cports) ⌝ }
 {
     let n = g.nports;
-    let c = ncce::taken_at_0(g.cports);
-    let d = ncce::taken_at_1(g.cports);
+    let c = references::taken_at_0(g.cports);
+    let d = references::taken_at_1(g.cports);
     ALL - c * AT_0_AND_4 - d * AT_1 - n * AT_5_AND_6
 }
 
@@ -114,13 +117,15 @@ pub fn count(g: Layout, from: u64, width: u64) -> u64
     requires { ⌜ Valid g × Part from width ⌝ }
     ensures { λ r. ⌜ r ≡ countOf g from width ⌝ }
 {
-    ncces(from, width) * ncce::closed_count(g.nports, g.cports, g.control)
+    ncces(from, width) * references::closed_count(g.nports, g.cports, g.control)
 }
 
-// The symbol of a slot with the y-th of the subcarriers that are counted: all bytes compared at once, and the passed ones counted.
+// The symbol of a slot with the y-th of the subcarriers that are counted: all bytes compared at once, and the passed
+// ones counted.
 fn symbol_with(g: Layout, sums: u64, y: u64) -> u64
     requires { ⌜ Valid g × (sums ≡ sumsOf (g .nports) (g .cports)) × (y < sixBefore (g .nports) (g .cports) symbols) ⌝ }
-    ensures { λ r. ⌜ (r < symbols) × (sixBefore (g .nports) (g .cports) r ≤ y) × (y < sixBefore (g .nports) (g .cports) (r + 1)) ⌝ }
+    ensures { λ r. ⌜ (r < symbols) × (sixBefore (g .nports) (g .cports) r ≤ y)
+        × (y < sixBefore (g .nports) (g .cports) (r + 1)) ⌝ }
 {
     let passed = ((y * ONCE + HIGHEST - sums % (1 << 56)) & HIGHEST) >> 15;
     let two = passed + (passed >> 24);
@@ -174,7 +179,7 @@ pub fn element_at(g: Layout, from: u64, width: u64, e: u64) -> u64
     let l = spot.l;
     let free = free_in(g, s, l);
     let j = n * spot.rest + (e - n * q);
-    let k = nth_in(ncce::marks_on(g.v, l, 6 - free), free, from, j);
+    let k = nth_in(references::marks_on(g.v, l, 6 - free), free, from, j);
     Grid::element(spot.slot, l, k)
 }
 
@@ -196,7 +201,8 @@ fn before_in(m: Marks, free: u64, from: u64, k: u64, six: u64) -> u64
 
 // The number of a row's first used element; the row is no control region.
 fn row_start(g: Layout, sums: u64, from: u64, width: u64, slot: u64, l: u64) -> u64
-    requires { ⌜ Valid g × (sums ≡ sumsOf (g .nports) (g .cports)) × Part from width × (slot < slots) × (l < symbols) × (controlRegion g slot l ≡ false) ⌝ }
+    requires { ⌜ Valid g × (sums ≡ sumsOf (g .nports) (g .cports)) × Part from width × (slot < slots) × (l < symbols)
+        × (controlRegion g slot l ≡ false) ⌝ }
     ensures { λ r. ⌜ (r ≡ numberOf g from width (elementOf slot l 0)) × (r ≤ elements) ⌝ }
 {
     let six = slot * byte(sums, Grid::SYMBOLS) + byte(sums, l) - byte(sums, g.control);
@@ -214,22 +220,22 @@ fn reference_kind(l: u64) -> u64
 }
 
 // An element: used, with its number; or not, with its kind: 0 plain, 1 narrowband reference, 2 cell reference.
-pub fn stands_at(g: Layout, from: u64, width: u64, slot: u64, l: u64, k: u64) -> Standing
+pub fn use_at(g: Layout, from: u64, width: u64, slot: u64, l: u64, k: u64) -> ElementUse
     requires { ⌜ Valid g × Part from width × (slot < slots) × (l < symbols) × (k < subcarriers) ⌝ }
-    ensures { λ r. ⌜ r ≡ standingOf g from width (elementOf slot l k) ⌝ }
+    ensures { λ r. ⌜ r ≡ elementUseOf g from width (elementOf slot l k) ⌝ }
 {
     let s = sums(g);
     let free = free_in(g, s, l);
-    let m = ncce::marks_on(g.v, l, 6 - free);
+    let m = references::marks_on(g.v, l, 6 - free);
     let six = k - NCCE_WIDTH * one(NCCE_WIDTH <= k);
     if (six == m.low) | (six == m.high) {
-        return Standing::Other(reference_kind(l));
+        return ElementUse::Unused(reference_kind(l));
     }
     if in_control(g, slot, l) | !in_part(from, width, k) {
-        return Standing::Other(0);
+        return ElementUse::Unused(0);
     }
     let start = row_start(g, s, from, width, slot, l);
-    Standing::Used(start + before_in(m, free, from, k, six))
+    ElementUse::Used(start + before_in(m, free, from, k, six))
 }
 
 // The used subcarriers of a row of all twelve.
@@ -238,7 +244,7 @@ pub fn used_row(g: Layout, slot: u64, l: u64) -> Row
     ensures { λ r. ⌜ RowOf g slot l r ⌝ }
 {
     let free = free_in(g, sums(g), l);
-    let m = ncce::marks_on(g.v, l, 6 - free);
+    let m = references::marks_on(g.v, l, 6 - free);
     Row {
         shut: in_control(g, slot, l),
         low: m.low,

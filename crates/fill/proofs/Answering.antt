@@ -13,8 +13,8 @@ use Rattle.grid.specs.Grid.{subcarriers, slotElements, numbers}
 use Rattle.cell.specs.declared.Cell.{Cell}
 use Rattle.elements.specs.declared.Layout.{Layout}
 use Rattle.elements.specs.Elements.{used}
-use Rattle.subframes.specs.Cells.{layoutOf}
-use Rattle.downlink.specs.declared.DownlinkGrant.{DownlinkGrant}
+use Rattle.cell.specs.Layout.{layoutOf}
+use Rattle.npdsch.specs.declared.NpdschGrant.{NpdschGrant}
 use Rattle.symbol.specs.declared.Symbol.{Symbol}
 use Rattle.symbol.specs.Outgoing.{writtenOf}
 use Rattle.symbol.specs.Quick.{symbolsOf}
@@ -28,7 +28,7 @@ use Rattle.fill.specs.Quick.{writtenIn}
 use Rattle.fill.proofs.Laid.{laid-plus, laid-same}
 use Rattle.fill.proofs.Writing.{first-on, second-on, written-from}
 
-module _ (c : Cell) (anchor other : List ℕ) (g : DownlinkGrant) (i : ℕ) (bits : List ℕ) (level : Float) where
+module _ (c : Cell) (anchor other : List ℕ) (g : NpdschGrant) (i : ℕ) (bits : List ℕ) (level : Float) where
   module _ (out : List Float) (k : Call) (j : CallFor c anchor other g i false bits (not (eqb (length out) numbers)) level k) where
     pub output-size : k .no ≡ 0 → length out ≡ numbers
     output-size z =

@@ -43,7 +43,7 @@ module _ (g : Layout) (first : ℕ) where
         plain false k = refl
 
         by : (b : Bool) → cond b (pickedOf four bits (first + numberOf g 0 subcarriers x)) silence
-            ≡ writtenOf bits level (cond b (Ours (first + numberOf g 0 subcarriers x)) (goesOut (Content.other (kindOf g x))))
+            ≡ writtenOf bits level (cond b (Ours (first + numberOf g 0 subcarriers x)) (goesOut (Content.notOurs (kindOf g x))))
         by true = picked bits level (first + numberOf g 0 subcarriers x) four h
         by false = plain (eqb (kindOf g x) 0) (kindOf g x)
 

@@ -11,10 +11,10 @@ ghost use Rattle.fill.specs.Refusals.{fillRefusal};
 ghost use Rattle.fill.specs.Fill.{laid, outputOf};
 ghost use Rattle.fill.specs.Quick.{writtenInRow, writtenIn};
 use cell::Cell;
-use downlink::DownlinkGrant;
 use elements::Layout;
 use elements::Row;
 use grid::Grid;
+use npdsch::NpdschGrant;
 use symbol::Symbol;
 
 const SLOT_NUMBERS: usize = Grid::SLOT_NUMBERS as usize;
@@ -29,12 +29,14 @@ fn put(out: &mut [f32], at: u64, s: Symbol)
     out[n + 1] = s.im;
 }
 
-// The numbers of one row, from element `start` of a slot on; symbol c is the next to go out. Answers the one after the row.
+// The numbers of one row, from element `start` of a slot on; symbol c is the next to go out. Answers the one after
+// the row.
 fn write_row(out: &mut [f32], start: u64, row: Row, c: u64, bits: &[u8], four: [Symbol; 4]) -> u64
     requires { ⌜ (2 * (start + subcarriers) ≤ length (now out)) × (length (now out) ≡ slotNumbers) × (c < 2 ^ 41)
         × (c + rank (hasIn row) subcarriers ≤ 4 * length (now bits)) ⌝ }
     ensures { λ r. ⌜ (r ≡ c + rank (hasIn row) subcarriers) × (length (now (out .exit)) ≡ slotNumbers)
-        × (take (2 * (start + subcarriers)) (now (out .exit)) ≡ take (2 * start) (now (out .entry)) ++ laid (writtenInRow row c (now (bits .entry)) four) subcarriers) ⌝ }
+        × (take (2 * (start + subcarriers)) (now (out .exit))
+        ≡ take (2 * start) (now (out .entry)) ++ laid (writtenInRow row c (now (bits .entry)) four) subcarriers) ⌝ }
 {
     let mut n = c;
     let mut k: u64 = 0;
@@ -76,14 +78,16 @@ pub fn fill(
     c: Cell,
     anchor: &[u8],
     other: &[u8],
-    g: DownlinkGrant,
+    g: NpdschGrant,
     i: u64,
     bits: &[u8],
     level: f32,
     out: &mut [f32],
 ) -> u64
-    ensures { λ r. ⌜ (r ≡ fillRefusal c (now (anchor .entry)) (now (other .entry)) g i (now (bits .entry)) level (now (out .entry)))
-        × (now (out .exit) ≡ outputOf c (now (anchor .entry)) (now (other .entry)) g i (now (bits .entry)) level (now (out .entry))) ⌝ }
+    ensures { λ r. ⌜ (r
+        ≡ fillRefusal c (now (anchor .entry)) (now (other .entry)) g i (now (bits .entry)) level (now (out .entry)))
+        × (now (out .exit)
+        ≡ outputOf c (now (anchor .entry)) (now (other .entry)) g i (now (bits .entry)) level (now (out .entry))) ⌝ }
 {
     let wrong = out.len() as u64 != Grid::NUMBERS;
     let call = transmitted::judged(c, anchor, other, g, i, false, bits, wrong, level);

@@ -59,27 +59,27 @@ downlink-delay-bound rmax k h = by (ltb rmax 128)
 
 -- ---- copies in a row divide the copies (for the copy order)
 
-pub downlink-row-splits : (k : ℕ) → k < 16 → entry downlinkCopies k % upToFour (entry downlinkCopies k) ≡ 0
-downlink-row-splits k h =
+pub downlink-consecutive-splits : (k : ℕ) → k < 16 → entry downlinkCopies k % upToFour (entry downlinkCopies k) ≡ 0
+downlink-consecutive-splits k h =
     eqb→eq (entry downlinkCopies k % upToFour (entry downlinkCopies k)) 0 (row-at downlinkCopies 16 (splits upToFour) tt k h)
 
 -- min(ceil(R/2), 4) of the uplink
-abbrev pub halfRowOf : ℕ → ℕ
-halfRowOf R = upToFour ((R + 1) / 2)
+abbrev pub halfConsecutive : ℕ → ℕ
+halfConsecutive R = upToFour ((R + 1) / 2)
 
-pub uplink-row-splits : (k : ℕ) → k < 8 → entry uplinkCopies k % halfRowOf (entry uplinkCopies k) ≡ 0
-uplink-row-splits k h =
-    eqb→eq (entry uplinkCopies k % halfRowOf (entry uplinkCopies k)) 0 (row-at uplinkCopies 8 (splits halfRowOf) tt k h)
+pub uplink-consecutive-splits : (k : ℕ) → k < 8 → entry uplinkCopies k % halfConsecutive (entry uplinkCopies k) ≡ 0
+uplink-consecutive-splits k h =
+    eqb→eq (entry uplinkCopies k % halfConsecutive (entry uplinkCopies k)) 0 (row-at uplinkCopies 8 (splits halfConsecutive) tt k h)
 
-pub row-small : (R : ℕ) → upToFour R ≤ 4
-row-small R = by (ltb R 4) refl
+pub consecutive-small : (R : ℕ) → upToFour R ≤ 4
+consecutive-small R = by (ltb R 4) refl
   where
     by : (b : Bool) → ltb R 4 ≡ b → cond b R 4 ≤ 4
     by true e = omega (arith, ltb-true R 4 e)
     by false e = omega arith
 
-pub row-pos : (R : ℕ) → 0 < R → 0 < upToFour R
-row-pos R h = by (ltb R 4)
+pub consecutive-pos : (R : ℕ) → 0 < R → 0 < upToFour R
+consecutive-pos R h = by (ltb R 4)
   where
     by : (b : Bool) → 0 < cond b R 4
     by true = h

@@ -1,7 +1,20 @@
 -- The sizes of the grids and the numbers of their elements: 01 "Time and grid"; TS 36.211 clauses 10.1.2 and 10.2.2.
 use mathlib.Core.Bool.{cond}
-use Prim.Native.Nat.{ℕ, _+_, _*_, _/_, _%_}
+use Prim.Native.Nat.{ℕ, _+_, _*_, _/_, _%_, _^_, _-_}
 use lib.Dec.{eqb}
+
+-- ---- time: t is an absolute subframe number
+
+-- the frame of subframe t, and the subframe's number in it
+abbrev pub frame : ℕ → ℕ
+frame t = t / 10 % 1024
+
+abbrev pub subframe : ℕ → ℕ
+subframe t = t % 10
+
+-- the last subframe that a grant may name: n above it is 9
+abbrev pub lastSubframe : ℕ
+lastSubframe = 2 ^ 30 - 1
 
 -- ---- downlink: 12 subcarriers, 7 symbols a slot, two slots a subframe
 

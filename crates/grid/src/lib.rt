@@ -1,7 +1,8 @@
 // The grids' sizes and element numbers, and the constant tables.
 ghost use mathlib.Core.Path.{_≡_};
 ghost use Prim.Native.Nat.{_<_, _≤_};
-ghost use Rattle.grid.specs.Grid.{subcarriers, symbols, slots, elements, elementOf, slotOf, symbolOf, subcarrierOf, uplinkSubcarriers};
+ghost use Rattle.grid.specs.Grid.{subcarriers, symbols, slots, elements, elementOf, slotOf, symbolOf};
+ghost use Rattle.grid.specs.Grid.{subcarrierOf, uplinkSubcarriers};
 
 mod tables;
 
@@ -16,6 +17,9 @@ pub use tables::size;
 pub use tables::up_to_four;
 pub use tables::uplink_copies;
 pub use tables::uplink_delay;
+
+// The last subframe that a grant may name.
+pub const LAST_SUBFRAME: u64 = 0x3fff_ffff;
 
 // The downlink grid of one subframe.
 pub struct Grid;

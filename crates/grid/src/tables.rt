@@ -1,7 +1,8 @@
 // The constant tables of 01, and what stands in them.
 ghost use mathlib.Core.Path.{_≡_};
 ghost use Prim.Native.Nat.{_<_};
-ghost use Rattle.grid.specs.Tables.{entry, lengths, downlinkCopies, downlinkDelay, uplinkCopies, uplinkDelays, sizeOf, singleToneRows, singleToneOrders, upToFour, isRepetition};
+ghost use Rattle.grid.specs.Tables.{entry, lengths, downlinkCopies, downlinkDelay, uplinkCopies, uplinkDelays};
+ghost use Rattle.grid.specs.Tables.{sizeOf, singleToneRows, singleToneOrders, upToFour, isRepetition};
 
 const LENGTHS: [u8; 8] = [1, 2, 3, 4, 5, 6, 8, 10];
 

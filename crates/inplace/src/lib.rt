@@ -7,11 +7,16 @@ use walk::WalkPlace;
 
 // One step: the answer at p, and p moved on. A refused or finished walk stays as it is.
 pub fn step(w: &mut Walk, anchor: &[u8], other: &[u8]) -> WalkPlace
-    ensures { λ r. ⌜ (r ≡ steppedOf (now (w .entry)) (now (anchor .entry)) (now (other .entry)) .answer) × (now (w .exit) ≡ steppedOf (now (w .entry)) (now (anchor .entry)) (now (other .entry)) .walk) ⌝ }
+    ensures { λ r. ⌜ (r ≡ steppedOf (now (w .entry)) (now (anchor .entry)) (now (other .entry)) .answer)
+        × (now (w .exit) ≡ steppedOf (now (w .entry)) (now (anchor .entry)) (now (other .entry)) .walk) ⌝ }
 {
-    let moved = walk::advance(*w, anchor, other);
-    w.p = moved.p;
-    moved.answer
+    let v = *w;
+    let place = walk::forward(v, anchor, other);
+    if place.no == 0 {
+        w.p = v.p + 1;
+        return place;
+    }
+    walk::stopped(v, anchor, other, place.no)
 }
 
 // The step of a record by value, for callers that lend none.

@@ -1,148 +1,39 @@
-// The public questions. Each may be asked with any numbers and any lent buffers; refused input gets document 01's number and zeros.
-ghost use mathlib.Core.Path.{_≡_};
-ghost use Rattle.cell.specs.Judge.{judgeOf, inForceOf, causeOf};
-ghost use Rattle.subframes.specs.Cells.{elementCountOf};
-ghost use Rattle.uplink.specs.Questions as up;
-ghost use Rattle.acknowledgement.specs.Questions as ack;
-ghost use Rattle.downlink.specs.Questions as down;
-ghost use Rattle.control.specs.Questions as control;
-use acknowledgement::AckGrant;
-use cell::CauseAnswer;
-use cell::Cell;
-use control::ControlGrant;
-use downlink::DownlinkGrant;
-use sending::Back;
-use slots::UplinkPlace;
-use slots::UplinkPlan;
-use subframes::DownlinkBack;
-use subframes::DownlinkPlace;
-use subframes::DownlinkPlan;
-use subframes::ElementCount;
-use uplink::UplinkGrant;
+// The public questions, and nothing else. Each may be asked with any numbers and any lent buffers: its contract, in
+// the crate named here, has no `requires` and says by a definition what is answered and left. Refused input gets
+// document 01's number and zeros.
 
-// Judge a cell: the refusal number, or 0.
-pub fn judge(c: Cell, anchor: &[u8], other: &[u8]) -> u64
-    ensures { λ r. ⌜ r ≡ judgeOf c (now (anchor .entry)) (now (other .entry)) ⌝ }
-{
-    cell::judge(c, anchor, other)
-}
+// A cell: its refusal number, or 0; the bitmap in force, a part of the carrier's own buffer; why subframe t is not
+// usable; E, the eligible elements of a subframe.
+pub use cell::cause_at as cause;
+pub use cell::element_count as count;
+pub use cell::in_force as bitmap;
+pub use cell::judge;
 
-// The bitmap in force, a part of the carrier's own buffer.
-pub fn bitmap<'a>(c: Cell, anchor: &'a [u8], other: &'a [u8]) -> &'a [u8]
-    ensures { λ r. ⌜ now r ≡ inForceOf c (now (anchor .entry)) (now (other .entry)) ⌝ }
-{
-    cell::in_force(c, anchor, other)
-}
+// NPUSCH format 1, alone and beside random access windows.
+pub use npusch::backward as backward_up;
+pub use npusch::backward_beside as backward_up_beside;
+pub use npusch::forward as forward_up;
+pub use npusch::forward_beside as forward_up_beside;
+pub use npusch::plan as plan_up;
+pub use npusch::plan_beside as plan_up_beside;
 
-// Why subframe t is not usable: the first cause, or none. Any t may be asked.
-pub fn cause(c: Cell, anchor: &[u8], other: &[u8], t: u64) -> CauseAnswer
-    ensures { λ r. ⌜ r ≡ causeOf c (now (anchor .entry)) (now (other .entry)) t ⌝ }
-{
-    cell::cause_at(c, anchor, other, t)
-}
+// Acknowledgements on NPUSCH format 2, alone and beside random access windows.
+pub use harq_ack::backward as backward_ack;
+pub use harq_ack::backward_beside as backward_ack_beside;
+pub use harq_ack::forward as forward_ack;
+pub use harq_ack::forward_beside as forward_ack_beside;
+pub use harq_ack::plan as plan_ack;
+pub use harq_ack::plan_beside as plan_ack_beside;
 
-// E: how many elements of a subframe are eligible.
-pub fn count(c: Cell, anchor: &[u8], other: &[u8]) -> ElementCount
-    ensures { λ r. ⌜ r ≡ elementCountOf c (now (anchor .entry)) (now (other .entry)) ⌝ }
-{
-    subframes::element_count(c, anchor, other)
-}
+// NPDSCH.
+pub use npdsch::backward as backward_down;
+pub use npdsch::forward as forward_down;
+pub use npdsch::plan as plan_down;
 
-pub fn plan_up(g: UplinkGrant) -> UplinkPlan
-    ensures { λ r. ⌜ r ≡ up.planOf g ⌝ }
-{
-    uplink::plan(g)
-}
-
-pub fn plan_ack(g: AckGrant) -> UplinkPlan
-    ensures { λ r. ⌜ r ≡ ack.planOf g ⌝ }
-{
-    acknowledgement::plan(g)
-}
-
-pub fn plan_down(c: Cell, anchor: &[u8], other: &[u8], g: DownlinkGrant) -> DownlinkPlan
-    ensures { λ r. ⌜ r ≡ down.planOf c (now (anchor .entry)) (now (other .entry)) g ⌝ }
-{
-    downlink::plan(c, anchor, other, g)
-}
-
-pub fn plan_control(c: Cell, anchor: &[u8], other: &[u8], g: ControlGrant) -> DownlinkPlan
-    ensures { λ r. ⌜ r ≡ control.planOf c (now (anchor .entry)) (now (other .entry)) g ⌝ }
-{
-    control::plan(c, anchor, other, g)
-}
-
-pub fn forward_up(g: UplinkGrant, p: u64) -> UplinkPlace
-    ensures { λ r. ⌜ r ≡ up.forwardOf g p ⌝ }
-{
-    uplink::forward(g, p)
-}
-
-pub fn forward_ack(g: AckGrant, p: u64) -> UplinkPlace
-    ensures { λ r. ⌜ r ≡ ack.forwardOf g p ⌝ }
-{
-    acknowledgement::forward(g, p)
-}
-
-pub fn forward_down(c: Cell, anchor: &[u8], other: &[u8], g: DownlinkGrant, p: u64) -> DownlinkPlace
-    ensures { λ r. ⌜ r ≡ down.forwardOf c (now (anchor .entry)) (now (other .entry)) g p ⌝ }
-{
-    downlink::forward(c, anchor, other, g, p)
-}
-
-pub fn forward_control(
-    c: Cell,
-    anchor: &[u8],
-    other: &[u8],
-    g: ControlGrant,
-    p: u64,
-) -> DownlinkPlace
-    ensures { λ r. ⌜ r ≡ control.forwardOf c (now (anchor .entry)) (now (other .entry)) g p ⌝ }
-{
-    control::forward(c, anchor, other, g, p)
-}
-
-pub fn backward_up(g: UplinkGrant, slot: u64, l: u64, k: u64) -> Back
-    ensures { λ r. ⌜ r ≡ up.backwardOf g slot l k ⌝ }
-{
-    uplink::backward(g, slot, l, k)
-}
-
-pub fn backward_ack(g: AckGrant, slot: u64, l: u64, k: u64) -> Back
-    ensures { λ r. ⌜ r ≡ ack.backwardOf g slot l k ⌝ }
-{
-    acknowledgement::backward(g, slot, l, k)
-}
-
-pub fn backward_down(
-    c: Cell,
-    anchor: &[u8],
-    other: &[u8],
-    g: DownlinkGrant,
-    t: u64,
-    slot: u64,
-    l: u64,
-    k: u64,
-) -> DownlinkBack
-    ensures { λ r. ⌜ r ≡ down.backwardOf c (now (anchor .entry)) (now (other .entry)) g t slot l k ⌝ }
-{
-    downlink::backward(c, anchor, other, g, t, slot, l, k)
-}
-
-pub fn backward_control(
-    c: Cell,
-    anchor: &[u8],
-    other: &[u8],
-    g: ControlGrant,
-    t: u64,
-    slot: u64,
-    l: u64,
-    k: u64,
-) -> DownlinkBack
-    ensures { λ r. ⌜ r ≡ control.backwardOf c (now (anchor .entry)) (now (other .entry)) g t slot l k ⌝ }
-{
-    control::backward(c, anchor, other, g, t, slot, l, k)
-}
+// NPDCCH.
+pub use npdcch::backward as backward_control;
+pub use npdcch::forward as forward_control;
+pub use npdcch::plan as plan_control;
 
 // One step of a walk, the caller's record moved in place; and the same of a record by value.
 pub use inplace::step;

@@ -9,18 +9,12 @@ use lib.Seq.{take-append-seam, length-take-le}
 use borrow.Author.Tests.{ne-eqb}
 use Rattle.bitmap.specs.Bitmap.{bytesOf}
 use Rattle.cell.specs.declared.Cell.{Cell}
-use Rattle.cell.specs.declared.Verdict.{Verdict}
-use Rattle.cell.specs.Quick.{VerdictOn}
 use Rattle.cell.proofs.Accepted.{accepted-bitmap}
 use Rattle.cell.specs.Bitmap.{ownBuffer, bitmapIn}
 use Rattle.cell.specs.Judge.{judgeOf, inForceOf}
 use Rattle.nbiot_c.specs.Calls.{bitmapNumbers, partNamed}
 
 module _ (c : Cell) (anchor other : List ℕ) where
-  pub verdict-number : {v : Verdict} → VerdictOn c (ownBuffer c anchor other) v → v .no ≡ judgeOf c anchor other
-  unfolding judgeOf
-  verdict-number h = h .number
-
   pub refused-numbers : {no : ℕ} → no ≡ judgeOf c anchor other → (no ≡ 0 → ⊥) → (no ∷ 0 ∷ 0 ∷ []) ≡ bitmapNumbers c anchor other
   unfolding inForceOf
   refused-numbers {no} e h =

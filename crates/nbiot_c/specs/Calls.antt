@@ -7,20 +7,33 @@ use lib.Ieee.{Float}
 use lib.ListN.{length, take, getD}
 use Rattle.cell.specs.declared.Cell.{Cell}
 use Rattle.cell.specs.Judge.{judgeOf, inForceOf, causeOf}
-use Rattle.subframes.specs.Cells.{elementCountOf}
-use Rattle.uplink.specs.Questions as up
-use Rattle.acknowledgement.specs.Questions as ack
-use Rattle.downlink.specs.Questions as down
-use Rattle.control.specs.Questions as control
+use Rattle.cell.specs.Layout.{elementCountOf}
+use Rattle.npusch.specs.Questions as up
+use Rattle.harq_ack.specs.Questions as ack
+use Rattle.npdsch.specs.Questions as down
+use Rattle.npdcch.specs.Questions as control
 use Rattle.walk.specs.Step.{steppedOf}
 use Rattle.symbol.specs.Outgoing.{numbersOf}
 use Rattle.fill.specs.Refusals.{fillRefusal}
 use Rattle.fill.specs.Fill.{outputOf}
 use Rattle.transmitted.specs.Element.{elementAnswer}
-use Rattle.buffers.specs.Buffers.{cellOf, upGrantOf, ackGrantOf, downGrantOf, controlGrantOf, upPlanNumbers, downPlanNumbers, upPlaceNumbers, downPlaceNumbers, backNumbers, downBackNumbers, causeNumbers, countNumbers, upWalkOf, ackWalkOf, downWalkOf, controlWalkOf, lacks, windowsShort, tooShort, Reply, replyOf, StepReply, stepReplyOf, FillReply, fillReplyOf, ElementReply, elementReplyOf}
+use Rattle.buffers.specs.Buffers.{cellAt, windowsOf, npuschAt, harqAckAt, npdschAt, npdcchAt}
+use Rattle.buffers.specs.Buffers.{npuschWalk, harqAckWalk, npdschWalk, npdcchWalk}
+use Rattle.buffers.specs.Buffers.{uplinkPlanNumbers, downlinkPlanNumbers, uplinkPlaceNumbers, downlinkPlaceNumbers}
+use Rattle.buffers.specs.Buffers.{backNumbers, downlinkBackNumbers}
+use Rattle.buffers.specs.Buffers.{causeNumbers, countNumbers, lacks, windowsShort, tooShort, put, putStepped, putElement}
+
+-- the number that is returned, and the answer's buffer afterwards; of a step the walk's buffer before it
+abbrev pub Reply : Type 0
+Reply = ℕ × List ℕ
+
+abbrev pub StepReply : Type 0
+StepReply = ℕ × List ℕ × List ℕ
+
+-- ---- a cell
 
 unfoldable pub judge : List ℕ → List ℕ → List ℕ → ℕ
-judge cell anchor other = cond (lacks 8 cell) tooShort (judgeOf (cellOf cell) anchor other)
+judge cell anchor other = cond (lacks 8 cell) tooShort (judgeOf (cellAt cell 0) anchor other)
 
 -- the bitmap in force is the first bytes of one of the two buffers: 0 the anchor's, 1 the other; a refused cell has 0 and 0
 abbrev pub bitmapNumbers : Cell → List ℕ → List ℕ → List ℕ
@@ -33,122 +46,115 @@ partNamed numbers anchor other = take (getD numbers 2 0) (cond (eqb (getD number
 
 unfoldable pub bitmap : List ℕ → List ℕ → List ℕ → List ℕ → Reply
 bitmap cell anchor other answer =
-    replyOf (lacks 8 cell || lacks 3 answer) (bitmapNumbers (cellOf cell) anchor other) answer
+    cond (lacks 8 cell || lacks 3 answer) (tooShort, answer) (put (bitmapNumbers (cellAt cell 0) anchor other) answer)
 
 unfoldable pub cause : List ℕ → List ℕ → List ℕ → ℕ → List ℕ → Reply
-cause cell anchor other t answer = replyOf (lacks 8 cell || lacks 2 answer) (causeNumbers (causeOf (cellOf cell) anchor other t)) answer
+cause cell anchor other t answer =
+    cond (lacks 8 cell || lacks 2 answer) (tooShort, answer)
+    (put (causeNumbers (causeOf (cellAt cell 0) anchor other t)) answer)
 
 unfoldable pub count : List ℕ → List ℕ → List ℕ → List ℕ → Reply
-count cell anchor other answer = replyOf (lacks 8 cell || lacks 2 answer) (countNumbers (elementCountOf (cellOf cell) anchor other)) answer
+count cell anchor other answer =
+    cond (lacks 8 cell || lacks 2 answer) (tooShort, answer)
+    (put (countNumbers (elementCountOf (cellAt cell 0) anchor other)) answer)
 
--- ---- plan
+-- ---- NPUSCH format 1
 
 unfoldable pub planUp : List ℕ → List ℕ → List ℕ → Reply
 planUp grant windows answer =
-    replyOf (lacks 7 grant || (lacks 7 answer || windowsShort windows))
-    (upPlanNumbers (up.planOf (upGrantOf grant windows)))
-    answer
-
-unfoldable pub planAck : List ℕ → List ℕ → List ℕ → Reply
-planAck grant windows answer =
-    replyOf (lacks 4 grant || (lacks 7 answer || windowsShort windows))
-    (upPlanNumbers (ack.planOf (ackGrantOf grant windows)))
-    answer
-
-unfoldable pub planDown : List ℕ → List ℕ → List ℕ → List ℕ → List ℕ → Reply
-planDown cell anchor other grant answer =
-    replyOf (lacks 8 cell || (lacks 5 grant || lacks 5 answer))
-    (downPlanNumbers (down.planOf (cellOf cell) anchor other (downGrantOf grant)))
-    answer
-
-unfoldable pub planControl : List ℕ → List ℕ → List ℕ → List ℕ → List ℕ → Reply
-planControl cell anchor other grant answer =
-    replyOf (lacks 8 cell || (lacks 4 grant || lacks 5 answer))
-    (downPlanNumbers (control.planOf (cellOf cell) anchor other (controlGrantOf grant)))
-    answer
-
--- ---- forward
+    cond (windowsShort windows || (lacks 7 grant || lacks 7 answer)) (tooShort, answer)
+    (put (uplinkPlanNumbers (up.planOf (npuschAt grant 0) (windowsOf windows))) answer)
 
 unfoldable pub forwardUp : List ℕ → List ℕ → ℕ → List ℕ → Reply
 forwardUp grant windows p answer =
-    replyOf (lacks 7 grant || (lacks 5 answer || windowsShort windows))
-    (upPlaceNumbers (up.forwardOf (upGrantOf grant windows) p))
-    answer
-
-unfoldable pub forwardAck : List ℕ → List ℕ → ℕ → List ℕ → Reply
-forwardAck grant windows p answer =
-    replyOf (lacks 4 grant || (lacks 5 answer || windowsShort windows))
-    (upPlaceNumbers (ack.forwardOf (ackGrantOf grant windows) p))
-    answer
-
-unfoldable pub forwardDown : List ℕ → List ℕ → List ℕ → List ℕ → ℕ → List ℕ → Reply
-forwardDown cell anchor other grant p answer =
-    replyOf (lacks 8 cell || (lacks 5 grant || lacks 6 answer))
-    (downPlaceNumbers (down.forwardOf (cellOf cell) anchor other (downGrantOf grant) p))
-    answer
-
-unfoldable pub forwardControl : List ℕ → List ℕ → List ℕ → List ℕ → ℕ → List ℕ → Reply
-forwardControl cell anchor other grant p answer =
-    replyOf (lacks 8 cell || (lacks 4 grant || lacks 6 answer))
-    (downPlaceNumbers (control.forwardOf (cellOf cell) anchor other (controlGrantOf grant) p))
-    answer
-
--- ---- backward
+    cond (windowsShort windows || (lacks 7 grant || lacks 5 answer)) (tooShort, answer)
+    (put (uplinkPlaceNumbers (up.forwardOf (npuschAt grant 0) (windowsOf windows) p)) answer)
 
 unfoldable pub backwardUp : List ℕ → List ℕ → ℕ → ℕ → ℕ → List ℕ → Reply
 backwardUp grant windows slot l k answer =
-    replyOf (lacks 7 grant || (lacks 5 answer || windowsShort windows))
-    (backNumbers (up.backwardOf (upGrantOf grant windows) slot l k))
-    answer
-
-unfoldable pub backwardAck : List ℕ → List ℕ → ℕ → ℕ → ℕ → List ℕ → Reply
-backwardAck grant windows slot l k answer =
-    replyOf (lacks 4 grant || (lacks 5 answer || windowsShort windows))
-    (backNumbers (ack.backwardOf (ackGrantOf grant windows) slot l k))
-    answer
-
-unfoldable pub backwardDown : List ℕ → List ℕ → List ℕ → List ℕ → ℕ → ℕ → ℕ → ℕ → List ℕ → Reply
-backwardDown cell anchor other grant t slot l k answer =
-    replyOf (lacks 8 cell || (lacks 5 grant || lacks 6 answer))
-    (downBackNumbers (down.backwardOf (cellOf cell) anchor other (downGrantOf grant) t slot l k))
-    answer
-
-unfoldable pub backwardControl : List ℕ → List ℕ → List ℕ → List ℕ → ℕ → ℕ → ℕ → ℕ → List ℕ → Reply
-backwardControl cell anchor other grant t slot l k answer =
-    replyOf (lacks 8 cell || (lacks 4 grant || lacks 6 answer))
-    (downBackNumbers (control.backwardOf (cellOf cell) anchor other (controlGrantOf grant) t slot l k))
-    answer
-
--- ---- step
+    cond (windowsShort windows || (lacks 7 grant || lacks 5 answer)) (tooShort, answer)
+    (put (backNumbers (up.backwardOf (npuschAt grant 0) (windowsOf windows) slot l k)) answer)
 
 unfoldable pub stepUp : List ℕ → List ℕ → List ℕ → StepReply
 stepUp walk windows answer =
-    stepReplyOf (lacks 8 walk || (lacks 7 answer || windowsShort windows)) (steppedOf (upWalkOf walk windows) [] []) walk answer
+    cond (windowsShort windows || (lacks 8 walk || lacks 7 answer)) (tooShort, walk, answer)
+    (putStepped (steppedOf (npuschWalk walk windows) [] []) walk answer)
+
+-- ---- acknowledgements on NPUSCH format 2
+
+unfoldable pub planAck : List ℕ → List ℕ → List ℕ → Reply
+planAck grant windows answer =
+    cond (windowsShort windows || (lacks 4 grant || lacks 7 answer)) (tooShort, answer)
+    (put (uplinkPlanNumbers (ack.planOf (harqAckAt grant 0) (windowsOf windows))) answer)
+
+unfoldable pub forwardAck : List ℕ → List ℕ → ℕ → List ℕ → Reply
+forwardAck grant windows p answer =
+    cond (windowsShort windows || (lacks 4 grant || lacks 5 answer)) (tooShort, answer)
+    (put (uplinkPlaceNumbers (ack.forwardOf (harqAckAt grant 0) (windowsOf windows) p)) answer)
+
+unfoldable pub backwardAck : List ℕ → List ℕ → ℕ → ℕ → ℕ → List ℕ → Reply
+backwardAck grant windows slot l k answer =
+    cond (windowsShort windows || (lacks 4 grant || lacks 5 answer)) (tooShort, answer)
+    (put (backNumbers (ack.backwardOf (harqAckAt grant 0) (windowsOf windows) slot l k)) answer)
 
 unfoldable pub stepAck : List ℕ → List ℕ → List ℕ → StepReply
 stepAck walk windows answer =
-    stepReplyOf (lacks 5 walk || (lacks 7 answer || windowsShort windows)) (steppedOf (ackWalkOf walk windows) [] []) walk answer
+    cond (windowsShort windows || (lacks 5 walk || lacks 7 answer)) (tooShort, walk, answer)
+    (putStepped (steppedOf (harqAckWalk walk windows) [] []) walk answer)
+
+-- ---- NPDSCH
+
+unfoldable pub planDown : List ℕ → List ℕ → List ℕ → List ℕ → List ℕ → Reply
+planDown cell anchor other grant answer =
+    cond (lacks 8 cell || (lacks 5 grant || lacks 5 answer)) (tooShort, answer)
+    (put (downlinkPlanNumbers (down.planOf (cellAt cell 0) anchor other (npdschAt grant 0))) answer)
+
+unfoldable pub forwardDown : List ℕ → List ℕ → List ℕ → List ℕ → ℕ → List ℕ → Reply
+forwardDown cell anchor other grant p answer =
+    cond (lacks 8 cell || (lacks 5 grant || lacks 6 answer)) (tooShort, answer)
+    (put (downlinkPlaceNumbers (down.forwardOf (cellAt cell 0) anchor other (npdschAt grant 0) p)) answer)
+
+unfoldable pub backwardDown : List ℕ → List ℕ → List ℕ → List ℕ → ℕ → ℕ → ℕ → ℕ → List ℕ → Reply
+backwardDown cell anchor other grant t slot l k answer =
+    cond (lacks 8 cell || (lacks 5 grant || lacks 6 answer)) (tooShort, answer)
+    (put (downlinkBackNumbers (down.backwardOf (cellAt cell 0) anchor other (npdschAt grant 0) t slot l k)) answer)
 
 unfoldable pub stepDown : List ℕ → List ℕ → List ℕ → List ℕ → StepReply
 stepDown walk anchor other answer =
-    stepReplyOf (lacks 14 walk || lacks 7 answer) (steppedOf (downWalkOf walk) anchor other) walk answer
+    cond (lacks 14 walk || lacks 7 answer) (tooShort, walk, answer) (putStepped (steppedOf (npdschWalk walk) anchor other) walk answer)
+
+-- ---- NPDCCH
+
+unfoldable pub planControl : List ℕ → List ℕ → List ℕ → List ℕ → List ℕ → Reply
+planControl cell anchor other grant answer =
+    cond (lacks 8 cell || (lacks 4 grant || lacks 5 answer)) (tooShort, answer)
+    (put (downlinkPlanNumbers (control.planOf (cellAt cell 0) anchor other (npdcchAt grant 0))) answer)
+
+unfoldable pub forwardControl : List ℕ → List ℕ → List ℕ → List ℕ → ℕ → List ℕ → Reply
+forwardControl cell anchor other grant p answer =
+    cond (lacks 8 cell || (lacks 4 grant || lacks 6 answer)) (tooShort, answer)
+    (put (downlinkPlaceNumbers (control.forwardOf (cellAt cell 0) anchor other (npdcchAt grant 0) p)) answer)
+
+unfoldable pub backwardControl : List ℕ → List ℕ → List ℕ → List ℕ → ℕ → ℕ → ℕ → ℕ → List ℕ → Reply
+backwardControl cell anchor other grant t slot l k answer =
+    cond (lacks 8 cell || (lacks 4 grant || lacks 6 answer)) (tooShort, answer)
+    (put (downlinkBackNumbers (control.backwardOf (cellAt cell 0) anchor other (npdcchAt grant 0) t slot l k)) answer)
 
 unfoldable pub stepControl : List ℕ → List ℕ → List ℕ → List ℕ → StepReply
 stepControl walk anchor other answer =
-    stepReplyOf (lacks 13 walk || lacks 7 answer) (steppedOf (controlWalkOf walk) anchor other) walk answer
+    cond (lacks 13 walk || lacks 7 answer) (tooShort, walk, answer) (putStepped (steppedOf (npdcchWalk walk) anchor other) walk answer)
 
--- ---- fill, and one element: an output that is no subframe's is refused by 15
+-- ---- the numbers of a transmitted subframe: an output that is no subframe's is refused by 15
 
-unfoldable pub fill : List ℕ → List ℕ → List ℕ → List ℕ → ℕ → List ℕ → Float → List Float → FillReply
+unfoldable pub fill : List ℕ → List ℕ → List ℕ → List ℕ → ℕ → List ℕ → Float → List Float → ℕ × List Float
 fill cell anchor other grant i bits level output =
-    fillReplyOf (lacks 8 cell || lacks 5 grant)
-    (fillRefusal (cellOf cell) anchor other (downGrantOf grant) i bits level output)
-    (outputOf (cellOf cell) anchor other (downGrantOf grant) i bits level output)
-    output
+    cond (lacks 8 cell || lacks 5 grant) (tooShort, output) (
+      fillRefusal (cellAt cell 0) anchor other (npdschAt grant 0) i bits level output,
+      outputOf (cellAt cell 0) anchor other (npdschAt grant 0) i bits level output,
+    )
 
-unfoldable pub element : List ℕ → List ℕ → List ℕ → List ℕ → ℕ → ℕ → ℕ → ℕ → List ℕ → Float → List ℕ → List Float → ElementReply
+-- one element: its state, and its two amplitudes
+unfoldable pub element : List ℕ → List ℕ → List ℕ → List ℕ → ℕ → ℕ → ℕ → ℕ → List ℕ → Float → List ℕ → List Float → ℕ × List ℕ × List Float
 element cell anchor other grant i slot l k bits level answer amplitudes =
-    elementReplyOf ((lacks 8 cell || lacks 5 grant) || (lacks 2 answer || lacks 2 amplitudes))
-    (numbersOf (elementAnswer (cellOf cell) anchor other (downGrantOf grant) i slot l k bits level))
-    answer
-    amplitudes
+    cond ((lacks 8 cell || lacks 5 grant) || (lacks 2 answer || lacks 2 amplitudes)) (tooShort, answer, amplitudes)
+    (putElement (numbersOf (elementAnswer (cellAt cell 0) anchor other (npdschAt grant 0) i slot l k bits level)) answer amplitudes)

@@ -1,11 +1,19 @@
-// The public questions for C: numbers and slices in, answers into lent buffers. include/nbiot.h says the order of the numbers.
+// The public questions for C: numbers and slices in, answers into lent buffers, in the order of include/nbiot.h.
 // A buffer that is too short gets 255, before anything else is judged, and nothing is written.
 ghost use mathlib.Core.List.{[]};
 ghost use mathlib.Core.Path.{_≡_};
+ghost use Rattle.npusch.specs.Questions as up;
+ghost use Rattle.harq_ack.specs.Questions as ack;
+ghost use Rattle.buffers.specs.Buffers.{windowsOf};
 ghost use Rattle.nbiot_c.specs.Calls as calls;
-use asked::Kind;
+use harq_ack::HarqAckGrant;
+use npusch::NpuschGrant;
+use uplink::UplinkPlace;
+use uplink::UplinkPlan;
 
 const TOO_SHORT: u64 = 255;
+
+// ---- a cell
 
 // Judge a cell: the refusal number, or 0.
 #[no_mangle]
@@ -15,24 +23,20 @@ pub extern "C" fn nbiot_judge(cell: &[u64], anchor: &[u8], other: &[u8]) -> u64
     if cell.len() < 8 {
         return TOO_SHORT;
     }
-    nbiot::judge(buffers::cell_of(cell), anchor, other)
+    nbiot::judge(buffers::cell_at(cell, 0), anchor, other)
 }
 
-// The bitmap in force: the buffer that it is a part of, and its bytes. It asks for the whole verdict, so that the judge has one caller and is put into it.
+// The bitmap in force: the buffer that it is a part of, and its bytes, counted without a second verdict.
 #[no_mangle]
-pub extern "C" fn nbiot_bitmap<'a>(
-    cell: &[u64],
-    anchor: &'a [u8],
-    other: &'a [u8],
-    answer: &mut [u64],
-) -> u64
-    ensures { λ r. ⌜ (r ≡ calls.bitmap (now (cell .entry)) (now (anchor .entry)) (now (other .entry)) (now (answer .entry)) .number) × (now (answer .exit) ≡ calls.bitmap (now (cell .entry)) (now (anchor .entry)) (now (other .entry)) (now (answer .entry)) .answer) ⌝ }
+pub extern "C" fn nbiot_bitmap(cell: &[u64], anchor: &[u8], other: &[u8], answer: &mut [u64]) -> u64
+    ensures { λ r. ⌜ (r, now (answer .exit))
+        ≡ calls.bitmap (now (cell .entry)) (now (anchor .entry)) (now (other .entry)) (now (answer .entry)) ⌝ }
 {
     if buffers::short2(8, 3, cell.len(), answer.len()) {
         return TOO_SHORT;
     }
-    let c = buffers::cell_of(cell);
-    let no = cell::judged(c, anchor, other).no;
+    let c = buffers::cell_at(cell, 0);
+    let no = nbiot::judge(c, anchor, other);
     if no != 0 {
         return buffers::put3(answer, no, 0, 0);
     }
@@ -49,116 +53,79 @@ pub extern "C" fn nbiot_cause(
     t: u64,
     answer: &mut [u64],
 ) -> u64
-    ensures { λ r. ⌜ (r ≡ calls.cause (now (cell .entry)) (now (anchor .entry)) (now (other .entry)) t (now (answer .entry)) .number) × (now (answer .exit) ≡ calls.cause (now (cell .entry)) (now (anchor .entry)) (now (other .entry)) t (now (answer .entry)) .answer) ⌝ }
+    ensures { λ r. ⌜ (r, now (answer .exit))
+        ≡ calls.cause (now (cell .entry)) (now (anchor .entry)) (now (other .entry)) t (now (answer .entry)) ⌝ }
 {
     if buffers::short2(8, 2, cell.len(), answer.len()) {
         return TOO_SHORT;
     }
-    let a = nbiot::cause(buffers::cell_of(cell), anchor, other, t);
-    let cause = a.cause;
-    let number = cell::number(cause);
-    buffers::put2(answer, a.no, number)
+    let a = nbiot::cause(buffers::cell_at(cell, 0), anchor, other, t);
+    buffers::put_cause(answer, a)
 }
 
 // E: how many elements of a subframe are eligible.
 #[no_mangle]
 pub extern "C" fn nbiot_count(cell: &[u64], anchor: &[u8], other: &[u8], answer: &mut [u64]) -> u64
-    ensures { λ r. ⌜ (r ≡ calls.count (now (cell .entry)) (now (anchor .entry)) (now (other .entry)) (now (answer .entry)) .number) × (now (answer .exit) ≡ calls.count (now (cell .entry)) (now (anchor .entry)) (now (other .entry)) (now (answer .entry)) .answer) ⌝ }
+    ensures { λ r. ⌜ (r, now (answer .exit))
+        ≡ calls.count (now (cell .entry)) (now (anchor .entry)) (now (other .entry)) (now (answer .entry)) ⌝ }
 {
     if buffers::short2(8, 2, cell.len(), answer.len()) {
         return TOO_SHORT;
     }
-    let a = nbiot::count(buffers::cell_of(cell), anchor, other);
-    buffers::put2(answer, a.no, a.e)
+    let a = nbiot::count(buffers::cell_at(cell, 0), anchor, other);
+    buffers::put_count(answer, a)
+}
+
+// ---- NPUSCH format 1
+
+// Plan and forward beside windows. A call and a step ask each of them, so that the compiler leaves it a function of
+// its own: it reads the windows itself, and they are not copied for it.
+fn plan_up_beside(g: NpuschGrant, windows: &[u64]) -> UplinkPlan
+    ensures { λ r. ⌜ r ≡ up.planOf g (windowsOf (now (windows .entry))) ⌝ }
+{
+    nbiot::plan_up_beside(g, buffers::windows_of(windows))
+}
+
+fn forward_up_beside(g: NpuschGrant, windows: &[u64], p: u64) -> UplinkPlace
+    ensures { λ r. ⌜ r ≡ up.forwardOf g (windowsOf (now (windows .entry))) p ⌝ }
+{
+    nbiot::forward_up_beside(g, buffers::windows_of(windows), p)
 }
 
 // First and last slot, copies, places, size and order.
 #[no_mangle]
 pub extern "C" fn nbiot_plan_up(grant: &[u64], answer: &mut [u64]) -> u64
-    ensures { λ r. ⌜ (r ≡ calls.planUp (now (grant .entry)) [] (now (answer .entry)) .number) × (now (answer .exit) ≡ calls.planUp (now (grant .entry)) [] (now (answer .entry)) .answer) ⌝ }
+    ensures { λ r. ⌜ (r, now (answer .exit)) ≡ calls.planUp (now (grant .entry)) [] (now (answer .entry)) ⌝ }
 {
     if buffers::short2(7, 7, grant.len(), answer.len()) {
         return TOO_SHORT;
     }
-    lent::plan_up(grant, answer)
+    let a = nbiot::plan_up(buffers::npusch_at(grant, 0));
+    buffers::put_uplink_plan(answer, a)
 }
 
 // The same beside windows.
 #[no_mangle]
 pub extern "C" fn nbiot_plan_up_windows(grant: &[u64], windows: &[u64], answer: &mut [u64]) -> u64
-    ensures { λ r. ⌜ (r ≡ calls.planUp (now (grant .entry)) (now (windows .entry)) (now (answer .entry)) .number) × (now (answer .exit) ≡ calls.planUp (now (grant .entry)) (now (windows .entry)) (now (answer .entry)) .answer) ⌝ }
+    ensures { λ r. ⌜ (r, now (answer .exit)) ≡ calls.planUp (now (grant .entry)) (now (windows .entry)) (now (answer .entry)) ⌝ }
 {
-    if buffers::short_up(7, 7, grant.len(), answer.len(), windows) {
+    if buffers::short_beside(windows, 7, 7, grant.len(), answer.len()) {
         return TOO_SHORT;
     }
-    lent::plan_windows(Kind::Up, grant, windows, answer)
-}
-
-// First and last slot, copies, places, size and order.
-#[no_mangle]
-pub extern "C" fn nbiot_plan_ack(grant: &[u64], answer: &mut [u64]) -> u64
-    ensures { λ r. ⌜ (r ≡ calls.planAck (now (grant .entry)) [] (now (answer .entry)) .number) × (now (answer .exit) ≡ calls.planAck (now (grant .entry)) [] (now (answer .entry)) .answer) ⌝ }
-{
-    if buffers::short2(4, 7, grant.len(), answer.len()) {
-        return TOO_SHORT;
-    }
-    lent::plan_ack(grant, answer)
-}
-
-// The same beside windows.
-#[no_mangle]
-pub extern "C" fn nbiot_plan_ack_windows(grant: &[u64], windows: &[u64], answer: &mut [u64]) -> u64
-    ensures { λ r. ⌜ (r ≡ calls.planAck (now (grant .entry)) (now (windows .entry)) (now (answer .entry)) .number) × (now (answer .exit) ≡ calls.planAck (now (grant .entry)) (now (windows .entry)) (now (answer .entry)) .answer) ⌝ }
-{
-    if buffers::short_up(4, 7, grant.len(), answer.len(), windows) {
-        return TOO_SHORT;
-    }
-    lent::plan_windows(Kind::Ack, grant, windows, answer)
-}
-
-// First and last subframe, copies and places.
-#[no_mangle]
-pub extern "C" fn nbiot_plan_down(
-    cell: &[u64],
-    anchor: &[u8],
-    other: &[u8],
-    grant: &[u64],
-    answer: &mut [u64],
-) -> u64
-    ensures { λ r. ⌜ (r ≡ calls.planDown (now (cell .entry)) (now (anchor .entry)) (now (other .entry)) (now (grant .entry)) (now (answer .entry)) .number) × (now (answer .exit) ≡ calls.planDown (now (cell .entry)) (now (anchor .entry)) (now (other .entry)) (now (grant .entry)) (now (answer .entry)) .answer) ⌝ }
-{
-    if buffers::short3(8, 5, 5, cell.len(), grant.len(), answer.len()) {
-        return TOO_SHORT;
-    }
-    lent::plan_down(cell, anchor, other, grant, answer)
-}
-
-// First and last subframe, copies and places.
-#[no_mangle]
-pub extern "C" fn nbiot_plan_control(
-    cell: &[u64],
-    anchor: &[u8],
-    other: &[u8],
-    grant: &[u64],
-    answer: &mut [u64],
-) -> u64
-    ensures { λ r. ⌜ (r ≡ calls.planControl (now (cell .entry)) (now (anchor .entry)) (now (other .entry)) (now (grant .entry)) (now (answer .entry)) .number) × (now (answer .exit) ≡ calls.planControl (now (cell .entry)) (now (anchor .entry)) (now (other .entry)) (now (grant .entry)) (now (answer .entry)) .answer) ⌝ }
-{
-    if buffers::short3(8, 4, 5, cell.len(), grant.len(), answer.len()) {
-        return TOO_SHORT;
-    }
-    lent::plan_control(cell, anchor, other, grant, answer)
+    let a = plan_up_beside(buffers::npusch_at(grant, 0), windows);
+    buffers::put_uplink_plan(answer, a)
 }
 
 // The place of position p, and the symbol there.
 #[no_mangle]
 pub extern "C" fn nbiot_forward_up(grant: &[u64], p: u64, answer: &mut [u64]) -> u64
-    ensures { λ r. ⌜ (r ≡ calls.forwardUp (now (grant .entry)) [] p (now (answer .entry)) .number) × (now (answer .exit) ≡ calls.forwardUp (now (grant .entry)) [] p (now (answer .entry)) .answer) ⌝ }
+    ensures { λ r. ⌜ (r, now (answer .exit)) ≡ calls.forwardUp (now (grant .entry)) [] p (now (answer .entry)) ⌝ }
 {
     if buffers::short2(7, 5, grant.len(), answer.len()) {
         return TOO_SHORT;
     }
-    lent::place_up(grant, p, answer)
+    let a = nbiot::forward_up(buffers::npusch_at(grant, 0), p);
+    buffers::put_uplink_place(answer, a)
 }
 
 // The same beside windows.
@@ -169,75 +136,13 @@ pub extern "C" fn nbiot_forward_up_windows(
     p: u64,
     answer: &mut [u64],
 ) -> u64
-    ensures { λ r. ⌜ (r ≡ calls.forwardUp (now (grant .entry)) (now (windows .entry)) p (now (answer .entry)) .number) × (now (answer .exit) ≡ calls.forwardUp (now (grant .entry)) (now (windows .entry)) p (now (answer .entry)) .answer) ⌝ }
+    ensures { λ r. ⌜ (r, now (answer .exit)) ≡ calls.forwardUp (now (grant .entry)) (now (windows .entry)) p (now (answer .entry)) ⌝ }
 {
-    if buffers::short_up(7, 5, grant.len(), answer.len(), windows) {
+    if buffers::short_beside(windows, 7, 5, grant.len(), answer.len()) {
         return TOO_SHORT;
     }
-    lent::place_windows(Kind::Up, grant, windows, p, answer)
-}
-
-// The place of position p, and the symbol there.
-#[no_mangle]
-pub extern "C" fn nbiot_forward_ack(grant: &[u64], p: u64, answer: &mut [u64]) -> u64
-    ensures { λ r. ⌜ (r ≡ calls.forwardAck (now (grant .entry)) [] p (now (answer .entry)) .number) × (now (answer .exit) ≡ calls.forwardAck (now (grant .entry)) [] p (now (answer .entry)) .answer) ⌝ }
-{
-    if buffers::short2(4, 5, grant.len(), answer.len()) {
-        return TOO_SHORT;
-    }
-    lent::place_ack(grant, p, answer)
-}
-
-// The same beside windows.
-#[no_mangle]
-pub extern "C" fn nbiot_forward_ack_windows(
-    grant: &[u64],
-    windows: &[u64],
-    p: u64,
-    answer: &mut [u64],
-) -> u64
-    ensures { λ r. ⌜ (r ≡ calls.forwardAck (now (grant .entry)) (now (windows .entry)) p (now (answer .entry)) .number) × (now (answer .exit) ≡ calls.forwardAck (now (grant .entry)) (now (windows .entry)) p (now (answer .entry)) .answer) ⌝ }
-{
-    if buffers::short_up(4, 5, grant.len(), answer.len(), windows) {
-        return TOO_SHORT;
-    }
-    lent::place_windows(Kind::Ack, grant, windows, p, answer)
-}
-
-// The place of position p, and the symbol there.
-#[no_mangle]
-pub extern "C" fn nbiot_forward_down(
-    cell: &[u64],
-    anchor: &[u8],
-    other: &[u8],
-    grant: &[u64],
-    p: u64,
-    answer: &mut [u64],
-) -> u64
-    ensures { λ r. ⌜ (r ≡ calls.forwardDown (now (cell .entry)) (now (anchor .entry)) (now (other .entry)) (now (grant .entry)) p (now (answer .entry)) .number) × (now (answer .exit) ≡ calls.forwardDown (now (cell .entry)) (now (anchor .entry)) (now (other .entry)) (now (grant .entry)) p (now (answer .entry)) .answer) ⌝ }
-{
-    if buffers::short3(8, 5, 6, cell.len(), grant.len(), answer.len()) {
-        return TOO_SHORT;
-    }
-    lent::place_down(cell, anchor, other, grant, p, answer)
-}
-
-// The place of position p, and the symbol there.
-#[no_mangle]
-pub extern "C" fn nbiot_forward_control(
-    cell: &[u64],
-    anchor: &[u8],
-    other: &[u8],
-    grant: &[u64],
-    p: u64,
-    answer: &mut [u64],
-) -> u64
-    ensures { λ r. ⌜ (r ≡ calls.forwardControl (now (cell .entry)) (now (anchor .entry)) (now (other .entry)) (now (grant .entry)) p (now (answer .entry)) .number) × (now (answer .exit) ≡ calls.forwardControl (now (cell .entry)) (now (anchor .entry)) (now (other .entry)) (now (grant .entry)) p (now (answer .entry)) .answer) ⌝ }
-{
-    if buffers::short3(8, 4, 6, cell.len(), grant.len(), answer.len()) {
-        return TOO_SHORT;
-    }
-    lent::place_control(cell, anchor, other, grant, p, answer)
+    let a = forward_up_beside(buffers::npusch_at(grant, 0), windows, p);
+    buffers::put_uplink_place(answer, a)
 }
 
 // What stands at symbol l and subcarrier k of a slot.
@@ -249,12 +154,13 @@ pub extern "C" fn nbiot_backward_up(
     k: u64,
     answer: &mut [u64],
 ) -> u64
-    ensures { λ r. ⌜ (r ≡ calls.backwardUp (now (grant .entry)) [] slot l k (now (answer .entry)) .number) × (now (answer .exit) ≡ calls.backwardUp (now (grant .entry)) [] slot l k (now (answer .entry)) .answer) ⌝ }
+    ensures { λ r. ⌜ (r, now (answer .exit)) ≡ calls.backwardUp (now (grant .entry)) [] slot l k (now (answer .entry)) ⌝ }
 {
     if buffers::short2(7, 5, grant.len(), answer.len()) {
         return TOO_SHORT;
     }
-    lent::back_up(grant, slot, l, k, answer)
+    let a = nbiot::backward_up(buffers::npusch_at(grant, 0), slot, l, k);
+    buffers::put_back(answer, a)
 }
 
 // The same beside windows.
@@ -267,12 +173,123 @@ pub extern "C" fn nbiot_backward_up_windows(
     k: u64,
     answer: &mut [u64],
 ) -> u64
-    ensures { λ r. ⌜ (r ≡ calls.backwardUp (now (grant .entry)) (now (windows .entry)) slot l k (now (answer .entry)) .number) × (now (answer .exit) ≡ calls.backwardUp (now (grant .entry)) (now (windows .entry)) slot l k (now (answer .entry)) .answer) ⌝ }
+    ensures { λ r. ⌜ (r, now (answer .exit))
+        ≡ calls.backwardUp (now (grant .entry)) (now (windows .entry)) slot l k (now (answer .entry)) ⌝ }
 {
-    if buffers::short_up(7, 5, grant.len(), answer.len(), windows) {
+    if buffers::short_beside(windows, 7, 5, grant.len(), answer.len()) {
         return TOO_SHORT;
     }
-    lent::back_windows(Kind::Up, grant, windows, slot, l, k, answer)
+    let a = nbiot::backward_up_beside(
+        buffers::npusch_at(grant, 0),
+        buffers::windows_of(windows),
+        slot,
+        l,
+        k,
+    );
+    buffers::put_back(answer, a)
+}
+
+// One step of a walk: the answer at its position, which moves on.
+#[no_mangle]
+pub extern "C" fn nbiot_step_up(walk: &mut [u64], answer: &mut [u64]) -> u64
+    ensures { λ r. ⌜ (r, now (walk .exit), now (answer .exit)) ≡ calls.stepUp (now (walk .entry)) [] (now (answer .entry)) ⌝ }
+{
+    if buffers::short2(8, 7, walk.len(), answer.len()) {
+        return TOO_SHORT;
+    }
+    let p = walk[0];
+    let g = buffers::npusch_at(walk, 1);
+    let a = nbiot::forward_up(g, p);
+    let end = a.no == 14 && buffers::uplink_end(plan_up_beside(g, &[]), p);
+    buffers::put_step(walk, answer, end, a.no, 0, a.slot, a.l, a.k, a.symbol)
+}
+
+// The same beside windows.
+#[no_mangle]
+pub extern "C" fn nbiot_step_up_windows(
+    walk: &mut [u64],
+    windows: &[u64],
+    answer: &mut [u64],
+) -> u64
+    ensures { λ r. ⌜ (r, now (walk .exit), now (answer .exit))
+        ≡ calls.stepUp (now (walk .entry)) (now (windows .entry)) (now (answer .entry)) ⌝ }
+{
+    if buffers::short_beside(windows, 8, 7, walk.len(), answer.len()) {
+        return TOO_SHORT;
+    }
+    let p = walk[0];
+    let g = buffers::npusch_at(walk, 1);
+    let a = forward_up_beside(g, windows, p);
+    let end = a.no == 14 && buffers::uplink_end(plan_up_beside(g, windows), p);
+    buffers::put_step(walk, answer, end, a.no, 0, a.slot, a.l, a.k, a.symbol)
+}
+
+// ---- acknowledgements on NPUSCH format 2
+
+// The same of an acknowledgement.
+fn plan_ack_beside(g: HarqAckGrant, windows: &[u64]) -> UplinkPlan
+    ensures { λ r. ⌜ r ≡ ack.planOf g (windowsOf (now (windows .entry))) ⌝ }
+{
+    nbiot::plan_ack_beside(g, buffers::windows_of(windows))
+}
+
+fn forward_ack_beside(g: HarqAckGrant, windows: &[u64], p: u64) -> UplinkPlace
+    ensures { λ r. ⌜ r ≡ ack.forwardOf g (windowsOf (now (windows .entry))) p ⌝ }
+{
+    nbiot::forward_ack_beside(g, buffers::windows_of(windows), p)
+}
+
+// First and last slot, copies, places, size and order.
+#[no_mangle]
+pub extern "C" fn nbiot_plan_ack(grant: &[u64], answer: &mut [u64]) -> u64
+    ensures { λ r. ⌜ (r, now (answer .exit)) ≡ calls.planAck (now (grant .entry)) [] (now (answer .entry)) ⌝ }
+{
+    if buffers::short2(4, 7, grant.len(), answer.len()) {
+        return TOO_SHORT;
+    }
+    let a = nbiot::plan_ack(buffers::harq_ack_at(grant, 0));
+    buffers::put_uplink_plan(answer, a)
+}
+
+// The same beside windows.
+#[no_mangle]
+pub extern "C" fn nbiot_plan_ack_windows(grant: &[u64], windows: &[u64], answer: &mut [u64]) -> u64
+    ensures { λ r. ⌜ (r, now (answer .exit)) ≡ calls.planAck (now (grant .entry)) (now (windows .entry)) (now (answer .entry)) ⌝ }
+{
+    if buffers::short_beside(windows, 4, 7, grant.len(), answer.len()) {
+        return TOO_SHORT;
+    }
+    let a = plan_ack_beside(buffers::harq_ack_at(grant, 0), windows);
+    buffers::put_uplink_plan(answer, a)
+}
+
+// The place of position p, and the symbol there.
+#[no_mangle]
+pub extern "C" fn nbiot_forward_ack(grant: &[u64], p: u64, answer: &mut [u64]) -> u64
+    ensures { λ r. ⌜ (r, now (answer .exit)) ≡ calls.forwardAck (now (grant .entry)) [] p (now (answer .entry)) ⌝ }
+{
+    if buffers::short2(4, 5, grant.len(), answer.len()) {
+        return TOO_SHORT;
+    }
+    let a = nbiot::forward_ack(buffers::harq_ack_at(grant, 0), p);
+    buffers::put_uplink_place(answer, a)
+}
+
+// The same beside windows.
+#[no_mangle]
+pub extern "C" fn nbiot_forward_ack_windows(
+    grant: &[u64],
+    windows: &[u64],
+    p: u64,
+    answer: &mut [u64],
+) -> u64
+    ensures { λ r. ⌜ (r, now (answer .exit)) ≡ calls.forwardAck (now (grant .entry)) (now (windows .entry)) p (now (answer .entry)) ⌝ }
+{
+    if buffers::short_beside(windows, 4, 5, grant.len(), answer.len()) {
+        return TOO_SHORT;
+    }
+    let a = forward_ack_beside(buffers::harq_ack_at(grant, 0), windows, p);
+    buffers::put_uplink_place(answer, a)
 }
 
 // What stands at symbol l and subcarrier k of a slot.
@@ -284,12 +301,13 @@ pub extern "C" fn nbiot_backward_ack(
     k: u64,
     answer: &mut [u64],
 ) -> u64
-    ensures { λ r. ⌜ (r ≡ calls.backwardAck (now (grant .entry)) [] slot l k (now (answer .entry)) .number) × (now (answer .exit) ≡ calls.backwardAck (now (grant .entry)) [] slot l k (now (answer .entry)) .answer) ⌝ }
+    ensures { λ r. ⌜ (r, now (answer .exit)) ≡ calls.backwardAck (now (grant .entry)) [] slot l k (now (answer .entry)) ⌝ }
 {
     if buffers::short2(4, 5, grant.len(), answer.len()) {
         return TOO_SHORT;
     }
-    lent::back_ack(grant, slot, l, k, answer)
+    let a = nbiot::backward_ack(buffers::harq_ack_at(grant, 0), slot, l, k);
+    buffers::put_back(answer, a)
 }
 
 // The same beside windows.
@@ -302,12 +320,101 @@ pub extern "C" fn nbiot_backward_ack_windows(
     k: u64,
     answer: &mut [u64],
 ) -> u64
-    ensures { λ r. ⌜ (r ≡ calls.backwardAck (now (grant .entry)) (now (windows .entry)) slot l k (now (answer .entry)) .number) × (now (answer .exit) ≡ calls.backwardAck (now (grant .entry)) (now (windows .entry)) slot l k (now (answer .entry)) .answer) ⌝ }
+    ensures { λ r. ⌜ (r, now (answer .exit))
+        ≡ calls.backwardAck (now (grant .entry)) (now (windows .entry)) slot l k (now (answer .entry)) ⌝ }
 {
-    if buffers::short_up(4, 5, grant.len(), answer.len(), windows) {
+    if buffers::short_beside(windows, 4, 5, grant.len(), answer.len()) {
         return TOO_SHORT;
     }
-    lent::back_windows(Kind::Ack, grant, windows, slot, l, k, answer)
+    let a = nbiot::backward_ack_beside(
+        buffers::harq_ack_at(grant, 0),
+        buffers::windows_of(windows),
+        slot,
+        l,
+        k,
+    );
+    buffers::put_back(answer, a)
+}
+
+// One step of a walk: the answer at its position, which moves on.
+#[no_mangle]
+pub extern "C" fn nbiot_step_ack(walk: &mut [u64], answer: &mut [u64]) -> u64
+    ensures { λ r. ⌜ (r, now (walk .exit), now (answer .exit)) ≡ calls.stepAck (now (walk .entry)) [] (now (answer .entry)) ⌝ }
+{
+    if buffers::short2(5, 7, walk.len(), answer.len()) {
+        return TOO_SHORT;
+    }
+    let p = walk[0];
+    let g = buffers::harq_ack_at(walk, 1);
+    let a = nbiot::forward_ack(g, p);
+    let end = a.no == 14 && buffers::uplink_end(plan_ack_beside(g, &[]), p);
+    buffers::put_step(walk, answer, end, a.no, 0, a.slot, a.l, a.k, a.symbol)
+}
+
+// The same beside windows.
+#[no_mangle]
+pub extern "C" fn nbiot_step_ack_windows(
+    walk: &mut [u64],
+    windows: &[u64],
+    answer: &mut [u64],
+) -> u64
+    ensures { λ r. ⌜ (r, now (walk .exit), now (answer .exit))
+        ≡ calls.stepAck (now (walk .entry)) (now (windows .entry)) (now (answer .entry)) ⌝ }
+{
+    if buffers::short_beside(windows, 5, 7, walk.len(), answer.len()) {
+        return TOO_SHORT;
+    }
+    let p = walk[0];
+    let g = buffers::harq_ack_at(walk, 1);
+    let a = forward_ack_beside(g, windows, p);
+    let end = a.no == 14 && buffers::uplink_end(plan_ack_beside(g, windows), p);
+    buffers::put_step(walk, answer, end, a.no, 0, a.slot, a.l, a.k, a.symbol)
+}
+
+// ---- NPDSCH
+
+// First and last subframe, copies and places.
+#[no_mangle]
+pub extern "C" fn nbiot_plan_down(
+    cell: &[u64],
+    anchor: &[u8],
+    other: &[u8],
+    grant: &[u64],
+    answer: &mut [u64],
+) -> u64
+    ensures { λ r. ⌜ (r, now (answer .exit))
+        ≡ calls.planDown (now (cell .entry)) (now (anchor .entry)) (now (other .entry)) (now (grant .entry)) (now (answer .entry)) ⌝ }
+{
+    if buffers::short3(8, 5, 5, cell.len(), grant.len(), answer.len()) {
+        return TOO_SHORT;
+    }
+    let c = buffers::cell_at(cell, 0);
+    let g = buffers::npdsch_at(grant, 0);
+    let a = nbiot::plan_down(c, anchor, other, g);
+    buffers::put_downlink_plan(answer, a)
+}
+
+// The place of position p, and the symbol there.
+#[no_mangle]
+pub extern "C" fn nbiot_forward_down(
+    cell: &[u64],
+    anchor: &[u8],
+    other: &[u8],
+    grant: &[u64],
+    p: u64,
+    answer: &mut [u64],
+) -> u64
+    ensures { λ r. ⌜ (r, now (answer .exit))
+        ≡ calls.forwardDown (now (cell .entry)) (now (anchor .entry)) (now (other .entry)) (now (grant .entry))
+        p (now (answer .entry)) ⌝ }
+{
+    if buffers::short3(8, 5, 6, cell.len(), grant.len(), answer.len()) {
+        return TOO_SHORT;
+    }
+    let c = buffers::cell_at(cell, 0);
+    let g = buffers::npdsch_at(grant, 0);
+    let a = nbiot::forward_down(c, anchor, other, g, p);
+    buffers::put_downlink_place(answer, a)
 }
 
 // What stands at symbol l and subcarrier k of a slot of subframe t, and why the subframe was skipped.
@@ -323,32 +430,85 @@ pub extern "C" fn nbiot_backward_down(
     k: u64,
     answer: &mut [u64],
 ) -> u64
-    ensures { λ r. ⌜ (r ≡ calls.backwardDown (now (cell .entry)) (now (anchor .entry)) (now (other .entry)) (now (grant .entry)) t slot l k (now (answer .entry)) .number) × (now (answer .exit) ≡ calls.backwardDown (now (cell .entry)) (now (anchor .entry)) (now (other .entry)) (now (grant .entry)) t slot l k (now (answer .entry)) .answer) ⌝ }
+    ensures { λ r. ⌜ (r, now (answer .exit))
+        ≡ calls.backwardDown (now (cell .entry)) (now (anchor .entry)) (now (other .entry)) (now (grant .entry))
+        t slot l k (now (answer .entry)) ⌝ }
 {
     if buffers::short3(8, 5, 6, cell.len(), grant.len(), answer.len()) {
         return TOO_SHORT;
     }
-    let a = nbiot::backward_down(
-        buffers::cell_of(cell),
-        anchor,
-        other,
-        buffers::down_grant_of(grant),
-        t,
-        slot,
-        l,
-        k,
-    );
-    let cause = a.cause;
-    let number = cell::number(cause);
-    buffers::put6(
-        answer,
-        a.back.no,
-        a.back.ours,
-        a.back.symbol,
-        a.back.position,
-        a.back.kind,
-        number,
-    )
+    let c = buffers::cell_at(cell, 0);
+    let g = buffers::npdsch_at(grant, 0);
+    let a = nbiot::backward_down(c, anchor, other, g, t, slot, l, k);
+    buffers::put_downlink_back(answer, a)
+}
+
+// One step of a walk: the answer at its position, which moves on.
+#[no_mangle]
+pub extern "C" fn nbiot_step_down(
+    walk: &mut [u64],
+    anchor: &[u8],
+    other: &[u8],
+    answer: &mut [u64],
+) -> u64
+    ensures { λ r. ⌜ (r, now (walk .exit), now (answer .exit))
+        ≡ calls.stepDown (now (walk .entry)) (now (anchor .entry)) (now (other .entry)) (now (answer .entry)) ⌝ }
+{
+    if buffers::short2(14, 7, walk.len(), answer.len()) {
+        return TOO_SHORT;
+    }
+    let p = walk[0];
+    let c = buffers::cell_at(walk, 1);
+    let g = buffers::npdsch_at(walk, 9);
+    let a = nbiot::forward_down(c, anchor, other, g, p);
+    let end = a.no == 14 && buffers::downlink_end(nbiot::plan_down(c, anchor, other, g), p);
+    buffers::put_step(walk, answer, end, a.no, a.t, a.slot, a.l, a.k, a.symbol)
+}
+
+// ---- NPDCCH
+
+// First and last subframe, copies and places.
+#[no_mangle]
+pub extern "C" fn nbiot_plan_control(
+    cell: &[u64],
+    anchor: &[u8],
+    other: &[u8],
+    grant: &[u64],
+    answer: &mut [u64],
+) -> u64
+    ensures { λ r. ⌜ (r, now (answer .exit))
+        ≡ calls.planControl (now (cell .entry)) (now (anchor .entry)) (now (other .entry)) (now (grant .entry)) (now (answer .entry)) ⌝ }
+{
+    if buffers::short3(8, 4, 5, cell.len(), grant.len(), answer.len()) {
+        return TOO_SHORT;
+    }
+    let c = buffers::cell_at(cell, 0);
+    let g = buffers::npdcch_at(grant, 0);
+    let a = nbiot::plan_control(c, anchor, other, g);
+    buffers::put_downlink_plan(answer, a)
+}
+
+// The place of position p, and the symbol there.
+#[no_mangle]
+pub extern "C" fn nbiot_forward_control(
+    cell: &[u64],
+    anchor: &[u8],
+    other: &[u8],
+    grant: &[u64],
+    p: u64,
+    answer: &mut [u64],
+) -> u64
+    ensures { λ r. ⌜ (r, now (answer .exit))
+        ≡ calls.forwardControl (now (cell .entry)) (now (anchor .entry)) (now (other .entry)) (now (grant .entry))
+        p (now (answer .entry)) ⌝ }
+{
+    if buffers::short3(8, 4, 6, cell.len(), grant.len(), answer.len()) {
+        return TOO_SHORT;
+    }
+    let c = buffers::cell_at(cell, 0);
+    let g = buffers::npdcch_at(grant, 0);
+    let a = nbiot::forward_control(c, anchor, other, g, p);
+    buffers::put_downlink_place(answer, a)
 }
 
 // What stands at symbol l and subcarrier k of a slot of subframe t, and why the subframe was skipped.
@@ -364,120 +524,17 @@ pub extern "C" fn nbiot_backward_control(
     k: u64,
     answer: &mut [u64],
 ) -> u64
-    ensures { λ r. ⌜ (r ≡ calls.backwardControl (now (cell .entry)) (now (anchor .entry)) (now (other .entry)) (now (grant .entry)) t slot l k (now (answer .entry)) .number) × (now (answer .exit) ≡ calls.backwardControl (now (cell .entry)) (now (anchor .entry)) (now (other .entry)) (now (grant .entry)) t slot l k (now (answer .entry)) .answer) ⌝ }
+    ensures { λ r. ⌜ (r, now (answer .exit))
+        ≡ calls.backwardControl (now (cell .entry)) (now (anchor .entry)) (now (other .entry)) (now (grant .entry))
+        t slot l k (now (answer .entry)) ⌝ }
 {
     if buffers::short3(8, 4, 6, cell.len(), grant.len(), answer.len()) {
         return TOO_SHORT;
     }
-    let a = nbiot::backward_control(
-        buffers::cell_of(cell),
-        anchor,
-        other,
-        buffers::control_grant_of(grant),
-        t,
-        slot,
-        l,
-        k,
-    );
-    let cause = a.cause;
-    let number = cell::number(cause);
-    buffers::put6(
-        answer,
-        a.back.no,
-        a.back.ours,
-        a.back.symbol,
-        a.back.position,
-        a.back.kind,
-        number,
-    )
-}
-
-// One step of a walk: the answer at its position, which moves on.
-#[no_mangle]
-pub extern "C" fn nbiot_step_up(walk: &mut [u64], answer: &mut [u64]) -> u64
-    ensures { λ r. ⌜ (r ≡ calls.stepUp (now (walk .entry)) [] (now (answer .entry)) .number) × (now (walk .exit) ≡ calls.stepUp (now (walk .entry)) [] (now (answer .entry)) .walk) × (now (answer .exit) ≡ calls.stepUp (now (walk .entry)) [] (now (answer .entry)) .answer) ⌝ }
-{
-    if buffers::short2(8, 7, walk.len(), answer.len()) {
-        return TOO_SHORT;
-    }
-    let no = lent::walked_up(walk, answer);
-    if no == 0 {
-        return lent::moved(walk);
-    }
-    lent::stopped(no, answer)
-}
-
-// The same beside windows.
-#[no_mangle]
-pub extern "C" fn nbiot_step_up_windows(
-    walk: &mut [u64],
-    windows: &[u64],
-    answer: &mut [u64],
-) -> u64
-    ensures { λ r. ⌜ (r ≡ calls.stepUp (now (walk .entry)) (now (windows .entry)) (now (answer .entry)) .number) × (now (walk .exit) ≡ calls.stepUp (now (walk .entry)) (now (windows .entry)) (now (answer .entry)) .walk) × (now (answer .exit) ≡ calls.stepUp (now (walk .entry)) (now (windows .entry)) (now (answer .entry)) .answer) ⌝ }
-{
-    if buffers::short_up(8, 7, walk.len(), answer.len(), windows) {
-        return TOO_SHORT;
-    }
-    let no = lent::walked_windows(Kind::Up, walk, windows, answer);
-    if no == 0 {
-        return lent::moved(walk);
-    }
-    lent::stopped(no, answer)
-}
-
-// One step of a walk: the answer at its position, which moves on.
-#[no_mangle]
-pub extern "C" fn nbiot_step_ack(walk: &mut [u64], answer: &mut [u64]) -> u64
-    ensures { λ r. ⌜ (r ≡ calls.stepAck (now (walk .entry)) [] (now (answer .entry)) .number) × (now (walk .exit) ≡ calls.stepAck (now (walk .entry)) [] (now (answer .entry)) .walk) × (now (answer .exit) ≡ calls.stepAck (now (walk .entry)) [] (now (answer .entry)) .answer) ⌝ }
-{
-    if buffers::short2(5, 7, walk.len(), answer.len()) {
-        return TOO_SHORT;
-    }
-    let no = lent::walked_ack(walk, answer);
-    if no == 0 {
-        return lent::moved(walk);
-    }
-    lent::stopped(no, answer)
-}
-
-// The same beside windows.
-#[no_mangle]
-pub extern "C" fn nbiot_step_ack_windows(
-    walk: &mut [u64],
-    windows: &[u64],
-    answer: &mut [u64],
-) -> u64
-    ensures { λ r. ⌜ (r ≡ calls.stepAck (now (walk .entry)) (now (windows .entry)) (now (answer .entry)) .number) × (now (walk .exit) ≡ calls.stepAck (now (walk .entry)) (now (windows .entry)) (now (answer .entry)) .walk) × (now (answer .exit) ≡ calls.stepAck (now (walk .entry)) (now (windows .entry)) (now (answer .entry)) .answer) ⌝ }
-{
-    if buffers::short_up(5, 7, walk.len(), answer.len(), windows) {
-        return TOO_SHORT;
-    }
-    let no = lent::walked_windows(Kind::Ack, walk, windows, answer);
-    if no == 0 {
-        return lent::moved(walk);
-    }
-    lent::stopped(no, answer)
-}
-
-// One step of a walk: the answer at its position, which moves on.
-#[no_mangle]
-pub extern "C" fn nbiot_step_down(
-    walk: &mut [u64],
-    anchor: &[u8],
-    other: &[u8],
-    answer: &mut [u64],
-) -> u64
-    ensures { λ r. ⌜ (r ≡ calls.stepDown (now (walk .entry)) (now (anchor .entry)) (now (other .entry)) (now (answer .entry)) .number) × (now (walk .exit) ≡ calls.stepDown (now (walk .entry)) (now (anchor .entry)) (now (other .entry)) (now (answer .entry)) .walk) × (now (answer .exit) ≡ calls.stepDown (now (walk .entry)) (now (anchor .entry)) (now (other .entry)) (now (answer .entry)) .answer) ⌝ }
-{
-    if buffers::short2(14, 7, walk.len(), answer.len()) {
-        return TOO_SHORT;
-    }
-    let no = lent::walked_down(walk, anchor, other, answer);
-    if no == 0 {
-        return lent::moved(walk);
-    }
-    lent::stopped(no, answer)
+    let c = buffers::cell_at(cell, 0);
+    let g = buffers::npdcch_at(grant, 0);
+    let a = nbiot::backward_control(c, anchor, other, g, t, slot, l, k);
+    buffers::put_downlink_back(answer, a)
 }
 
 // One step of a walk: the answer at its position, which moves on.
@@ -488,17 +545,21 @@ pub extern "C" fn nbiot_step_control(
     other: &[u8],
     answer: &mut [u64],
 ) -> u64
-    ensures { λ r. ⌜ (r ≡ calls.stepControl (now (walk .entry)) (now (anchor .entry)) (now (other .entry)) (now (answer .entry)) .number) × (now (walk .exit) ≡ calls.stepControl (now (walk .entry)) (now (anchor .entry)) (now (other .entry)) (now (answer .entry)) .walk) × (now (answer .exit) ≡ calls.stepControl (now (walk .entry)) (now (anchor .entry)) (now (other .entry)) (now (answer .entry)) .answer) ⌝ }
+    ensures { λ r. ⌜ (r, now (walk .exit), now (answer .exit))
+        ≡ calls.stepControl (now (walk .entry)) (now (anchor .entry)) (now (other .entry)) (now (answer .entry)) ⌝ }
 {
     if buffers::short2(13, 7, walk.len(), answer.len()) {
         return TOO_SHORT;
     }
-    let no = lent::walked_control(walk, anchor, other, answer);
-    if no == 0 {
-        return lent::moved(walk);
-    }
-    lent::stopped(no, answer)
+    let p = walk[0];
+    let c = buffers::cell_at(walk, 1);
+    let g = buffers::npdcch_at(walk, 9);
+    let a = nbiot::forward_control(c, anchor, other, g, p);
+    let end = a.no == 14 && buffers::downlink_end(nbiot::plan_control(c, anchor, other, g), p);
+    buffers::put_step(walk, answer, end, a.no, a.t, a.slot, a.l, a.k, a.symbol)
 }
+
+// ---- the numbers of a transmitted subframe
 
 // The 336 numbers of transmitted subframe i.
 #[no_mangle]
@@ -512,21 +573,16 @@ pub extern "C" fn nbiot_fill(
     level: f32,
     output: &mut [f32],
 ) -> u64
-    ensures { λ r. ⌜ (r ≡ calls.fill (now (cell .entry)) (now (anchor .entry)) (now (other .entry)) (now (grant .entry)) i (now (bits .entry)) level (now (output .entry)) .number) × (now (output .exit) ≡ calls.fill (now (cell .entry)) (now (anchor .entry)) (now (other .entry)) (now (grant .entry)) i (now (bits .entry)) level (now (output .entry)) .output) ⌝ }
+    ensures { λ r. ⌜ (r, now (output .exit))
+        ≡ calls.fill (now (cell .entry)) (now (anchor .entry)) (now (other .entry)) (now (grant .entry))
+        i (now (bits .entry)) level (now (output .entry)) ⌝ }
 {
     if buffers::short2(8, 5, cell.len(), grant.len()) {
         return TOO_SHORT;
     }
-    fill::fill(
-        buffers::cell_of(cell),
-        anchor,
-        other,
-        buffers::down_grant_of(grant),
-        i,
-        bits,
-        level,
-        output,
-    )
+    let c = buffers::cell_at(cell, 0);
+    let g = buffers::npdsch_at(grant, 0);
+    nbiot::fill(c, anchor, other, g, i, bits, level, output)
 }
 
 // One element of transmitted subframe i.
@@ -545,26 +601,17 @@ pub extern "C" fn nbiot_element(
     answer: &mut [u64],
     amplitudes: &mut [f32],
 ) -> u64
-    ensures { λ r. ⌜ (r ≡ calls.element (now (cell .entry)) (now (anchor .entry)) (now (other .entry)) (now (grant .entry)) i slot l k (now (bits .entry)) level (now (answer .entry)) (now (amplitudes .entry)) .number) × (now (answer .exit) ≡ calls.element (now (cell .entry)) (now (anchor .entry)) (now (other .entry)) (now (grant .entry)) i slot l k (now (bits .entry)) level (now (answer .entry)) (now (amplitudes .entry)) .answer) × (now (amplitudes .exit) ≡ calls.element (now (cell .entry)) (now (anchor .entry)) (now (other .entry)) (now (grant .entry)) i slot l k (now (bits .entry)) level (now (answer .entry)) (now (amplitudes .entry)) .amplitudes) ⌝ }
+    ensures { λ r. ⌜ (r, now (answer .exit), now (amplitudes .exit))
+        ≡ calls.element (now (cell .entry)) (now (anchor .entry)) (now (other .entry)) (now (grant .entry))
+        i slot l k (now (bits .entry)) level (now (answer .entry)) (now (amplitudes .entry)) ⌝ }
 {
     if buffers::short2(8, 5, cell.len(), grant.len())
         | buffers::short2(2, 2, answer.len(), amplitudes.len())
     {
         return TOO_SHORT;
     }
-    let e = transmitted::element(
-        buffers::cell_of(cell),
-        anchor,
-        other,
-        buffers::down_grant_of(grant),
-        i,
-        slot,
-        l,
-        k,
-        bits,
-        level,
-    );
-    let a = symbol::numbers(e);
-    buffers::put_amplitudes(amplitudes, a.re, a.im);
-    buffers::put2(answer, a.no, a.state)
+    let c = buffers::cell_at(cell, 0);
+    let g = buffers::npdsch_at(grant, 0);
+    let e = nbiot::element(c, anchor, other, g, i, slot, l, k, bits, level);
+    buffers::put_element(answer, amplitudes, e)
 }

@@ -1,38 +1,39 @@
 -- DEMAND 3 of every accepted NPDSCH and NPDCCH grant: both are bursts over the usable subframes of an accepted cell.
 use mathlib.Core.Bool.{Bool, true, false}
 use mathlib.Core.List.{List}
-use mathlib.Core.Path.{_≡_, refl, sym, subst}
-use mathlib.Core.Logic.{_⊎_, inl, inr, ⊎-elim}
-use Prim.Native.Nat.{ℕ, _+_, _*_, _/_, _%_, _<_}
-use native.Mathlib.Nat.{mul-pos, mod-lt}
-use native.Mathlib.Decide.{ℕ-discrete}
+use mathlib.Core.Path.{_≡_, refl, ap, subst, subst⁻¹}
+use mathlib.Core.Logic.{inl, inr, ⊎-elim}
+use Prim.Native.Nat.{ℕ, _*_, _<_}
 use native.Mathlib.Omega.{arith}
-use borrow.Author.Tests.{eq-eqb, ne-eqb, lt-ltb, le-ltb}
-use Rattle.counting.specs.Counting.{rank}
+use borrow.Author.Tests.{lt-ltb}
 use Rattle.counting.proofs.Facts.{order, chained}
-use Rattle.counting.proofs.Period.{select-is}
+use Rattle.counting.proofs.Select.{among-parts}
 use Rattle.grid.specs.Grid.{subcarriers, symbols, slots, elementOf, slotOf, symbolOf, subcarrierOf}
 use Rattle.grid.proofs.Numbering.{of-parts, inside, slot-of, symbol-of, subcarrier-of}
 use Rattle.cell.specs.declared.Cell.{Cell}
 use Rattle.cell.specs.declared.Cause.{Cause}
-use Rattle.cell.specs.declared.Cause.the-variants.{None, Npbch, Npss, Nsss, Sib1, Bitmap}
-use Rattle.cell.specs.Usable.{period, why, none, usable}
+use Rattle.cell.specs.Usable.{period, why, usable}
 use Rattle.cell.specs.Judge.{judgeOf}
 use Rattle.cell.proofs.Accepted.{WellFormed}
 use Rattle.elements.specs.declared.Layout.{Layout}
-use Rattle.elements.specs.Elements.{used, countOf, elementAt}
-use Rattle.elements.proofs.Laws.{used-clear, used-listed, count-some, element-below}
-use Rattle.subframes.specs.declared.Burst.{Burst}
-use Rattle.subframes.specs.Fits.{Fits}
-use Rattle.subframes.specs.Cells.{layoutOf, questionRefusal}
-use Rattle.subframes.specs.Mapping.{firstOf, sendingOf, places}
-use Rattle.subframes.specs.Answers.{burstPlan, burstForward, burstBackward, planAnswer, forwardAnswer, backwardAnswer, backAnswer}
-use Rattle.subframes.proofs.Lawfulness.{burst-sound}
-use Rattle.subframes.proofs.Judging.{accepted-cell}
-use Rattle.promises.specs.Demand.{firstBy, Forward, Answers, Granted, Demand}
+use Rattle.elements.specs.Elements.{used, countOf}
+use Rattle.elements.proofs.Laws.{used-clear, element-below}
+use Rattle.sending.specs.Answer.{Question, extentOf}
+use Rattle.sending.proofs.Answer.{accepts, answer-map, forward-map}
+use Rattle.downlink.specs.declared.Burst.{Burst}
+use Rattle.downlink.specs.declared.DownlinkPlan.{DownlinkPlan}
+use Rattle.downlink.specs.declared.DownlinkBack.{DownlinkBack}
+use Rattle.downlink.specs.Fits.{Fits}
+use Rattle.downlink.specs.Cells.{questionRefusal, questionOn}
+use Rattle.cell.specs.Layout.{layoutOf}
+use Rattle.downlink.specs.Answers.{refusedPlan, planShown, refusedPlace, placeOf, refusedWhy, backWhy, insideGrid, planAnswer, forwardAnswer, backAnswer}
+use Rattle.downlink.proofs.Lawfulness.{lawful}
+use Rattle.downlink.proofs.Judging.{accepted-cell}
+use Rattle.promises.specs.Demand.{firstBy, Answers}
 use Rattle.promises.specs.Grids.{SubframePlace, downlinkGrid, downlinkColumns, downlinkAnswers}
 use Rattle.promises.specs.Promises.{takes, withholds, Clear, DownlinkDemand, bitmapOf}
-use Rattle.promises.proofs.Bridge.{Numbered, Read, demand}
+use Rattle.promises.proofs.Bridge.{Numbered, answersBy, Sends, at-places, demand}
+use Rattle.promises.proofs.Further.{no-cause}
 use Rattle.promises.proofs.Repeating.{usable-again, usable-some}
 
 -- ---- the grid
@@ -44,6 +45,9 @@ further x y h =
     (λ a.
     ⊎-elim (λ b. inr (omega arith, inl b)) (λ b. inr (omega arith, inr (omega arith, omega arith))) (order (symbolOf x) (symbolOf y)))
     (order (slotOf x) (slotOf y))
+
+pub in-grid : (x : SubframePlace) → downlinkGrid .Inside x → insideGrid (x .slot) (x .l) (x .k) ≡ true
+in-grid x i = rw (lt-ltb (x .slot) slots (i .0), lt-ltb (x .l) symbols (i .1), lt-ltb (x .k) subcarriers (i .2)) refl
 
 downlink-numbered : Numbered downlinkGrid
 downlink-numbered = record {
@@ -57,60 +61,23 @@ downlink-numbered = record {
     l = symbol-of (x .slot) (x .l) (x .k) (i .1) (i .2) j;
     k = subcarrier-of (x .slot) (x .l) (x .k) (i .1) (i .2) j;
   };
+  isInside = λ x. insideGrid (x .slot) (x .l) (x .k);
+  insideIs = in-grid;
   later = λ t t' x x' l. inl l;
   further = λ t x x' l. inr (refl, further x x' l);
 }
 
--- ---- a burst: any kind of downlink grant
-
-module _ (u : ℕ → Bool) (P : ℕ) (b : Burst) where
-  abbrev burstAnswers : Answers SubframePlace
-  burstAnswers = record {
-    places = burstPlan u P b .places;
-    forward = λ p. downlinkColumns (burstForward u P b p);
-    backward = λ x. burstBackward u P b (x .t) (x .slot) (x .l) (x .k);
-  }
-
-  module _ (f : Fits b) where
-    some-used : 0 < countOf (b .layout) (b .low) (b .width)
-    some-used = count-some (b .layout) (b .low) (b .width) (f .part)
-
-    burst-read : Read downlinkGrid downlink-numbered (sendingOf u P b) burstAnswers
-    unfolding downlink-numbered burstPlan burstForward burstBackward
-    burst-read = record {
-      places = refl;
-      some = mul-pos (mul-pos (f .copies) (f .codeword)) some-used;
-      forward = λ p h. rw (lt-ltb p (places b) h) refl;
-      past = λ p h. rw (le-ltb p (places b) h) refl;
-      inside = λ p h. inside _ (element-below (b .layout) (b .low) (b .width) _ (mod-lt p some-used));
-      backward = λ x i. rw (lt-ltb (x .slot) slots (i .0), lt-ltb (x .l) symbols (i .1), lt-ltb (x .k) subcarriers (i .2)) refl;
-    }
-
-  -- ---- a question on it, with refusals
-
-  module _ (refusal : ℕ) where
-    accepted : planAnswer refusal u P b .no ≡ 0 → refusal ≡ 0
-    unfolding planAnswer
-    accepted e = by (ℕ-discrete refusal 0)
-      where
-        by : Dec (refusal ≡ 0) → refusal ≡ 0
-        by (yes z) = z
-        by (no n) = rw (ne-eqb refusal 0 n) at e
-
-    answers-are : (why : ℕ → Cause) → refusal ≡ 0
-        → burstAnswers ≡ downlinkAnswers (planAnswer refusal u P b) (forwardAnswer refusal u P b) (backAnswer refusal u P b why)
-    unfolding planAnswer forwardAnswer backwardAnswer backAnswer
-    answers-are why e = rw (eq-eqb refusal 0 e) refl
+-- the downlink's answers to a question are in its columns
+downlink-are : (q : Question) (why : ℕ → Cause)
+    → downlinkAnswers (planAnswer q) (forwardAnswer q) (backAnswer q why) ≡ answersBy downlinkGrid downlink-numbered q
+unfolding downlink-numbered backWhy
+downlink-are q why = λ i. record {
+  places = answer-map (λ (x : DownlinkPlan). x .places) refusedPlan (q .no) (planShown (extentOf (q .sending))) i;
+  forward = λ p. forward-map downlinkColumns refusedPlace placeOf q p i;
+  backward = λ x. answer-map (λ (y : DownlinkBack). y .back) refusedWhy (q .no) (backWhy (q .sending) why (x .t) (x .slot) (x .l) (x .k)) i;
+}
 
 -- ---- a burst of a cell
-
-no-cause : (x : Cause) → none x ≡ true → (takes x ≡ false) × (withholds x ≡ false)
-no-cause None h = (refl, refl)
-no-cause Npbch h = let z : _≡_ {A = ℕ} 0 1 = cc in absurd (omega arith)
-no-cause Npss h = let z : _≡_ {A = ℕ} 0 1 = cc in absurd (omega arith)
-no-cause Nsss h = let z : _≡_ {A = ℕ} 0 1 = cc in absurd (omega arith)
-no-cause Sib1 h = let z : _≡_ {A = ℕ} 0 1 = cc in absurd (omega arith)
-no-cause Bitmap h = let z : _≡_ {A = ℕ} 0 1 = cc in absurd (omega arith)
 
 -- a used element of a usable subframe is clear
 used-place : (c : Cell) (bitmap : List ℕ) (from width t x : ℕ) → usable c bitmap t ≡ true → used (layoutOf c) from width x ≡ true
@@ -120,47 +87,53 @@ used-place c bitmap from width t x u h =
     record {
       noReference = rw (d .noNrs, d .noCrs) refl;
       noControl = d .noControl;
-      notTaken = no-cause (why c bitmap t) u .0;
-      notWithheld = no-cause (why c bitmap t) u .1;
+      notTaken = ap takes (no-cause (why c bitmap t) u);
+      notWithheld = ap withholds (no-cause (why c bitmap t) u);
     }
 
-module _ (c : Cell) (anchor other : List ℕ) (grant : ℕ) (b : Burst) (fit : WellFormed c → grant ≡ 0 → Fits b) (own : b .layout ≡ layoutOf c) where
+module _ (c : Cell) (anchor other : List ℕ) (grant : ℕ) (b : Burst) (fit : WellFormed c → grant ≡ 0 → Fits b)
+    (own : b .layout ≡ layoutOf c) where
   abbrev u : ℕ → Bool
   u = usable c (bitmapOf c anchor other)
 
-  abbrev refusal : ℕ
-  refusal = questionRefusal c anchor other grant
+  abbrev q : Question
+  q = questionOn c anchor other grant b
 
-  judged : refusal ≡ 0 → (judgeOf c anchor other ≡ 0) × (grant ≡ 0)
-  unfolding questionRefusal
-  judged e = chained (judgeOf c anchor other) grant e
+  abbrev answers : Answers SubframePlace
+  answers = downlinkAnswers (planAnswer q) (forwardAnswer q) (backAnswer q (why c (bitmapOf c anchor other)))
 
-  module _ (copies symbols : ℕ) (R : copies ≡ b .copies) (N : symbols ≡ b .codeword * countOf (b .layout) (b .low) (b .width)) where
-    abbrev granted : Granted
-    granted = record { copies = copies; symbols = symbols; sending = sendingOf u period b }
+  module _ (h : planAnswer q .no ≡ 0) where
+    zero : q .no ≡ 0
+    zero = accepts refusedPlan (λ x. x .no) (λ m. refl) (q .no) _ refl h
 
-    burst-demand : refusal ≡ 0 → DownlinkDemand c (bitmapOf c anchor other) granted (burstAnswers u period b)
-    burst-demand e =
-        let j = judged e in
-        let f : Fits b = fit (accepted-cell c anchor other (j .0)) (j .1) in
-        let again : (t : ℕ) → u (t + period) ≡ u t = usable-again c anchor other (j .0) in
-        let some : 0 < rank u period = usable-some c anchor other (j .0) in
-        let d : Demand downlinkGrid granted (burstAnswers u period b) =
-        demand downlinkGrid downlink-numbered granted (burstAnswers u period b) (burst-read u period b f) (b .codeword) (b .copies)
-        (burst-sound u period again some b f) R N in
-        record {
-          demand = d;
-          clear = λ p h.
-              subst (λ (r : Forward SubframePlace). Clear c (bitmapOf c anchor other) (r .place)) (sym (d .placed p h))
-              (used-place c (bitmapOf c anchor other) (b .low) (b .width) _ _
-              (select-is u period again some (firstOf u period b) (p / countOf (b .layout) (b .low) (b .width)) .passes)
-              (subst (λ (g : Layout). used g (b .low) (b .width) (elementAt (b .layout) (b .low) (b .width) (p % countOf (b .layout) (b .low) (b .width))) ≡ true) own
-              (used-listed (b .layout) (b .low) (b .width) .passes (p % countOf (b .layout) (b .low) (b .width)) (mod-lt p (some-used u period b f)))));
-        }
+    judged : (judgeOf c anchor other ≡ 0) × (grant ≡ 0)
+    unfolding questionRefusal
+    judged = chained (judgeOf c anchor other) grant zero
 
-    pub question-demand : planAnswer refusal u period b .no ≡ 0
-        → DownlinkDemand c (bitmapOf c anchor other) granted
-        (downlinkAnswers (planAnswer refusal u period b) (forwardAnswer refusal u period b) (backAnswer refusal u period b (why c (bitmapOf c anchor other))))
-    question-demand h =
-        let e : refusal ≡ 0 = accepted u period b refusal h in
-        subst (DownlinkDemand c (bitmapOf c anchor other) granted) (answers-are u period b refusal (why c (bitmapOf c anchor other)) e) (burst-demand e)
+    f : Fits b
+    f = fit (accepted-cell c anchor other (judged .0)) (judged .1)
+
+    burst-sends : Sends downlinkGrid (q .sending) (b .codeword) (b .copies)
+    burst-sends = record {
+      lawful = lawful u period (usable-again c anchor other (judged .0)) (usable-some c anchor other (judged .0)) b f;
+      units = f .codeword;
+      copies = f .copies;
+      inside = λ t e h. inside _ (element-below (b .layout) (b .low) (b .width) e h);
+    }
+
+    -- a used element of a subframe that is sent is clear
+    clear : (i e : ℕ) → i < q .sending .K → e < q .sending .W
+        → Clear c (bitmapOf c anchor other) (downlinkGrid .at (q .sending .time i) (q .sending .elem e))
+    clear i e k l =
+        used-place c (bitmapOf c anchor other) (b .low) (b .width) _ _
+        (among-parts u _ _ _ (burst-sends .lawful .units .passes i k) .1)
+        (subst (λ (g : Layout). used g (b .low) (b .width) (q .sending .elem e) ≡ true) own (burst-sends .lawful .elements .passes e l))
+
+    pub question-demand : (copies symbols : ℕ) → copies ≡ b .copies → symbols ≡ b .codeword * countOf (b .layout) (b .low) (b .width)
+        → DownlinkDemand c (bitmapOf c anchor other) (record { copies = copies; symbols = symbols; sending = q .sending }) answers
+    question-demand copies symbols R N =
+        subst⁻¹ (DownlinkDemand c (bitmapOf c anchor other) _) (downlink-are q (why c (bitmapOf c anchor other)))
+        (record {
+          demand = demand downlinkGrid downlink-numbered q zero _ _ burst-sends copies symbols R N;
+          clear = at-places downlinkGrid downlink-numbered q zero _ _ burst-sends (Clear c (bitmapOf c anchor other)) clear;
+        })

@@ -1,48 +1,47 @@
 -- What backward hands on beside its answer is the cause that the cell's question answers.
 use mathlib.Core.Bool.{Bool, true, false, cond, _&&_}
 use mathlib.Core.List.{List}
-use mathlib.Core.Path.{_≡_, refl, sym, ap, _∙_, subst}
-use mathlib.Core.Logic.{_⊎_, inl, inr}
+use mathlib.Core.Path.{_≡_, refl, sym, _∙_, subst⁻¹}
+use mathlib.Core.Logic.{_⊎_, inl, inr, ⊎-elim}
 use Prim.Native.Nat.{ℕ, _≤_, _<_}
 use native.Mathlib.Decide.{ℕ-discrete}
 use native.Mathlib.Omega.{arith}
 use lib.Dec.{ltb, leb}
-use borrow.Author.Tests.{eq-eqb, ne-eqb, lt-ltb, le-ltb, ltb-true}
+use borrow.Author.Tests.{eq-eqb, lt-ltb, le-ltb, ltb-true}
 use Rattle.counting.specs.Counting.{amongFirst}
 use Rattle.counting.proofs.Facts.{both-parts, truth, chained}
 use Rattle.counting.proofs.Range.{and-none}
 use Rattle.grid.specs.Grid.{subcarriers, symbols, slots}
 use Rattle.cell.specs.declared.Cell.{Cell}
 use Rattle.cell.specs.declared.Cause.{Cause}
-use Rattle.cell.specs.declared.Cause.the-variants.{None, Npbch, Npss, Nsss, Sib1, Bitmap}
-use Rattle.cell.specs.Usable.{period, why, none, usable}
+use Rattle.cell.specs.declared.Cause.the-variants.{None}
+use Rattle.cell.specs.Usable.{period, why, usable}
 use Rattle.cell.specs.Judge.{judgeOf, causeOf}
 use Rattle.sending.specs.Sending as sending
-use Rattle.sending.specs.Answer.{backOf}
-use Rattle.subframes.specs.declared.Burst.{Burst}
-use Rattle.subframes.specs.Cells.{questionRefusal}
-use Rattle.subframes.specs.Mapping.{firstOf, isSent}
-use Rattle.subframes.specs.Answers.{insideGrid, isBetween, burstPlan, planAnswer, backwardAnswer, causeAnswer, backAnswer}
-use Rattle.subframes.proofs.Joined.{backward-unsent}
+use Rattle.sending.specs.Sending.{Sending}
+use Rattle.sending.specs.Answer.{Question, extentOf, backOf}
+use Rattle.sending.proofs.Answer.{accepted, refused}
+use Rattle.downlink.specs.declared.Burst.{Burst}
+use Rattle.downlink.specs.declared.DownlinkPlan.{DownlinkPlan}
+use Rattle.downlink.specs.declared.DownlinkBack.{DownlinkBack}
+use Rattle.downlink.specs.Cells.{questionRefusal, questionOn}
+use Rattle.downlink.specs.Mapping.{firstOf, isSent}
+use Rattle.downlink.specs.Answers.{refusedPlan, planShown, refusedWhy, insideGrid, isBetween, causeAt, backWhy, planAnswer, backAnswer}
+use Rattle.downlink.proofs.Joined.{backward-unsent}
 use Rattle.promises.specs.Grids.{SubframePlace, downlinkGrid}
 use Rattle.promises.specs.Promises.{bitmapOf, HandsOn, byPlace}
-
-no-cause : (x : Cause) → none x ≡ true → x ≡ None
-no-cause None h = refl
-no-cause Npbch h = let z : _≡_ {A = ℕ} 0 1 = cc in absurd (omega arith)
-no-cause Npss h = let z : _≡_ {A = ℕ} 0 1 = cc in absurd (omega arith)
-no-cause Nsss h = let z : _≡_ {A = ℕ} 0 1 = cc in absurd (omega arith)
-no-cause Sib1 h = let z : _≡_ {A = ℕ} 0 1 = cc in absurd (omega arith)
-no-cause Bitmap h = let z : _≡_ {A = ℕ} 0 1 = cc in absurd (omega arith)
-
-in-grid : (x : SubframePlace) → downlinkGrid .Inside x → insideGrid (x .slot) (x .l) (x .k) ≡ true
-in-grid x i = rw (lt-ltb (x .slot) slots (i .0), lt-ltb (x .l) symbols (i .1), lt-ltb (x .k) subcarriers (i .2)) refl
+use Rattle.promises.proofs.Further.{no-cause, by-number}
+use Rattle.promises.proofs.Framed.{in-grid}
 
 grid-in : (x : SubframePlace) → insideGrid (x .slot) (x .l) (x .k) ≡ true → downlinkGrid .Inside x
 grid-in x h =
     let a = both-parts (ltb (x .slot) slots) (ltb (x .l) symbols && ltb (x .k) subcarriers) h in
     let b = both-parts (ltb (x .l) symbols) (ltb (x .k) subcarriers) (a .1) in
     (ltb-true (x .slot) slots (a .0), ltb-true (x .l) symbols (b .0), ltb-true (x .k) subcarriers (b .1))
+
+none-both : (p q : Bool) (y : Cause) → (p ≡ false) ⊎ (q ≡ false) → cond (p && q) y None ≡ None
+none-both p q y (inl e) = rw e refl
+none-both p q y (inr e) = rw (e, and-none p) refl
 
 module _ (c : Cell) (anchor other : List ℕ) (grant : ℕ) (b : Burst) where
   abbrev u : ℕ → Bool
@@ -51,109 +50,96 @@ module _ (c : Cell) (anchor other : List ℕ) (grant : ℕ) (b : Burst) where
   abbrev w : ℕ → Cause
   w = why c (bitmapOf c anchor other)
 
-  abbrev refusal : ℕ
-  refusal = questionRefusal c anchor other grant
+  abbrev q : Question
+  q = questionOn c anchor other grant b
 
-  -- the cause that is handed on
-  abbrev handed : ℕ → SubframePlace → Cause
-  handed n x = causeAnswer n u period b w (x .t) (x .slot) (x .l) (x .k)
+  abbrev S : Sending
+  S = q .sending
 
-  refused-none : (n : ℕ) (x : SubframePlace) → (n ≡ 0 → ⊥) → handed n x ≡ None
-  unfolding causeAnswer
-  refused-none n x h = rw (ne-eqb n 0 h) refl
+  -- what an accepted question answers
+  abbrev plan : DownlinkPlan
+  plan = planShown (extentOf S)
 
-  none-both : (p q : Bool) (y : Cause) → (p ≡ false) ⊎ (q ≡ false) → cond (p && q) y None ≡ None
-  none-both p q y (inl e) = rw e refl
-  none-both p q y (inr e) = rw (e, and-none p) refl
-
-  outside-none : (x : SubframePlace) → (insideGrid (x .slot) (x .l) (x .k) ≡ false) ⊎ (isBetween u period b (x .t) ≡ false) → handed 0 x ≡ None
-  unfolding causeAnswer
-  outside-none x e = none-both (insideGrid (x .slot) (x .l) (x .k)) (isBetween u period b (x .t)) (w (x .t)) e
-
-  told : (x : SubframePlace) → insideGrid (x .slot) (x .l) (x .k) ≡ true → isBetween u period b (x .t) ≡ true → handed 0 x ≡ w (x .t)
-  unfolding causeAnswer
-  told x i h = rw (i, h) refl
-
-  -- ---- of an accepted question
+  abbrev back : SubframePlace → DownlinkBack
+  back x = backWhy S w (x .t) (x .slot) (x .l) (x .k)
 
   module _ (x : SubframePlace) where
-    early-accepted : x .t ≤ planAnswer 0 u period b .first → handed 0 x ≡ None
-    unfolding planAnswer burstPlan isBetween
-    early-accepted l = outside-none x (inr (rw (le-ltb _ (x .t) l) refl))
+    abbrev inGrid : Bool
+    inGrid = insideGrid (x .slot) (x .l) (x .k)
 
-    late-accepted : planAnswer 0 u period b .last ≤ x .t → handed 0 x ≡ None
-    unfolding planAnswer burstPlan isBetween
-    late-accepted l = outside-none x (inr (rw (le-ltb (x .t) _ l) (and-none (ltb (planAnswer 0 u period b .first) (x .t)))))
+    told : inGrid ≡ true → isBetween S (x .t) ≡ true → back x .cause ≡ w (x .t)
+    unfolding backWhy causeAt
+    told i h = rw (i, h) refl
 
-    between-accepted : downlinkGrid .Inside x → planAnswer 0 u period b .first < x .t → x .t < planAnswer 0 u period b .last → handed 0 x ≡ w (x .t)
-    unfolding planAnswer burstPlan isBetween
-    between-accepted i f l = told x (in-grid x i) (rw (lt-ltb _ (x .t) f, lt-ltb (x .t) _ l) refl)
+    outside-none : (inGrid ≡ false) ⊎ (isBetween S (x .t) ≡ false) → back x .cause ≡ None
+    unfolding backWhy causeAt
+    outside-none e = none-both inGrid (isBetween S (x .t)) (w (x .t)) e
 
-    usable-none : u (x .t) ≡ true → (isBetween u period b (x .t) ≡ true) ⊎ (isBetween u period b (x .t) ≡ false) → insideGrid (x .slot) (x .l) (x .k) ≡ true
-        → handed 0 x ≡ None
-    usable-none y (inl h) i = told x i h ∙ no-cause (w (x .t)) y
-    usable-none y (inr h) i = outside-none x (inr h)
+    between : downlinkGrid .Inside x → plan .first < x .t → x .t < plan .last → back x .cause ≡ w (x .t)
+    unfolding isBetween
+    between i f l = told (in-grid x i) (rw (lt-ltb _ (x .t) f, lt-ltb (x .t) _ l) refl)
 
+    early : x .t ≤ plan .first → back x .cause ≡ None
+    unfolding isBetween
+    early l = outside-none (inr (rw (le-ltb _ (x .t) l) refl))
+
+    late : plan .last ≤ x .t → back x .cause ≡ None
+    unfolding isBetween
+    late l = outside-none (inr (rw (le-ltb (x .t) _ l) (and-none (ltb (plan .first) (x .t)))))
+
+    outside : (downlinkGrid .Inside x → ⊥) → back x .cause ≡ None
+    outside h = outside-none (inl (⊎-elim (λ i. absurd (h (grid-in x i))) (λ o. o) (truth inGrid)))
+
+    -- a subframe that is not usable is not sent
     unsent : u (x .t) ≡ false → isSent u period b (x .t) ≡ false
     unfolding amongFirst
     unsent n = rw n (and-none (leb (firstOf u period b) (x .t)))
 
-    beside-accepted : (handed 0 x ≡ None → ⊥) → (insideGrid (x .slot) (x .l) (x .k) ≡ true) ⊎ (insideGrid (x .slot) (x .l) (x .k) ≡ false)
-        → (u (x .t) ≡ true) ⊎ (u (x .t) ≡ false) → backwardAnswer 0 u period b (x .t) (x .slot) (x .l) (x .k) ≡ backOf (sending.other 0)
-    unfolding backwardAnswer
-    beside-accepted f (inr o) y = absurd (f (outside-none x (inl o)))
-    beside-accepted f (inl i) (inl y) = absurd (f (usable-none y (truth (isBetween u period b (x .t))) i))
-    beside-accepted f (inl i) (inr n) = sym (backward-unsent u period b (x .t) (x .slot) (x .l) (x .k) i (unsent n))
+    beside : (back x .cause ≡ None → ⊥) → (inGrid ≡ true) ⊎ (inGrid ≡ false) → (u (x .t) ≡ true) ⊎ (u (x .t) ≡ false)
+        → back x .back ≡ backOf (sending.notOurs 0)
+    unfolding backWhy
+    beside f (inr o) y = absurd (f (outside-none (inl o)))
+    beside f (inl i) (inl y) =
+        absurd (f (⊎-elim (λ h. told i h ∙ no-cause (w (x .t)) y) (λ h. outside-none (inr h)) (truth (isBetween S (x .t)))))
+    beside f (inl i) (inr n) = sym (backward-unsent u period b (x .t) (x .slot) (x .l) (x .k) i (unsent n))
 
-    -- ---- of any
+  accepted-hands : judgeOf c anchor other ≡ 0 → HandsOn c anchor other plan back
+  unfolding causeOf
+  accepted-hands e = record {
+    between = λ x i f l. rw (eq-eqb (judgeOf c anchor other) 0 e) (between x i f l);
+    numbered = λ x i f l. rw (between x i f l) (by-number (w (x .t)));
+    early = early;
+    late = late;
+    outside = outside;
+    beside = λ x f. beside x f (truth (inGrid x)) (truth (u (x .t)));
+  }
 
-    refused-last : (n : ℕ) → (n ≡ 0 → ⊥) → planAnswer n u period b .last ≡ 0
-    unfolding planAnswer
-    refused-last n h = rw (ne-eqb n 0 h) refl
+  refused-hands : (n : ℕ) → HandsOn c anchor other (refusedPlan n) (λ x. refusedWhy n)
+  refused-hands n = record {
+    between = λ x i f l. absurd (omega arith);
+    numbered = λ x i f l. absurd (omega arith);
+    early = λ x l. refl;
+    late = λ x l. refl;
+    outside = λ x h. refl;
+    beside = λ x f. absurd (f refl);
+  }
 
-    answered : refusal ≡ 0 → causeOf c anchor other (x .t) .cause ≡ w (x .t)
-    unfolding questionRefusal causeOf
-    answered e = rw (eq-eqb (judgeOf c anchor other) 0 (chained (judgeOf c anchor other) grant e .0)) refl
+  -- answers that are the same
+  answered-as : (p p' : DownlinkPlan) (f f' : SubframePlace → DownlinkBack) → p ≡ p' → ((x : SubframePlace) → f x ≡ f' x)
+      → HandsOn c anchor other p' f'
+      → HandsOn c anchor other p f
+  answered-as p p' f f' d e h = subst⁻¹ (λ (y : DownlinkPlan). HandsOn c anchor other y f) d (subst⁻¹ (HandsOn c anchor other p')
+      (λ i x. e x i) h)
 
-    early-by : (n : ℕ) → Dec (n ≡ 0) → x .t ≤ planAnswer n u period b .first → handed n x ≡ None
-    early-by n (yes e) = subst (λ (n : ℕ). x .t ≤ planAnswer n u period b .first → handed n x ≡ None) (sym e) early-accepted
-    early-by n (no h) = λ l. refused-none n x h
-
-    late-by : (n : ℕ) → Dec (n ≡ 0) → planAnswer n u period b .last ≤ x .t → handed n x ≡ None
-    late-by n (yes e) = subst (λ (n : ℕ). planAnswer n u period b .last ≤ x .t → handed n x ≡ None) (sym e) late-accepted
-    late-by n (no h) = λ l. refused-none n x h
-
-    outside-by : (n : ℕ) → Dec (n ≡ 0) → insideGrid (x .slot) (x .l) (x .k) ≡ false → handed n x ≡ None
-    outside-by n (yes e) o = ap (λ (n : ℕ). handed n x) e ∙ outside-none x (inl o)
-    outside-by n (no h) o = refused-none n x h
-
-    between-by : (n : ℕ) → Dec (n ≡ 0) → downlinkGrid .Inside x → planAnswer n u period b .first < x .t → x .t < planAnswer n u period b .last
-        → (n ≡ 0) × (handed n x ≡ w (x .t))
-    between-by n (yes e) i f l = (
-      e,
-      subst (λ (n : ℕ). planAnswer n u period b .first < x .t → x .t < planAnswer n u period b .last → handed n x ≡ w (x .t)) (sym e) (between-accepted i) f l,
-    )
-    between-by n (no h) i f l = absurd (omega (arith, refused-last n h))
-
-    beside-by : (n : ℕ) → Dec (n ≡ 0) → (handed n x ≡ None → ⊥) → backwardAnswer n u period b (x .t) (x .slot) (x .l) (x .k) ≡ backOf (sending.other 0)
-    beside-by n (yes e) =
-        subst (λ (n : ℕ). (handed n x ≡ None → ⊥) → backwardAnswer n u period b (x .t) (x .slot) (x .l) (x .k) ≡ backOf (sending.other 0)) (sym e)
-        (λ f. beside-accepted f (truth (insideGrid (x .slot) (x .l) (x .k))) (truth (u (x .t))))
-    beside-by n (no h) = λ f. absurd (f (refused-none n x h))
-
-    outside-grid : (downlinkGrid .Inside x → ⊥) → (insideGrid (x .slot) (x .l) (x .k) ≡ true) ⊎ (insideGrid (x .slot) (x .l) (x .k) ≡ false)
-        → insideGrid (x .slot) (x .l) (x .k) ≡ false
-    outside-grid h (inl i) = absurd (h (grid-in x i))
-    outside-grid h (inr o) = o
-
-  pub hands-on : HandsOn c anchor other (planAnswer refusal u period b) (byPlace (backAnswer refusal u period b w))
-  unfolding backAnswer
-  hands-on =
-      let d = ℕ-discrete refusal 0 in
-      record {
-        between = λ x i f l. let r = between-by x refusal d i f l in r .1 ∙ sym (answered x (r .0));
-        early = λ x l. early-by x refusal d l;
-        late = λ x l. late-by x refusal d l;
-        outside = λ x h. outside-by x refusal d (outside-grid x h (truth (insideGrid (x .slot) (x .l) (x .k))));
-        beside = λ x f. beside-by x refusal d f;
-      }
+  pub hands-on : HandsOn c anchor other (planAnswer q) (byPlace (backAnswer q w))
+  unfolding questionRefusal
+  hands-on = by (ℕ-discrete (q .no) 0)
+    where
+      by : Dec (q .no ≡ 0) → HandsOn c anchor other (planAnswer q) (byPlace (backAnswer q w))
+      by (yes e) =
+          answered-as _ plan _ back (accepted refusedPlan (q .no) plan e) (λ x. accepted refusedWhy (q .no) (back x) e)
+          (accepted-hands (chained (judgeOf c anchor other) grant e .0))
+      by (no h) =
+          answered-as _ (refusedPlan (q .no)) _ (λ x. refusedWhy (q .no)) (refused refusedPlan (q .no) plan h) (λ x. refused refusedWhy
+          (q .no) (back x) h)
+          (refused-hands (q .no))

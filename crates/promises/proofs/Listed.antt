@@ -1,49 +1,59 @@
--- P1 to P11 and the cases of L1 hold.
+-- P1 to P11 and the cases of L1 and L4 hold.
 use mathlib.Core.Bool.{Bool, true, false, cond}
 use mathlib.Core.List.{List, [], _∷_, map}
-use mathlib.Core.Path.{_≡_, refl, ap, ap₂, _∙_}
-use Prim.Native.Nat.{ℕ, _*_, _%_}
+use mathlib.Core.Path.{_≡_, refl, ap, _∙_}
+use mathlib.Core.Logic.{inl, inr, ⊎-elim}
+use Prim.Native.Nat.{ℕ, _*_, _%_, _≤_, _<_}
 use native.Mathlib.Omega.{arith}
-use lib.Dec.{T, eqb, ltb, eqb→eq}
-use Rattle.counting.specs.Counting.{rank, count, next, select, amongFirst}
-use Rattle.counting.proofs.Facts.{each, each-at}
+use lib.Dec.{ltb}
+use borrow.Author.Tests.{eq-eqb, ne-eqb, le-ltb}
+use Rattle.counting.specs.Counting.{rank, next, select}
 use Rattle.grid.specs.Grid.{subcarriers}
 use Rattle.grid.specs.Tables.{downlinkDelay, isRepetition}
-use Rattle.bitmap.specs.Bitmap.{bytesOf, listedLength, badBitmap, allowed}
+use Rattle.bitmap.specs.Bitmap.{bytesOf, allowed}
+use Rattle.cell.specs.declared.Cell.{Cell}
+use Rattle.cell.specs.Bitmap.{ownBuffer}
 use Rattle.cell.specs.Usable.{period, why, usable}
-use Rattle.cell.specs.Judge.{numbersRefusal, formRefusal, useRefusal, cellRefusal, judgeOf}
+use Rattle.cell.specs.Judge.{numbersRefusal, cellRefusal, judgeOf}
 use Rattle.cell.proofs.Cases as cell
-use Rattle.elements.specs.Elements.{nrs, crs, eligible, used, countOf}
-use Rattle.subframes.specs.declared.Burst.{Burst}
-use Rattle.subframes.specs.declared.DownlinkPlace.{DownlinkPlace}
-use Rattle.subframes.specs.Cells.{layoutOf, fieldsRefusal, questionRefusal}
-use Rattle.subframes.specs.Answers.{burstPlan, burstForward, planAnswer, forwardAnswer}
-use Rattle.downlink.specs.Refusals.{grantRefusal}
-use Rattle.downlink.specs.Questions.{planOf, forwardOf}
-use Rattle.uplink.proofs.Cases as uplink
-use Rattle.uplink.proofs.WindowCases.{window-cases}
-use Rattle.acknowledgement.proofs.Cases as ack
-use Rattle.promises.specs.Cases.{elementsOf, standalone, eightSubframes, Cases}
+use Rattle.elements.specs.Elements.{nrs, crs, eligible, used}
+use Rattle.elements.proofs.Laws.{all-used}
+use Rattle.elements.proofs.Cases as elements
+use Rattle.sending.specs.Sending.{Sending, spotAt}
+use Rattle.sending.specs.Answer.{extentOf}
+use Rattle.sending.proofs.Answer.{accepted, inside-at}
+use Rattle.downlink.specs.declared.DownlinkPlan.{DownlinkPlan}
+use Rattle.cell.specs.declared.ElementCount.{ElementCount}
+use Rattle.downlink.specs.Cells.{fieldsRefusal, questionRefusal}
+use Rattle.cell.specs.Layout.{layoutOf, elementCountOf}
+use Rattle.downlink.specs.Mapping.{sendingOf}
+use Rattle.downlink.specs.Answers.{refusedPlan, planShown, refusedPlace, placeOf}
+use Rattle.npdsch.specs.Refusals.{grantRefusal, refusalOf}
+use Rattle.npdsch.specs.Questions.{planOf, forwardOf}
+use Rattle.npusch.proofs.Cases as uplink
+use Rattle.npusch.proofs.WindowCases.{window-cases}
+use Rattle.harq_ack.proofs.Cases as ack
+use Rattle.promises.specs.Promises.{eligibleCount}
+use Rattle.promises.specs.Cases.{Unmapped, OneOrTwo, anchorCell, eightSubframes, sentIn, zeroAndFive, onlyFour, nothing, Cases}
+use Rattle.promises.proofs.Further.{counted, goes-at}
 
--- ---- P1: E reads the identity by its remainder mod 6 alone
+-- ---- P1
 
-abbrev eligibleAt : ℕ → ℕ → ℕ → ℕ → ℕ
-eligibleAt nports cports control v = countOf (record { v = v; nports = nports; cports = cports; control = control }) 0 subcarriers
+module _ (c : Cell) (anchor other : List ℕ) (u : Unmapped c) where
+  judged : judgeOf c anchor other ≡ 0
+  unfolding judgeOf
+  judged = cell.unmapped c (ownBuffer c anchor other) (u .numbers) (u .bits)
 
-abbrev atEach : ℕ → ℕ → ℕ → ℕ → Bool
-atEach nports cports control n = each 6 (λ v. eqb (eligibleAt nports cports control v) n)
+  -- E by the ports and the control region, at any shift
+  count-is : (nports cports control n : ℕ) → ((v : ℕ) → v < 6 → elements.eligibleAt nports cports control v ≡ n) → c .cports ≡ cports
+      → c .control ≡ control
+      → c .nports ≡ nports → elementCountOf c anchor other ≡ record { no = 0; e = n }
+  count-is nports cports control n e p l h =
+      counted c anchor other judged ∙ ap (λ (x : ℕ). record { no = 0; e = x }) (rw (h, p, l) (e (c .identity % 6) (omega arith)))
 
-by-shift : (nports cports control n : ℕ) → T (atEach nports cports control n) → (identity : ℕ) → eligibleAt nports cports control (identity % 6) ≡ n
-by-shift nports cports control n t identity =
-    eqb→eq (eligibleAt nports cports control (identity % 6)) n
-    (each-at 6 (λ v. eqb (eligibleAt nports cports control v) n) t (identity % 6) (omega arith))
+-- ---- P7 to P9
 
-tested : T (atEach 1 0 0 160) × T (atEach 2 0 0 152) × T (atEach 2 4 3 100) × T (atEach 2 2 3 104) × T (atEach 1 1 3 118)
-unfolding rank nrs crs eligible used
-tested = (tt, tt, tt, tt, tt)
-
--- ---- P7 to P9: with delay field 0, Rmax does not matter
-
+-- with delay field 0, Rmax does not matter
 no-delay : (rmax : ℕ) → downlinkDelay rmax 0 ≡ 0
 unfolding downlinkDelay
 no-delay rmax = by (ltb rmax 128)
@@ -52,73 +62,132 @@ no-delay rmax = by (ltb rmax 128)
     by true = refl
     by false = refl
 
-no-refusal : (rmax : ℕ) → isRepetition rmax ≡ true → grantRefusal (eightSubframes 0 rmax) ≡ 0
-unfolding fieldsRefusal grantRefusal
-no-refusal rmax h = rw h refl
+-- what is sent after so many usable subframes from subframe 20 on
+abbrev after : ℕ → ℕ → Sending
+after nports skip =
+    sendingOf (usable (anchorCell nports) []) period
+    (record {
+      layout = layoutOf (anchorCell nports);
+      low = 0;
+      width = subcarriers;
+      from = 20;
+      skip = skip;
+      codeword = 8;
+      copies = 1;
+      consecutive = 1;
+    })
 
-abbrev eight : ℕ → Burst
-eight skip = record { layout = layoutOf (standalone 0 1); low = 0; width = subcarriers; from = 20; skip = skip; codeword = 8; copies = 1; row = 1 }
+module _ (nports : ℕ) (anchor other : List ℕ) (ports : OneOrTwo nports) where
+  abbrev c : Cell
+  c = anchorCell nports
 
-module _ (rmax : ℕ) (h : isRepetition rmax ≡ true) where
-  forward-free : (p : ℕ) → forwardOf (standalone 0 1) [] [] (eightSubframes 0 rmax) p
-      ≡ forwardAnswer (questionRefusal (standalone 0 1) [] [] 0) (usable (standalone 0 1) []) period (eight 0) p
-  unfolding forwardOf bytesOf
-  forward-free p =
-      ap₂ (λ (n skip : ℕ). forwardAnswer (questionRefusal (standalone 0 1) [] [] n) (usable (standalone 0 1) []) period (eight skip) p)
-      (no-refusal rmax h) (no-delay rmax)
+  plain : Unmapped c
+  unfolding numbersRefusal
+  plain = record { numbers = ⊎-elim (λ e. rw e refl) (λ e. rw e refl) ports; bits = refl }
 
-  plan-free : planOf (standalone 0 1) [] [] (eightSubframes 0 rmax)
-      ≡ planAnswer (questionRefusal (standalone 0 1) [] [] 0) (usable (standalone 0 1) []) period (eight 0)
-  unfolding planOf bytesOf
-  plan-free =
-      ap₂ (λ (n skip : ℕ). planAnswer (questionRefusal (standalone 0 1) [] [] n) (usable (standalone 0 1) []) period (eight skip))
-      (no-refusal rmax h) (no-delay rmax)
+  module _ (delay rmax : ℕ) (d : delay ≤ 7) (r : isRepetition rmax ≡ true) where
+    unrefused : refusalOf c anchor other (eightSubframes delay rmax) ≡ 0
+    unfolding questionRefusal fieldsRefusal grantRefusal
+    unrefused = rw (judged c anchor other plain, le-ltb 7 delay d, r) refl
 
-map-same : {f g : ℕ → ℕ} → ((i : ℕ) → f i ≡ g i) → (xs : List ℕ) → map f xs ≡ map g xs
-map-same e [] = refl
-map-same e (x ∷ xs) = ap₂ (λ (y : ℕ) (ys : List ℕ). y ∷ ys) (e x) (map-same e xs)
+    planned : planOf c anchor other (eightSubframes delay rmax) ≡ planShown (extentOf (after nports (downlinkDelay rmax delay)))
+    unfolding planOf bytesOf
+    planned = accepted refusedPlan _ _ unrefused
 
--- position p of the eight subframes
-abbrev at : ℕ → DownlinkPlace
-at p = forwardAnswer (questionRefusal (standalone 0 1) [] [] 0) (usable (standalone 0 1) []) period (eight 0) p
+    placed : (p : ℕ) → p < 8 * eligibleCount c
+        → forwardOf c anchor other (eightSubframes delay rmax) p ≡ placeOf (spotAt (after nports (downlinkDelay rmax delay)) p)
+    unfolding forwardOf bytesOf
+    placed p h =
+        accepted refusedPlace _ _ unrefused
+        ∙ inside-at refusedPlace placeOf (after nports (downlinkDelay rmax delay)) p (rw all-used at h)
 
-subframes-sent : map (λ i. at (i * elementsOf (standalone 0 1)) .t) (0 ∷ 1 ∷ 2 ∷ 3 ∷ 4 ∷ 5 ∷ 6 ∷ 7 ∷ []) ≡ 21 ∷ 22 ∷ 23 ∷ 26 ∷ 27 ∷ 28 ∷ 31 ∷ 32 ∷ []
-unfolding rank count next select amongFirst nrs crs eligible used allowed why bytesOf listedLength badBitmap numbersRefusal formRefusal useRefusal cellRefusal judgeOf questionRefusal burstForward forwardAnswer
-subframes-sent = refl
+    sent : (i : ℕ) → i < 8 → sentIn c anchor other (eightSubframes delay rmax) i ≡ after nports (downlinkDelay rmax delay) .time i
+    unfolding bytesOf
+    sent i h =
+        ap (λ (x : ElementCount). forwardOf c anchor other (eightSubframes delay rmax) (i * x .e) .t)
+        (counted c anchor other (judged c anchor other plain))
+        ∙ goes-at c anchor other (eightSubframes delay rmax) i unrefused h
 
-places : (at 60 ≡ record { no = 0; t = 21; slot = 0; l = 5; k = 1; symbol = 60 }) × (at 73 ≡ record { no = 0; t = 21; slot = 0; l = 6; k = 4; symbol = 73 })
-unfolding rank count next select amongFirst nrs crs eligible used allowed why bytesOf listedLength badBitmap numbersRefusal formRefusal useRefusal cellRefusal judgeOf questionRefusal burstForward forwardAnswer
-places = (refl, refl)
+  -- the first usable ones from 20 on
+  seventh : (rmax : ℕ) → isRepetition rmax ≡ true → (i : ℕ) → i < 8
+      → sentIn c anchor other (eightSubframes 0 rmax) i ≡ after nports 0 .time i
+  seventh rmax r i h = sent 0 rmax (omega arith) r i h ∙ ap (λ (skip : ℕ). after nports skip .time i) (no-delay rmax)
 
-planned : planAnswer (questionRefusal (standalone 0 1) [] [] 0) (usable (standalone 0 1) []) period (eight 0)
-    ≡ record { no = 0; first = 21; last = 32; copies = 1; places = 1280 }
-unfolding rank count next select nrs crs eligible used allowed why bytesOf listedLength badBitmap numbersRefusal formRefusal useRefusal cellRefusal judgeOf questionRefusal burstPlan planAnswer
-planned = refl
+-- computed, whatever the ports
+times : (nports : ℕ) → map (after nports 0 .time) (0 ∷ 1 ∷ 2 ∷ 3 ∷ 4 ∷ 5 ∷ 6 ∷ 7 ∷ []) ≡ 21 ∷ 22 ∷ 23 ∷ 26 ∷ 27 ∷ 28 ∷ 31 ∷ 32 ∷ []
+unfolding next select allowed why
+times nports = refl
 
-delayed : (planOf (standalone 0 1) [] [] (eightSubframes 1 64) .first ≡ 27) × (planOf (standalone 0 1) [] [] (eightSubframes 1 128) .first ≡ 43)
-unfolding rank count next select nrs crs eligible used allowed why bytesOf listedLength badBitmap numbersRefusal formRefusal useRefusal cellRefusal judgeOf questionRefusal burstPlan planAnswer isRepetition fieldsRefusal grantRefusal downlinkDelay planOf
-delayed = (refl, refl)
+delayed : (nports : ℕ) → (after nports (downlinkDelay 64 1) .time 0 ≡ 27) × (after nports (downlinkDelay 128 1) .time 0 ≡ 43)
+unfolding next select allowed why downlinkDelay
+delayed nports = (refl, refl)
+
+repetitions : (isRepetition 64 ≡ true) × (isRepetition 128 ≡ true)
+unfolding isRepetition
+repetitions = (refl, refl)
+
+-- with one port or two
+plans : (planShown (extentOf (after 1 0)) ≡ record { no = 0; first = 21; last = 32; copies = 1; places = 1280 })
+    × (planShown (extentOf (after 2 0)) ≡ record { no = 0; first = 21; last = 32; copies = 1; places = 1216 })
+unfolding rank next select nrs crs eligible used allowed why
+plans = (refl, refl)
+
+ninth : (placeOf (spotAt (after 1 0) 60) ≡ record { no = 0; t = 21; slot = 0; l = 5; k = 1; symbol = 60 })
+    × (placeOf (spotAt (after 1 0) 73) ≡ record { no = 0; t = 21; slot = 0; l = 6; k = 4; symbol = 73 })
+unfolding rank next select nrs crs eligible used allowed why
+ninth = (refl, refl)
+
+module _ (rmax : ℕ) (anchor other : List ℕ) (r : isRepetition rmax ≡ true) where
+  plan-at : (nports : ℕ) → OneOrTwo nports
+      → planOf (anchorCell nports) anchor other (eightSubframes 0 rmax) ≡ planShown (extentOf (after nports 0))
+  plan-at nports h =
+      planned nports anchor other h 0 rmax (omega arith) r ∙ ap (λ (skip : ℕ). planShown (extentOf (after nports skip))) (no-delay rmax)
+
+  place-at : (p : ℕ) → p < 1280 → forwardOf (anchorCell 1) anchor other (eightSubframes 0 rmax) p ≡ placeOf (spotAt (after 1 0) p)
+  place-at p h =
+      placed 1 anchor other (inl refl) 0 rmax (omega arith) r p (omega (arith, elements.cases .standaloneOne 0 (omega arith)))
+      ∙ ap (λ (skip : ℕ). placeOf (spotAt (after 1 skip) p)) (no-delay rmax)
+
+-- ---- P10 and P11: only the carrier's own buffer is read
+
+own-anchor : (c : Cell) (anchor other : List ℕ) → c .carrier ≡ 0 → judgeOf c anchor other ≡ cellRefusal c anchor
+unfolding judgeOf
+own-anchor c anchor other e = rw (eq-eqb (c .carrier) 0 e) refl
+
+own-other : (c : Cell) (anchor other : List ℕ) → c .carrier ≡ 1 → judgeOf c anchor other ≡ cellRefusal c other
+unfolding judgeOf
+own-other c anchor other e = rw (ne-eqb (c .carrier) 0 (λ z. omega arith)) refl
 
 pub cases : Cases
 cases = record {
-  p1-one-port = by-shift 1 0 0 160 (tested .0);
-  p1-two-ports = by-shift 2 0 0 152 (tested .1);
-  p1-four-cell-ports = by-shift 2 4 3 100 (tested .2);
-  p1-two-cell-ports = by-shift 2 2 3 104 (tested .3);
-  p1-one-and-one = by-shift 1 1 3 118 (tested .4);
+  p1-one-port = λ c anchor other s. count-is c anchor other (s .unmapped) 1 0 0 160 (elements.cases .standaloneOne) (s .cports)
+      (s .control);
+  p1-two-ports = λ c anchor other s. count-is c anchor other (s .unmapped) 2 0 0 152 (elements.cases .standaloneTwo) (s .cports)
+      (s .control);
+  p1-four-cell-ports = λ c anchor other s n p. count-is c anchor other (s .unmapped) 2 4 3 100 (elements.cases .fourPorts) p (s .control) n;
+  p1-two-cell-ports = λ c anchor other s n p. count-is c anchor other (s .unmapped) 2 2 3 104 (elements.cases .twoPorts) p (s .control) n;
+  p1-one-and-one = λ c anchor other s n p. count-is c anchor other (s .unmapped) 1 1 3 118 (elements.cases .oneAndOne) p (s .control) n;
   p2-to-p6 = uplink.uplink-cases;
-  p7 = λ rmax h. map-same (λ i. ap (λ (r : DownlinkPlace). r .t) (forward-free rmax h (i * elementsOf (standalone 0 1)))) (0 ∷ 1 ∷ 2 ∷ 3 ∷ 4 ∷ 5 ∷ 6 ∷ 7 ∷ []) ∙ subframes-sent;
-  p7-plan = λ rmax h. plan-free rmax h ∙ planned;
-  p8-64 = delayed .0;
-  p8-128 = delayed .1;
-  p9-60 = λ rmax h. forward-free rmax h 60 ∙ places .0;
-  p9-73 = λ rmax h. forward-free rmax h 73 ∙ places .1;
-  p10-anchor = cell.cases .p10-anchor;
-  p10-other = cell.cases .p10-other;
-  p11-schedule-2 = cell.cases .p11-sixteen-copies;
-  p11-schedule-1 = cell.cases .p11-eight-copies;
-  nothing-anchor = cell.cases .nothing-anchor;
-  nothing-other = cell.cases .nothing-other;
+  p7 = λ nports rmax anchor other h r.
+      let s = seventh nports anchor other h rmax r in
+      (λ j.
+      s 0 (omega arith) j ∷ s 1 (omega arith) j ∷ s 2 (omega arith) j ∷ s 3 (omega arith) j
+      ∷ s 4 (omega arith) j ∷ s 5 (omega arith) j ∷ s 6 (omega arith) j ∷ s 7 (omega arith) j ∷ [])
+      ∙ times nports;
+  p7-one-port = λ rmax anchor other r. plan-at rmax anchor other r 1 (inl refl) ∙ plans .0;
+  p7-two-ports = λ rmax anchor other r. plan-at rmax anchor other r 2 (inr refl) ∙ plans .1;
+  p8-64 = λ nports anchor other h.
+      ap (λ (x : DownlinkPlan). x .first) (planned nports anchor other h 1 64 (omega arith) (repetitions .0)) ∙ delayed nports .0;
+  p8-128 = λ nports anchor other h.
+      ap (λ (x : DownlinkPlan). x .first) (planned nports anchor other h 1 128 (omega arith) (repetitions .1)) ∙ delayed nports .1;
+  p9-60 = λ rmax anchor other r. place-at rmax anchor other r 60 (omega arith) ∙ ninth .0;
+  p9-73 = λ rmax anchor other r. place-at rmax anchor other r 73 (omega arith) ∙ ninth .1;
+  p10-anchor = λ c other n a b. own-anchor c zeroAndFive other a ∙ cell.ten-anchor c n b a;
+  p10-other = λ c anchor n a b. own-other c anchor zeroAndFive a ∙ cell.ten-other c n b a;
+  p11-schedule-2 = λ c other n a i b s. own-anchor c onlyFour other a ∙ cell.forty-16 c n a i b s;
+  p11-schedule-1 = λ c other n a i b s. own-anchor c onlyFour other a ∙ cell.forty-8 c n a i b s;
+  nothing-anchor = λ c other n a b. own-anchor c nothing other a ∙ cell.ten-nothing c n b;
+  nothing-other = λ c anchor n a b. own-other c anchor nothing a ∙ cell.ten-nothing c n b;
   acknowledgements = ack.ack-cases;
   windows = window-cases;
 }

@@ -1,40 +1,46 @@
 -- DEMAND 3 of every accepted uplink grant: each kind is a shape.
 use mathlib.Core.Bool.{Bool, true}
-use mathlib.Core.Path.{_≡_, refl, sym, ap, _∙_, subst}
-use mathlib.Core.Logic.{_⊎_, inl, inr, ⊎-elim}
-use Prim.Native.Nat.{ℕ, _-_, _*_, _/_, _%_, _≤_, _<_}
-use native.Mathlib.Nat.{mul-pos, mul-comm, div-add-mod'}
+use mathlib.Core.Path.{_≡_, refl, ap, _∙_, subst⁻¹}
+use mathlib.Core.Logic.{inl, inr, ⊎-elim}
+use Prim.Native.Nat.{ℕ, _*_, _/_, _%_, _≤_, _<_}
+use native.Mathlib.Nat.{mul-comm, mod-lt, div-add-mod'}
 use native.Mathlib.Omega.{arith}
-use Rattle.counting.proofs.Facts.{order, div-mono}
-use Rattle.grid.specs.Grid.{uplinkSubcarriers, uplinkElementOf}
+use borrow.Author.Tests.{lt-ltb}
+use Rattle.counting.proofs.Facts.{order, both, div-mono}
+use Rattle.grid.specs.Grid.{symbols, uplinkSubcarriers, uplinkElementOf}
 use Rattle.grid.proofs.Numbering.{uplink-of-parts, uplink-symbol-of, uplink-subcarrier-of}
-use Rattle.slots.specs.declared.Shape.{Shape}
-use Rattle.slots.specs.Fits.{Fits, Leaves}
-use Rattle.slots.specs.Timing.{groupAt}
-use Rattle.slots.specs.Elements.{slotData}
-use Rattle.slots.specs.Mapping.{sendingOf, places}
-use Rattle.slots.specs.Answers.{shapePlan, shapeForward, shapeBackward, planAnswer, forwardAnswer, backwardAnswer}
-use Rattle.slots.proofs.Joined.{forward-refused}
-use Rattle.slots.proofs.Judging.{plan-accepted, forward-accepted, backward-accepted, plan-no}
-use Rattle.slots.proofs.Lines.{slot-data, some-data}
-use Rattle.slots.proofs.Lawfulness.{shape-sound, forward-place, backward-content, place-symbol, place-subcarrier, place-open}
-use Rattle.windows.specs.Windows.{keepsClear}
-use Rattle.uplink.specs.declared.UplinkGrant.{UplinkGrant}
-use Rattle.uplink.specs.Fields.{firstTone}
-use Rattle.uplink.specs.Refusals.{refusal}
-use Rattle.uplink.specs.Shaping.{grantTones, shapeOf, openOf}
-use Rattle.uplink.specs.Questions.{planOf, forwardOf, backwardOf}
-use Rattle.uplink.proofs.Acceptance.{fits, leaves-open}
-use Rattle.acknowledgement.specs.declared.AckGrant.{AckGrant}
-use Rattle.acknowledgement.specs.Fields.{toneOf}
-use Rattle.acknowledgement.specs.Refusals as ack-refusals
-use Rattle.acknowledgement.specs.Shaping as ack-shaping
-use Rattle.acknowledgement.specs.Questions as ack
-use Rattle.acknowledgement.proofs.Accepting as ack-accepting
-use Rattle.promises.specs.Demand.{Answers, Granted, Demand, firstBy}
+use Rattle.sending.specs.Answer.{Question, extentOf}
+use Rattle.sending.proofs.Answer.{accepts, answer-map, forward-map}
+use Rattle.uplink.specs.declared.Shape.{Shape}
+use Rattle.uplink.specs.declared.UplinkPlan.{UplinkPlan}
+use Rattle.uplink.specs.Fits.{Fits, OpenRepeats}
+use Rattle.uplink.specs.Timing.{groupAt}
+use Rattle.uplink.specs.Elements.{slotData, elementAt}
+use Rattle.uplink.specs.Mapping.{sendingOf}
+use Rattle.uplink.specs.Answers.{refusedPlan, planShown, refusedPlace, placeOf, insideGrid, planAnswer, forwardAnswer, backwardAnswer}
+use Rattle.uplink.proofs.Joined.{sent-open}
+use Rattle.uplink.proofs.Lines.{slot-data, elements-listed, data-parts, data-symbol-parts}
+use Rattle.uplink.proofs.Lawfulness.{lawful}
+use Rattle.nprach.specs.declared.Windows.{Windows}
+use Rattle.npusch.specs.declared.NpuschGrant.{NpuschGrant}
+use Rattle.npusch.specs.Fields.{firstTone}
+use Rattle.npusch.specs.Refusals.{refusal}
+use Rattle.npusch.specs.Shaping.{grantTones, grantSize, grantOrder, shapeOf, openOf}
+use Rattle.npusch.specs.Questions.{planOf, forwardOf, backwardOf}
+use Rattle.npusch.proofs.Acceptance as acceptance
+use Rattle.npusch.proofs.Acceptance.{fits, opens}
+use Rattle.harq_ack.specs.declared.HarqAckGrant.{HarqAckGrant}
+use Rattle.harq_ack.specs.Fields.{toneOf}
+use Rattle.harq_ack.specs.Refusals as ack-refusals
+use Rattle.harq_ack.specs.Shaping as ack-shaping
+use Rattle.harq_ack.specs.Questions as ack
+use Rattle.harq_ack.proofs.Accepting as ack-accepting
+use Rattle.promises.specs.Demand.{Answers, Demand, firstBy}
 use Rattle.promises.specs.Grids.{SlotPlace, uplinkGrid, uplinkColumns, uplinkAnswers}
+use Rattle.promises.specs.Further.{KeepsClear}
 use Rattle.promises.specs.Promises.{dataSymbols, uplinkGranted, ackDataSymbols, ackGranted}
-use Rattle.promises.proofs.Bridge.{Numbered, Read, demand}
+use Rattle.promises.proofs.Bridge.{Numbered, answersBy, Sends, at-places, demand}
+use Rattle.promises.proofs.Further.{keeps-clear}
 
 -- ---- the grid
 
@@ -53,95 +59,117 @@ uplink-numbered T h = record {
   element = λ x. uplinkElementOf T (x .l) (x .k);
   timed = λ t x. refl;
   numbered = λ t x. uplink-of-parts T x;
-  back = λ x i. λ j. record { slot = x .slot; l = uplink-symbol-of T (x .l) (x .k) (i .1) j; k = uplink-subcarrier-of T (x .l) (x .k) (i .1) j };
+  back = λ x i. λ j. record {
+    slot = x .slot;
+    l = uplink-symbol-of T (x .l) (x .k) (i .1) j;
+    k = uplink-subcarrier-of T (x .l) (x .k) (i .1) j;
+  };
+  isInside = λ x. insideGrid T (x .l) (x .k);
+  insideIs = λ x i. both _ _ (lt-ltb (x .l) symbols (i .0)) (lt-ltb (x .k) T (i .1));
   later = λ t t' x x' l. inl l;
   further = λ t x x' l. inr (refl, slot-further T x x' h l);
 }
 
+-- the uplink's answers to a question are in its columns
+uplink-are : (T size order : ℕ) (h : 0 < T) (q : Question)
+    → uplinkAnswers (planAnswer size order q) (forwardAnswer T q) (backwardAnswer T q) ≡ answersBy (uplinkGrid T) (uplink-numbered T h) q
+unfolding uplink-numbered
+uplink-are T size order h q = λ i. record {
+  places = answer-map (λ (x : UplinkPlan). x .places) refusedPlan (q .no) (planShown size order (extentOf (q .sending))) i;
+  forward = λ p. forward-map uplinkColumns refusedPlace (placeOf T) q p i;
+  backward = λ x. backwardAnswer T q (x .slot) (x .l) (x .k);
+}
+
 -- ---- a shape: any kind of uplink grant
 
-abbrev shapeAnswers : Shape → (ℕ → Bool) → Answers SlotPlace
-shapeAnswers s isOpen = uplinkAnswers (shapePlan s isOpen) (shapeForward s isOpen) (shapeBackward s isOpen)
-
-module _ (s : Shape) (isOpen : ℕ → Bool) (f : Fits s) (o : Leaves s isOpen) where
-  some-tones : 0 < s .subcarriers
-  some-tones = omega (arith, f .tones, f .withinTones)
-
-  shape-read : Read (uplinkGrid (s .subcarriers)) (uplink-numbered (s .subcarriers) some-tones) (sendingOf s isOpen) (shapeAnswers s isOpen)
-  unfolding uplink-numbered shapePlan
-  shape-read = record {
-    places = refl;
-    some = mul-pos (mul-pos (f .copies) (f .codeword)) (some-data s f);
-    forward = λ p h. ap uplinkColumns (forward-place s isOpen f o p h);
-    past = λ p h. ap uplinkColumns (sym (forward-refused s isOpen p h));
-    inside = λ p h. (rw (forward-place s isOpen f o p h) at (place-symbol s isOpen f o p h .0), rw (forward-place s isOpen f o p h) at (place-subcarrier s isOpen f o p h));
-    backward = λ x i. backward-content s isOpen f o (x .slot) (x .l) (x .k) (i .0) (i .1);
+module _ (s : Shape) (isOpen : ℕ → Bool) (f : Fits s) (o : OpenRepeats s isOpen) where
+  shape-sends : Sends (uplinkGrid (s .subcarriers)) (sendingOf s isOpen) (s .codeword) (s .copies)
+  shape-sends = record {
+    lawful = lawful s isOpen f o;
+    units = f .codeword;
+    copies = f .copies;
+    inside = λ t e h. (
+      data-symbol-parts s f _ (data-parts s f _ (elements-listed s f .passes e h) .0) .0,
+      mod-lt (elementAt s e) (omega (arith, f .tones, f .withinTones)),
+    );
   }
 
--- ---- a question on it, with refusals
+module _ (refusal : ℕ) (s : Shape) (isOpen : ℕ → Bool) (fit : refusal ≡ 0 → Fits s) (left : refusal ≡ 0 → OpenRepeats s isOpen)
+    (size order : ℕ) where
+  abbrev q : Question
+  q = record { no = refusal; sending = sendingOf s isOpen }
 
-module _ (refusal : ℕ) (s : Shape) (isOpen : ℕ → Bool) (fit : refusal ≡ 0 → Fits s) (left : refusal ≡ 0 → Leaves s isOpen) (copies symbols : ℕ) where
-  abbrev granted : Granted
-  granted = record { copies = copies; symbols = symbols; sending = sendingOf s isOpen }
+  abbrev answers : Answers SlotPlace
+  answers = uplinkAnswers (planAnswer size order q) (forwardAnswer (s .subcarriers) q) (backwardAnswer (s .subcarriers) q)
 
-  answers-are : refusal ≡ 0 → shapeAnswers s isOpen ≡ uplinkAnswers (planAnswer refusal s isOpen) (forwardAnswer refusal s isOpen) (backwardAnswer refusal s isOpen)
-  answers-are e =
-      λ i. uplinkAnswers (plan-accepted refusal s isOpen e i) (λ p. forward-accepted refusal s isOpen e p i) (λ slot l k. backward-accepted refusal s isOpen e slot l k i)
+  module _ (h : planAnswer size order q .no ≡ 0) where
+    zero : refusal ≡ 0
+    zero = accepts refusedPlan (λ x. x .no) (λ m. refl) refusal _ refl h
 
-  pub question-demand : copies ≡ s .copies → (refusal ≡ 0 → symbols ≡ s .codeword * slotData s) → planAnswer refusal s isOpen .no ≡ 0
-      → Demand (uplinkGrid (s .subcarriers)) granted (uplinkAnswers (planAnswer refusal s isOpen) (forwardAnswer refusal s isOpen) (backwardAnswer refusal s isOpen))
-  question-demand R N h =
-      let e : refusal ≡ 0 = sym (plan-no refusal s isOpen) ∙ h in
-      let f : Fits s = fit e in
-      let o : Leaves s isOpen = left e in
-      subst (Demand (uplinkGrid (s .subcarriers)) granted) (answers-are e)
-      (demand (uplinkGrid (s .subcarriers)) (uplink-numbered (s .subcarriers) (some-tones s isOpen f o)) granted (shapeAnswers s isOpen)
-      (shape-read s isOpen f o) (s .codeword) (s .copies) (shape-sound s isOpen f o) R (N e))
+    some-tones : 0 < s .subcarriers
+    some-tones = omega (arith, fit zero .tones, fit zero .withinTones)
 
-  -- every place is in a group that is open
-  pub question-open : planAnswer refusal s isOpen .no ≡ 0 → (p : ℕ) → p < planAnswer refusal s isOpen .places
-      → isOpen (groupAt s (forwardAnswer refusal s isOpen p .slot)) ≡ true
-  unfolding shapePlan
-  question-open h p l =
-      let e : refusal ≡ 0 = sym (plan-no refusal s isOpen) ∙ h in
-      let b : p < places s = rw (← plan-accepted refusal s isOpen e) at l in
-      rw (← forward-accepted refusal s isOpen e p) (place-open s isOpen (fit e) (left e) p b)
+    pub question-demand : (copies symbols : ℕ) → copies ≡ s .copies → (refusal ≡ 0 → symbols ≡ s .codeword * slotData s)
+        → Demand (uplinkGrid (s .subcarriers)) (record { copies = copies; symbols = symbols; sending = sendingOf s isOpen }) answers
+    question-demand copies symbols R N =
+        subst⁻¹ (Demand (uplinkGrid (s .subcarriers)) _) (uplink-are (s .subcarriers) size order some-tones q)
+        (demand (uplinkGrid (s .subcarriers)) (uplink-numbered _ some-tones) q zero _ _
+        (shape-sends s isOpen (fit zero) (left zero)) copies symbols R (N zero))
+
+    -- every place is in a group that is open
+    pub question-open : (p : ℕ) → p < answers .places → isOpen (groupAt s (answers .forward p .place .slot)) ≡ true
+    question-open =
+        subst⁻¹ (λ (a : Answers SlotPlace). (p : ℕ) → p < a .places → isOpen (groupAt s (a .forward p .place .slot)) ≡ true)
+        (uplink-are (s .subcarriers) size order some-tones q)
+        (at-places (uplinkGrid (s .subcarriers)) (uplink-numbered _ some-tones) q zero _ _ (shape-sends s isOpen (fit zero) (left zero))
+        (λ x. isOpen (groupAt s (x .slot)) ≡ true)
+        (λ i e l m. sent-open s isOpen _ (lawful s isOpen (fit zero) (left zero) .units .passes i l)))
 
 -- ---- NPUSCH
 
 -- six data symbols on each tone
-six-each : (g : UplinkGrant) → refusal g ≡ 0 → grantTones g * dataSymbols ≡ slotData (shapeOf g)
+six-each : (g : NpuschGrant) (ws : Windows) → refusal g ws ≡ 0 → grantTones g * dataSymbols ≡ slotData (shapeOf g)
 unfolding shapeOf
-six-each g e = mul-comm (grantTones g) dataSymbols ∙ slot-data (shapeOf g) (fits g e)
+six-each g ws e = mul-comm (grantTones g) dataSymbols ∙ slot-data (shapeOf g) (fits g ws e)
 
-pub uplink-demand : (g : UplinkGrant) → planOf g .no ≡ 0
-    → Demand (uplinkGrid (uplinkSubcarriers (g .spacing))) (uplinkGranted g) (uplinkAnswers (planOf g) (forwardOf g) (backwardOf g))
-unfolding shapeOf planOf forwardOf backwardOf
-uplink-demand g =
-    question-demand (refusal g) (shapeOf g) (openOf g) (fits g) (leaves-open g) _ _ refl (λ e. ap (λ (w : ℕ). shapeOf g .codeword * w) (six-each g e))
+module _ (g : NpuschGrant) (ws : Windows) (h : planOf g ws .no ≡ 0) where
+  pub uplink-demand : Demand (uplinkGrid (uplinkSubcarriers (g .spacing))) (uplinkGranted g ws)
+      (uplinkAnswers (planOf g ws) (forwardOf g ws) (backwardOf g ws))
+  unfolding shapeOf planOf forwardOf backwardOf
+  uplink-demand =
+      question-demand (refusal g ws) (shapeOf g) (openOf g ws) (fits g ws) (opens g ws) (grantSize g) (grantOrder g) h _ _ refl
+      (λ e. ap (λ (w : ℕ). shapeOf g .codeword * w) (six-each g ws e))
+
+  pub uplink-clear : (p : ℕ) → p < planOf g ws .places
+      → KeepsClear (g .spacing) (firstTone (g .spacing) (g .subcarrier)) (grantTones g) ws (forwardOf g ws p .slot)
+  unfolding shapeOf planOf forwardOf
+  uplink-clear p l =
+      let e = zero (refusal g ws) (shapeOf g) (openOf g ws) (fits g ws) (opens g ws) (grantSize g) (grantOrder g) h in
+      keeps-clear (g .spacing) _ _ ws (acceptance.accepted g ws e .windows) _
+      (question-open (refusal g ws) (shapeOf g) (openOf g ws) (fits g ws) (opens g ws) (grantSize g) (grantOrder g) h p l)
 
 -- ---- acknowledgements
 
 -- four data symbols on the tone
-four-each : (g : AckGrant) → ack-refusals.refusal g ≡ 0 → ackDataSymbols ≡ slotData (ack-shaping.shapeOf g)
+four-each : (g : HarqAckGrant) (ws : Windows) → ack-refusals.refusal g ws ≡ 0 → ackDataSymbols ≡ slotData (ack-shaping.shapeOf g)
 unfolding ack-shaping.shapeOf
-four-each g e = slot-data (ack-shaping.shapeOf g) (ack-accepting.fits g e)
+four-each g ws e = slot-data (ack-shaping.shapeOf g) (ack-accepting.fits g ws e)
 
-pub ack-demand : (g : AckGrant) → ack.planOf g .no ≡ 0
-    → Demand (uplinkGrid (uplinkSubcarriers (g .spacing))) (ackGranted g) (uplinkAnswers (ack.planOf g) (ack.forwardOf g) (ack.backwardOf g))
-unfolding ack-shaping.shapeOf ack.planOf ack.forwardOf ack.backwardOf
-ack-demand g =
-    question-demand (ack-refusals.refusal g) (ack-shaping.shapeOf g) (ack-shaping.openOf g) (ack-accepting.fits g) (ack-accepting.leaves-open g) _ _ refl (λ e. ap (λ (w : ℕ). 4 * w) (four-each g e))
+module _ (g : HarqAckGrant) (ws : Windows) (h : ack.planOf g ws .no ≡ 0) where
+  pub ack-demand : Demand (uplinkGrid (uplinkSubcarriers (g .spacing))) (ackGranted g ws)
+      (uplinkAnswers (ack.planOf g ws) (ack.forwardOf g ws) (ack.backwardOf g ws))
+  unfolding ack-shaping.shapeOf ack.planOf ack.forwardOf ack.backwardOf
+  ack-demand =
+      question-demand (ack-refusals.refusal g ws) (ack-shaping.shapeOf g) (ack-shaping.openOf g ws) (ack-accepting.fits g ws)
+      (ack-accepting.opens g ws) 1 1 h _ _ refl
+      (λ e. ap (λ (w : ℕ). 4 * w) (four-each g ws e))
 
--- ---- clear of the windows
-
-pub uplink-clear : (g : UplinkGrant) → planOf g .no ≡ 0 → (p : ℕ) → p < planOf g .places
-    → keepsClear (g .spacing) (firstTone (g .spacing) (g .subcarrier)) (grantTones g) (g .windows) (forwardOf g p .slot) ≡ true
-unfolding shapeOf planOf forwardOf
-uplink-clear g = question-open (refusal g) (shapeOf g) (openOf g) (fits g) (leaves-open g) 0 0
-
-pub ack-clear : (g : AckGrant) → ack.planOf g .no ≡ 0 → (p : ℕ) → p < ack.planOf g .places
-    → keepsClear (g .spacing) (toneOf (g .spacing) (g .field)) 1 (g .windows) (ack.forwardOf g p .slot) ≡ true
-unfolding ack-shaping.shapeOf ack.planOf ack.forwardOf
-ack-clear g =
-    question-open (ack-refusals.refusal g) (ack-shaping.shapeOf g) (ack-shaping.openOf g) (ack-accepting.fits g) (ack-accepting.leaves-open g) 0 0
+  pub ack-clear : (p : ℕ) → p < ack.planOf g ws .places
+      → KeepsClear (g .spacing) (toneOf (g .spacing) (g .field)) 1 ws (ack.forwardOf g ws p .slot)
+  unfolding ack-shaping.shapeOf ack.planOf ack.forwardOf
+  ack-clear p l =
+      let e = zero (ack-refusals.refusal g ws) (ack-shaping.shapeOf g) (ack-shaping.openOf g ws) (ack-accepting.fits g ws)
+      (ack-accepting.opens g ws) 1 1 h in
+      keeps-clear (g .spacing) _ _ ws (ack-accepting.accepted g ws e .windows) _
+      (question-open (ack-refusals.refusal g ws) (ack-shaping.shapeOf g) (ack-shaping.openOf g ws) (ack-accepting.fits g ws)
+      (ack-accepting.opens g ws) 1 1 h p l)

@@ -50,8 +50,16 @@ fn plan(k: Kind, v: &Values, anchor: &[u8], other: &[u8], out: &mut Page, at: us
     ensures { λ r. ⌜ r ≤ at + 320 ⌝ }
 {
     match k {
-        Kind::Up => answers::put_uplink_plan(nbiot::plan_up(questions::uplink_grant(v)), out, at),
-        Kind::Ack => answers::put_uplink_plan(nbiot::plan_ack(questions::ack_grant(v)), out, at),
+        Kind::Up => answers::put_uplink_plan(
+            nbiot::plan_up_beside(questions::npusch_grant(v), questions::windows_of(v)),
+            out,
+            at,
+        ),
+        Kind::Ack => answers::put_uplink_plan(
+            nbiot::plan_ack_beside(questions::harq_ack_grant(v), questions::windows_of(v)),
+            out,
+            at,
+        ),
         _ => answers::put_downlink_plan(either::plan(k, v, anchor, other), out, at),
     }
 }
@@ -63,11 +71,19 @@ fn forward(k: Kind, v: &Values, anchor: &[u8], other: &[u8], out: &mut Page, at:
     let p = v[P];
     match k {
         Kind::Up => {
-            let x = nbiot::forward_up(questions::uplink_grant(v), p);
+            let x = nbiot::forward_up_beside(
+                questions::npusch_grant(v),
+                questions::windows_of(v),
+                p,
+            );
             answers::put_uplink_place(x, out, at)
         }
         Kind::Ack => {
-            let x = nbiot::forward_ack(questions::ack_grant(v), p);
+            let x = nbiot::forward_ack_beside(
+                questions::harq_ack_grant(v),
+                questions::windows_of(v),
+                p,
+            );
             answers::put_uplink_place(x, out, at)
         }
         _ => answers::put_downlink_place(either::forward(k, v, anchor, other, p), out, at),
@@ -83,11 +99,23 @@ fn backward(k: Kind, v: &Values, anchor: &[u8], other: &[u8], out: &mut Page, at
     let s = v[K];
     match k {
         Kind::Up => {
-            let x = nbiot::backward_up(questions::uplink_grant(v), slot, l, s);
+            let x = nbiot::backward_up_beside(
+                questions::npusch_grant(v),
+                questions::windows_of(v),
+                slot,
+                l,
+                s,
+            );
             answers::put_back(x, out, at)
         }
         Kind::Ack => {
-            let x = nbiot::backward_ack(questions::ack_grant(v), slot, l, s);
+            let x = nbiot::backward_ack_beside(
+                questions::harq_ack_grant(v),
+                questions::windows_of(v),
+                slot,
+                l,
+                s,
+            );
             answers::put_back(x, out, at)
         }
         _ => {
@@ -138,7 +166,7 @@ fn fill_room(
     ensures { λ r. ⌜ r ≤ at + 16384 ⌝ }
 {
     let c = questions::cell_of(v);
-    let g = questions::downlink_grant(v);
+    let g = questions::npdsch_grant(v);
     let level = questions::level_of(v);
     let no = nbiot::fill(c, anchor, other, g, v[I], data, level, room);
     answers::put_fill(no, room, out, at)
@@ -159,7 +187,7 @@ fn element(v: &Values, anchor: &[u8], other: &[u8], data: &[u8], out: &mut Page,
     ensures { λ r. ⌜ r ≤ at + 320 ⌝ }
 {
     let c = questions::cell_of(v);
-    let g = questions::downlink_grant(v);
+    let g = questions::npdsch_grant(v);
     let level = questions::level_of(v);
     let e = nbiot::element(c, anchor, other, g, v[I], v[SLOT], v[L], v[K], data, level);
     answers::put_element(symbol::numbers(e), out, at)

@@ -1,23 +1,23 @@
 // The questions of a downlink grant of either kind. A kind of the uplink is taken as down.
+use downlink::DownlinkBack;
+use downlink::DownlinkPlace;
+use downlink::DownlinkPlan;
 use questions::Kind;
 use questions::Values;
-use subframes::DownlinkBack;
-use subframes::DownlinkPlace;
-use subframes::DownlinkPlan;
 
 pub fn plan(k: Kind, v: &Values, anchor: &[u8], other: &[u8]) -> DownlinkPlan {
     let c = questions::cell_of(v);
     match k {
-        Kind::Control => nbiot::plan_control(c, anchor, other, questions::control_grant(v)),
-        _ => nbiot::plan_down(c, anchor, other, questions::downlink_grant(v)),
+        Kind::Control => nbiot::plan_control(c, anchor, other, questions::npdcch_grant(v)),
+        _ => nbiot::plan_down(c, anchor, other, questions::npdsch_grant(v)),
     }
 }
 
 pub fn forward(k: Kind, v: &Values, anchor: &[u8], other: &[u8], p: u64) -> DownlinkPlace {
     let c = questions::cell_of(v);
     match k {
-        Kind::Control => nbiot::forward_control(c, anchor, other, questions::control_grant(v), p),
-        _ => nbiot::forward_down(c, anchor, other, questions::downlink_grant(v), p),
+        Kind::Control => nbiot::forward_control(c, anchor, other, questions::npdcch_grant(v), p),
+        _ => nbiot::forward_down(c, anchor, other, questions::npdsch_grant(v), p),
     }
 }
 
@@ -37,21 +37,12 @@ pub fn backward(
             c,
             anchor,
             other,
-            questions::control_grant(v),
+            questions::npdcch_grant(v),
             t,
             slot,
             l,
             s,
         ),
-        _ => nbiot::backward_down(
-            c,
-            anchor,
-            other,
-            questions::downlink_grant(v),
-            t,
-            slot,
-            l,
-            s,
-        ),
+        _ => nbiot::backward_down(c, anchor, other, questions::npdsch_grant(v), t, slot, l, s),
     }
 }

@@ -69,8 +69,8 @@ fn make_room(out: &Page, at: usize) -> usize
     0
 }
 
-// Takes a block of input, byte by byte, and answers each line that ends in it. Of a line that is too long, one byte more
-// than the longest is kept. Answers the length of the line begun.
+// Takes a block of input, byte by byte, and answers each line that ends in it. Of a line that is too long, one byte
+// more than the longest is kept. Answers the length of the line begun.
 fn take_block(
     block: &[u8],
     line: &mut [u8; 4097],

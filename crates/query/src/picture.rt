@@ -1,4 +1,5 @@
-// A picture of one transmitted subframe, drawn from what backward answers at each place of it, and the subframes skipped after it.
+// A picture of one transmitted subframe, drawn from what backward answers at each place of it, and the subframes
+// skipped after it.
 use crate::either;
 use questions::I;
 use questions::Kind;

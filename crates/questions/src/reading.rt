@@ -8,8 +8,8 @@ use crate::values::ROOM;
 use crate::values::Values;
 use crate::values::keep_window;
 use bytes::scan::find;
+use nprach::Window;
 use text::Number;
-use windows::Window;
 ghost use Prim.Native.Nat.{_≤_, _<_};
 ghost use lib.ListN.{length};
 
@@ -90,8 +90,8 @@ pub enum Line {
     Asked(Question, usize),
 }
 
-// What a value word gives: a number to a name's row; a buffer, by its name's row and the start of its hex digits; a window to a name's
-// row; a fault.
+// What a value word gives: a number to a name's row; a buffer, by its name's row and the start of its hex digits; a
+// window to a name's row; a fault.
 enum Word {
     Number(usize, u64),
     Buffer(usize, usize),

@@ -1,14 +1,15 @@
-// The values kept from line to line: numbers by the row of their name, the counts of the three buffers' bytes, and the windows' numbers.
+// The values kept from line to line: numbers by the row of their name, the counts of the three buffers' bytes, and
+// the windows' numbers.
 use crate::reading::Kind;
-use acknowledgement::AckGrant;
 use cell::Cell;
-use control::ControlGrant;
-use downlink::DownlinkGrant;
-use uplink::UplinkGrant;
+use harq_ack::HarqAckGrant;
+use npdcch::NpdcchGrant;
+use npdsch::NpdschGrant;
+use nprach::Window;
+use nprach::Windows;
+use npusch::NpuschGrant;
 use walk::Grant;
 use walk::Walk;
-use windows::Window;
-use windows::Windows;
 ghost use Prim.Native.Nat.{_+_, _≤_};
 
 // The numbers' names; then the level, a number too, the buffers and the windows.
@@ -145,8 +146,8 @@ pub fn cell_of(v: &Values) -> Cell {
     }
 }
 
-pub fn downlink_grant(v: &Values) -> DownlinkGrant {
-    DownlinkGrant {
+pub fn npdsch_grant(v: &Values) -> NpdschGrant {
+    NpdschGrant {
         n: v[N],
         delay: v[DELAY],
         rmax: v[RMAX],
@@ -155,8 +156,8 @@ pub fn downlink_grant(v: &Values) -> DownlinkGrant {
     }
 }
 
-pub fn control_grant(v: &Values) -> ControlGrant {
-    ControlGrant {
+pub fn npdcch_grant(v: &Values) -> NpdcchGrant {
+    NpdcchGrant {
         n: v[N],
         r: v[R],
         format: v[FORMAT],
@@ -199,7 +200,7 @@ pub fn keep_window(name: usize, w: Window, v: &mut Values) {
     v[at + 3] = w.tone;
 }
 
-fn windows_of(v: &Values) -> Windows {
+pub fn windows_of(v: &Values) -> Windows {
     let w1 = window_of(W1, v);
     let w2 = window_of(W1 + 1, v);
     let w3 = window_of(W1 + 2, v);
@@ -213,8 +214,8 @@ fn windows_of(v: &Values) -> Windows {
     }
 }
 
-pub fn uplink_grant(v: &Values) -> UplinkGrant {
-    UplinkGrant {
+pub fn npusch_grant(v: &Values) -> NpuschGrant {
+    NpuschGrant {
         n: v[N],
         spacing: v[SPACING],
         subcarrier: v[SUBCARRIER],
@@ -222,26 +223,24 @@ pub fn uplink_grant(v: &Values) -> UplinkGrant {
         copies: v[COPIES],
         delay: v[DELAY],
         mcs: v[MCS],
-        windows: windows_of(v),
     }
 }
 
-pub fn ack_grant(v: &Values) -> AckGrant {
-    AckGrant {
+pub fn harq_ack_grant(v: &Values) -> HarqAckGrant {
+    HarqAckGrant {
         n: v[N],
         spacing: v[SPACING],
         field: v[FIELD],
         copies: v[COPIES],
-        windows: windows_of(v),
     }
 }
 
 fn grant_of(k: Kind, v: &Values) -> Grant {
     match k {
-        Kind::Up => Grant::Up(uplink_grant(v)),
-        Kind::Ack => Grant::Ack(ack_grant(v)),
-        Kind::Down => Grant::Down(downlink_grant(v)),
-        Kind::Control => Grant::Control(control_grant(v)),
+        Kind::Up => Grant::Npusch(npusch_grant(v), windows_of(v)),
+        Kind::Ack => Grant::HarqAck(harq_ack_grant(v), windows_of(v)),
+        Kind::Down => Grant::Npdsch(npdsch_grant(v)),
+        Kind::Control => Grant::Npdcch(npdcch_grant(v)),
     }
 }
 

@@ -2,7 +2,7 @@
 use mathlib.Core.Bool.{Bool, cond, _&&_}
 use Prim.Native.Nat.{ℕ, _+_, _*_, _/_, _%_}
 
--- K units are sent, the i-th at time i, and it carries codeword unit carry i; a unit has W elements, the e-th at elem e.
+-- K units are sent, the i-th at time i, and it carries codeword unit carry i, each `copies` times; a unit has W elements, the e-th at elem e.
 -- sent and index, used and number go back from a time and from an element; kind is what stands at an element that is not ours.
 pub record Sending : Type 0 where
   pub K : ℕ
@@ -15,6 +15,11 @@ pub record Sending : Type 0 where
   pub number : ℕ → ℕ
   pub carry : ℕ → ℕ
   pub kind : ℕ → ℕ → ℕ
+  pub copies : ℕ
+
+-- each unit has every element
+abbrev pub placesOf : Sending → ℕ
+placesOf S = S .K * S .W
 
 -- where a position is, and the codeword symbol there
 pub record Spot : Type 0 where
@@ -33,10 +38,10 @@ spotAt S p = record {
 -- what stands at an element of a time: our symbol, at a position; or nothing of ours, with its kind
 pub data Content : Type 0 where
   ours : ℕ → ℕ → Content
-  other : ℕ → Content
+  notOurs : ℕ → Content
 
 abbrev pub contentAt : Sending → ℕ → ℕ → Content
 contentAt S t x =
     cond (S .sent t && S .used x)
     (ours (S .carry (S .index t) * S .W + S .number x) (S .index t * S .W + S .number x))
-    (other (S .kind t x))
+    (notOurs (S .kind t x))

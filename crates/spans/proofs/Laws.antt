@@ -75,11 +75,11 @@ module _ (p : Pattern) (ok : Regular p) where
 
   -- ---- a span on
 
-  mask-small : (b : Bool) → cond b (p .sib1) (p .plain) < 2 ^ 40
+  mask-small : (b : Bool) → cond b (p .sib1) (p .usual) < 2 ^ 40
   mask-small true = ok .sib1-small
-  mask-small false = ok .plain-small
+  mask-small false = ok .usual-small
 
-  mask-ones : (b : Bool) → ones (cond b (p .sib1) (p .plain)) ≡ boolByte b * ones (p .sib1) + (1 - boolByte b) * ones (p .plain)
+  mask-ones : (b : Bool) → ones (cond b (p .sib1) (p .usual)) ≡ boolByte b * ones (p .sib1) + (1 - boolByte b) * ones (p .usual)
   mask-ones true = omega arith
   mask-ones false = omega arith
 
@@ -101,12 +101,12 @@ module _ (p : Pattern) (ok : Regular p) where
       rw a (omega (arith, add-mul (s - h) 1 y, add-mul h 0 x))
 
   -- so many before span s, by the spans with SIB1 and those without
-  pub spans-rank : (s : ℕ) → rank (allows p) (span * s) ≡ rank (withSib1 p) s * ones (p .sib1) + (s - rank (withSib1 p) s) * ones (p .plain)
-  spans-rank zero = omega (arith, rank-zero (allows p), rank-zero (withSib1 p), ap (λ (h : ℕ). h * ones (p .sib1)) (rank-zero (withSib1 p)), zero-mul (ones (p .sib1)), ap (λ (h : ℕ). (0 - h) * ones (p .plain)) (rank-zero (withSib1 p)), zero-mul (ones (p .plain)))
+  pub spans-rank : (s : ℕ) → rank (allows p) (span * s) ≡ rank (withSib1 p) s * ones (p .sib1) + (s - rank (withSib1 p) s) * ones (p .usual)
+  spans-rank zero = omega (arith, rank-zero (allows p), rank-zero (withSib1 p), ap (λ (h : ℕ). h * ones (p .sib1)) (rank-zero (withSib1 p)), zero-mul (ones (p .sib1)), ap (λ (h : ℕ). (0 - h) * ones (p .usual)) (rank-zero (withSib1 p)), zero-mul (ones (p .usual)))
   spans-rank (suc s) =
       sym (span-on s) ∙ ap (λ (x : ℕ). rank (allows p) (span * s) + x) (mask-ones (withSib1 p s))
-      ∙ step (withSib1 p s) (rank (withSib1 p) s) s (rank (allows p) (span * s)) (ones (p .sib1)) (ones (p .plain)) (sib1-le s) (spans-rank s)
-      ∙ ap (λ (h : ℕ). h * ones (p .sib1) + (suc s - h) * ones (p .plain)) (sym (rank-suc (withSib1 p) s))
+      ∙ step (withSib1 p s) (rank (withSib1 p) s) s (rank (allows p) (span * s)) (ones (p .sib1)) (ones (p .usual)) (sib1-le s) (spans-rank s)
+      ∙ ap (λ (h : ℕ). h * ones (p .sib1) + (suc s - h) * ones (p .usual)) (sym (rank-suc (withSib1 p) s))
 
   -- ---- the period
 
@@ -117,8 +117,8 @@ module _ (p : Pattern) (ok : Regular p) where
       let r : (t + span * spansOf p) % span ≡ t % span = omega arith in
       rw (q, r, add-mod-right (t / span) (spansOf p)) refl
 
-  pub some-of-period : rank (allows p) (periodOf p) ≡ 4 * ones (p .sib1) + (spansOf p - 4) * ones (p .plain)
-  some-of-period = spans-rank (spansOf p) ∙ ap (λ (h : ℕ). h * ones (p .sib1) + (spansOf p - h) * ones (p .plain)) four-a-period
+  pub some-of-period : rank (allows p) (periodOf p) ≡ 4 * ones (p .sib1) + (spansOf p - 4) * ones (p .usual)
+  some-of-period = spans-rank (spansOf p) ∙ ap (λ (h : ℕ). h * ones (p .sib1) + (spansOf p - h) * ones (p .usual)) four-a-period
 
   pub few-of-period : rank (allows p) (periodOf p) ≤ 640
   few-of-period = omega (arith, rank-le (allows p) (periodOf p), few-spans)
@@ -148,16 +148,16 @@ module _ (p : Pattern) (ok : Regular p) where
   first-period : (s : ℕ) → s < spansOf p → withSib1 p s ≡ inRange (p .first) 4 s
   first-period s h = ap (inRange (p .first) 4) (mod-eq-of-lt {n = s} {m = spansOf p} h)
 
-  mask-plain : (s : ℕ) → withSib1 p s ≡ false → maskAt p s ≡ p .plain
-  mask-plain s e = ap (λ (b : Bool). cond b (p .sib1) (p .plain)) e
+  mask-plain : (s : ℕ) → withSib1 p s ≡ false → maskAt p s ≡ p .usual
+  mask-plain s e = ap (λ (b : Bool). cond b (p .sib1) (p .usual)) e
 
   mask-sib1 : (s : ℕ) → withSib1 p s ≡ true → maskAt p s ≡ p .sib1
-  mask-sib1 s e = ap (λ (b : Bool). cond b (p .sib1) (p .plain)) e
+  mask-sib1 s e = ap (λ (b : Bool). cond b (p .sib1) (p .usual)) e
 
   -- so many before span s, where h of the spans before it have SIB1
   with-sib1 : (s h : ℕ) → s ≤ spansOf p → rank (inRange (p .first) 4) s ≡ h
-      → rank (allows p) (span * s) ≡ h * ones (p .sib1) + (s - h) * ones (p .plain)
-  with-sib1 s h l e = spans-rank s ∙ ap (λ (x : ℕ). x * ones (p .sib1) + (s - x) * ones (p .plain)) (in-first-period s l ∙ e)
+      → rank (allows p) (span * s) ≡ h * ones (p .sib1) + (s - h) * ones (p .usual)
+  with-sib1 s h l e = spans-rank s ∙ ap (λ (x : ℕ). x * ones (p .sib1) + (s - x) * ones (p .usual)) (in-first-period s l ∙ e)
 
   -- the j-th of a stretch from span s on lies in its span j / n, n the ones of its mask
   pub record Stretch (mask s j target : ℕ) : Type 0 where
@@ -170,9 +170,9 @@ module _ (p : Pattern) (ok : Regular p) where
   positive a zero k h = absurd (omega (arith, mul-zero a))
   positive a (suc n) k h = omega arith
 
-  pub in-lead : (k : ℕ) → k < p .first * ones (p .plain) → Stretch (p .plain) 0 k k
+  pub in-lead : (k : ℕ) → k < p .first * ones (p .usual) → Stretch (p .usual) 0 k k
   in-lead k h =
-      let n : ℕ = ones (p .plain) in
+      let n : ℕ = ones (p .usual) in
       let pos : 0 < n = positive (p .first) n k h in
       let q : k / n < p .first = div-lt-iff-lt-mul pos .1 h in
       let l : 0 + k / n < spansOf p = omega (arith, ok .fits) in
@@ -190,7 +190,7 @@ module _ (p : Pattern) (ok : Regular p) where
         );
       }
 
-  pub in-sib1 : (j : ℕ) → j < 4 * ones (p .sib1) → Stretch (p .sib1) (p .first) j (p .first * ones (p .plain) + j)
+  pub in-sib1 : (j : ℕ) → j < 4 * ones (p .sib1) → Stretch (p .sib1) (p .first) j (p .first * ones (p .usual) + j)
   in-sib1 j h =
       let n : ℕ = ones (p .sib1) in
       let pos : 0 < n = positive 4 n j h in
@@ -204,15 +204,15 @@ module _ (p : Pattern) (ok : Regular p) where
         sum = omega (
           arith,
           with-sib1 (p .first + j / n) (j / n) (omega arith) (rank-inside (p .first) 4 (j / n) (omega arith)),
-          ap (λ (x : ℕ). x * ones (p .plain)) e,
+          ap (λ (x : ℕ). x * ones (p .usual)) e,
           div-add-mod' j n,
         );
       }
 
-  pub in-tail : (j : ℕ) → p .first * ones (p .plain) + 4 * ones (p .sib1) + j < rank (allows p) (periodOf p)
-      → Stretch (p .plain) (p .first + 4) j (p .first * ones (p .plain) + 4 * ones (p .sib1) + j)
+  pub in-tail : (j : ℕ) → p .first * ones (p .usual) + 4 * ones (p .sib1) + j < rank (allows p) (periodOf p)
+      → Stretch (p .usual) (p .first + 4) j (p .first * ones (p .usual) + 4 * ones (p .sib1) + j)
   in-tail j h =
-      let n : ℕ = ones (p .plain) in
+      let n : ℕ = ones (p .usual) in
       let rest : ℕ = spansOf p - (p .first + 4) in
       let e : spansOf p - 4 ≡ p .first + rest = omega (arith, ok .fits) in
       let k : j < rest * n = omega (arith, some-of-period, ap (λ (x : ℕ). x * n) e, add-mul (p .first) rest n) in
@@ -294,11 +294,11 @@ module _ (p : Pattern) (ok : Regular p) where
 
   -- ---- nothing is allowed
 
-  pub empty-is : (eqb (p .sib1) 0 && (eqb (p .log) 2 || eqb (p .plain) 0)) ≡ eqb (rank (allows p) (periodOf p)) 0
+  pub empty-is : (eqb (p .sib1) 0 && (eqb (p .log) 2 || eqb (p .usual) 0)) ≡ eqb (rank (allows p) (periodOf p)) 0
   empty-is = ⊎-elim sib1-some sib1-none (order 0 (p .sib1))
     where
       all : ℕ
-      all = 4 * ones (p .sib1) + (spansOf p - 4) * ones (p .plain)
+      all = 4 * ones (p .sib1) + (spansOf p - 4) * ones (p .usual)
 
       is : (b : Bool) → b ≡ eqb all 0 → b ≡ eqb (rank (allows p) (periodOf p)) 0
       is b e = e ∙ ap (λ (x : ℕ). eqb x 0) (sym some-of-period)
@@ -308,33 +308,33 @@ module _ (p : Pattern) (ok : Regular p) where
       two f =
           ⊎-elim (λ l. absurd (let w : spansOf p ≤ 2 = at-most 1 (omega arith) in omega (arith, ok .fits))) (λ l. omega arith) (order (p .log) 2)
 
-      sib1-some : 0 < p .sib1 → (eqb (p .sib1) 0 && (eqb (p .log) 2 || eqb (p .plain) 0)) ≡ eqb (rank (allows p) (periodOf p)) 0
+      sib1-some : 0 < p .sib1 → (eqb (p .sib1) 0 && (eqb (p .log) 2 || eqb (p .usual) 0)) ≡ eqb (rank (allows p) (periodOf p)) 0
       sib1-some h =
           let o = ones-some 40 (p .sib1) (ok .sib1-small) h in
           let z : eqb (p .sib1) 0 ≡ false = ne-eqb (p .sib1) 0 (λ e. omega arith) in
           is _ (rw (z, ne-eqb all 0 (λ e. omega arith)) refl)
 
-      plain-by : ones (p .sib1) ≡ 0 → (2 < p .log) ⊎ (p .log ≤ 2) → (0 < p .plain) ⊎ (p .plain ≤ 0) → (eqb (p .log) 2 || eqb (p .plain) 0) ≡ eqb all 0
+      plain-by : ones (p .sib1) ≡ 0 → (2 < p .log) ⊎ (p .log ≤ 2) → (0 < p .usual) ⊎ (p .usual ≤ 0) → (eqb (p .log) 2 || eqb (p .usual) 0) ≡ eqb all 0
       plain-by n (inr f) q =
           let w : spansOf p ≤ 4 = at-most 2 f in
           let y : spansOf p - 4 ≡ 0 = omega arith in
-          rw (eq-eqb (p .log) 2 (two f)) (sym (eq-eqb all 0 (omega (arith, ap (λ (x : ℕ). x * ones (p .plain)) y, zero-mul (ones (p .plain))))))
+          rw (eq-eqb (p .log) 2 (two f)) (sym (eq-eqb all 0 (omega (arith, ap (λ (x : ℕ). x * ones (p .usual)) y, zero-mul (ones (p .usual))))))
       plain-by n (inl f) (inr q) =
-          let e : p .plain ≡ 0 = omega arith in
-          let m : ones (p .plain) ≡ 0 = ap ones e ∙ ones-none in
-          rw (ne-eqb (p .log) 2 (λ z. omega arith), eq-eqb (p .plain) 0 e) (sym (eq-eqb all 0 (omega (arith, ap (λ (x : ℕ). (spansOf p - 4) * x) m, mul-zero (spansOf p - 4)))))
+          let e : p .usual ≡ 0 = omega arith in
+          let m : ones (p .usual) ≡ 0 = ap ones e ∙ ones-none in
+          rw (ne-eqb (p .log) 2 (λ z. omega arith), eq-eqb (p .usual) 0 e) (sym (eq-eqb all 0 (omega (arith, ap (λ (x : ℕ). (spansOf p - 4) * x) m, mul-zero (spansOf p - 4)))))
       plain-by n (inl f) (inl q) =
-          let o = ones-some 40 (p .plain) (ok .plain-small) q in
+          let o = ones-some 40 (p .usual) (ok .usual-small) q in
           let w : 8 ≤ spansOf p = at-least 3 f in
-          rw (ne-eqb (p .log) 2 (λ z. omega arith), ne-eqb (p .plain) 0 (λ z. omega arith))
-          (sym (ne-eqb all 0 (λ z. omega (arith, mul-le-mul {n₁ = 1} {m₁ = 1} {n₂ = spansOf p - 4} {m₂ = ones (p .plain)} (omega arith) o))))
+          rw (ne-eqb (p .log) 2 (λ z. omega arith), ne-eqb (p .usual) 0 (λ z. omega arith))
+          (sym (ne-eqb all 0 (λ z. omega (arith, mul-le-mul {n₁ = 1} {m₁ = 1} {n₂ = spansOf p - 4} {m₂ = ones (p .usual)} (omega arith) o))))
 
-      sib1-none : p .sib1 ≤ 0 → (eqb (p .sib1) 0 && (eqb (p .log) 2 || eqb (p .plain) 0)) ≡ eqb (rank (allows p) (periodOf p)) 0
+      sib1-none : p .sib1 ≤ 0 → (eqb (p .sib1) 0 && (eqb (p .log) 2 || eqb (p .usual) 0)) ≡ eqb (rank (allows p) (periodOf p)) 0
       sib1-none h =
           let s : p .sib1 ≡ 0 = omega arith in
           let n : ones (p .sib1) ≡ 0 = ap ones s ∙ ones-none in
           let z : eqb (p .sib1) 0 ≡ true = eq-eqb (p .sib1) 0 s in
-          is _ (rw z (plain-by n (order 2 (p .log)) (order 0 (p .plain))))
+          is _ (rw z (plain-by n (order 2 (p .log)) (order 0 (p .usual))))
 
   -- ---- where a subframe stands to the K that follow the skip-th from f on
 

@@ -24,7 +24,7 @@ abbrev pub withSib1 : Pattern → ℕ → Bool
 withSib1 p s = inRange (p .first) 4 (s % spansOf p)
 
 abbrev pub maskAt : Pattern → ℕ → ℕ
-maskAt p s = cond (withSib1 p s) (p .sib1) (p .plain)
+maskAt p s = cond (withSib1 p s) (p .sib1) (p .usual)
 
 -- bit i of a mask, for subframe i of its span: the first is the highest of forty digits
 abbrev pub maskBit : ℕ → ℕ → Bool
@@ -41,13 +41,13 @@ periodOf p = span * spansOf p
 pub record Regular (p : Pattern) : Type 0 where
   pub fits : p .first + 4 ≤ spansOf p
   pub few : p .log ≤ 4
-  pub plain-small : p .plain < 2 ^ 40
+  pub usual-small : p .usual < 2 ^ 40
   pub sib1-small : p .sib1 < 2 ^ 40
 
 -- a and b are the ones of the two masks
-pub record Counts (p : Pattern) (a b : ℕ) : Type 0 where
+pub record OnesOf (p : Pattern) (a b : ℕ) : Type 0 where
   pub sib1 : a ≡ ones (p .sib1)
-  pub plain : b ≡ ones (p .plain)
+  pub usual : b ≡ ones (p .usual)
 
 -- r is the k-th subframe of a stretch of spans from span s on, all with one mask of n ones
 pub record Landed (mask n s k r : ℕ) : Type 0 where

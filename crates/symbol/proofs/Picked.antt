@@ -6,7 +6,7 @@ use Prim.Native.Nat.{ℕ, _+_, _*_}
 use lib.Ieee.{Float}
 use lib.ListN.{getD}
 use mir.Val.{boolByte}
-use Rattle.bitmap.specs.Bitmap.{bitOf}
+use Rattle.counting.specs.Bits.{bitOf}
 use Rattle.symbol.specs.declared.Symbol.{Symbol}
 use Rattle.symbol.specs.Symbol.{qpskOf, symbolOf}
 use Rattle.symbol.specs.Quick.{symbolsOf, unset, pickedOf}

@@ -5,7 +5,7 @@ use Prim.Native.Nat.{ℕ, _+_, _*_}
 use lib.Ieee.{Float, nan}
 use lib.ListN.{getD}
 use mir.Val.{boolByte}
-use Rattle.bitmap.specs.Bitmap.{bitOf}
+use Rattle.counting.specs.Bits.{bitOf}
 use Rattle.symbol.specs.declared.Symbol.{Symbol}
 use Rattle.symbol.specs.Symbol.{qpskOf}
 use Rattle.symbol.specs.Outgoing.{plusZero}

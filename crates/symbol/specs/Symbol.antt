@@ -4,7 +4,7 @@ use mathlib.Core.List.{List}
 use Prim.Native.Nat.{ℕ, _+_, _*_}
 use lib.Ieee as Ieee
 use lib.Ieee.{Float, binary32}
-use Rattle.bitmap.specs.Bitmap.{bitOf}
+use Rattle.counting.specs.Bits.{bitOf}
 use Rattle.symbol.specs.declared.Symbol.{Symbol}
 
 -- the level times the f32 with pattern 0x3F3504F3, rounded once to the nearest

@@ -28,7 +28,8 @@ pub enum Element {
     Sent { re: f32, im: f32 },
 }
 
-// An element's answer in numbers: the refusal; 0 silent, 1 to 3 a reference of that kind, 4 a symbol; the symbol's two numbers.
+// An element's answer in numbers: the refusal; 0 silent, 1 to 3 a reference of that kind, 4 a symbol; the symbol's
+// two numbers.
 pub struct ElementNumbers {
     pub no: u64,
     pub state: u64,
@@ -65,7 +66,8 @@ fn qpsk(first: bool, second: bool, level: f32) -> Symbol
     }
 }
 
-// The four symbols at a level, by their two bits: to look one up takes no branch, and the bits of a codeword are hard to foresee.
+// The four symbols at a level, by their two bits: to look one up takes no branch, and the bits of a codeword are hard
+// to foresee.
 pub fn symbols(level: f32) -> [Symbol; 4]
     ensures { λ r. ⌜ r ≡ symbolsOf level ⌝ }
 {

@@ -10,9 +10,9 @@ use Rattle.counting.proofs.Facts.{both-parts}
 use Rattle.grid.specs.Grid.{subcarriers, symbols, slots, elementOf}
 use Rattle.cell.specs.declared.Cell.{Cell}
 use Rattle.elements.specs.declared.Layout.{Layout}
-use Rattle.subframes.specs.Cells.{layoutOf}
-use Rattle.subframes.specs.Answers.{insideGrid}
-use Rattle.downlink.specs.declared.DownlinkGrant.{DownlinkGrant}
+use Rattle.cell.specs.Layout.{layoutOf}
+use Rattle.downlink.specs.Answers.{insideGrid}
+use Rattle.npdsch.specs.declared.NpdschGrant.{NpdschGrant}
 use Rattle.symbol.specs.declared.Outgoing.{Outgoing}
 use Rattle.symbol.specs.declared.Element.the-variants.{Refused}
 use Rattle.symbol.specs.Outgoing.{answerOf}
@@ -21,7 +21,7 @@ use Rattle.transmitted.specs.Element.{elementAnswer}
 use Rattle.transmitted.specs.Quick.{goesIn, CallFor}
 use Rattle.transmitted.proofs.Calling.{call-passed}
 
-module _ (c : Cell) (anchor other : List ℕ) (g : DownlinkGrant) (i : ℕ) (bits : List ℕ) (level : Float) where
+module _ (c : Cell) (anchor other : List ℕ) (g : NpdschGrant) (i : ℕ) (bits : List ℕ) (level : Float) where
   module _ (slot l k : ℕ) (v : Call) (j : CallFor c anchor other g i (not (insideGrid slot l k)) bits false level v) where
     pub element-inside : v .no ≡ 0 → (slot < slots) × (l < symbols) × (k < subcarriers)
     element-inside z =

@@ -18,15 +18,15 @@ use Rattle.sending.proofs.CopyOrder.{carried-below}
 use Rattle.elements.specs.Elements.{countOf}
 use Rattle.elements.proofs.Laws.{count-le}
 use Rattle.spans.specs.declared.Pattern.{Pattern}
-use Rattle.subframes.specs.declared.Burst.{Burst}
-use Rattle.subframes.specs.declared.Ready.{Ready}
-use Rattle.subframes.specs.Fits.{Fits}
-use Rattle.subframes.specs.Mapping.{sentSubframes}
-use Rattle.subframes.specs.Cells.{layoutOf}
-use Rattle.subframes.specs.Quick.{ReadyFor}
-use Rattle.downlink.specs.declared.DownlinkGrant.{DownlinkGrant}
-use Rattle.downlink.specs.Refusals.{refusalOf}
-use Rattle.downlink.specs.Questions.{burstOf}
+use Rattle.downlink.specs.declared.Burst.{Burst}
+use Rattle.downlink.specs.declared.Ready.{Ready}
+use Rattle.downlink.specs.Fits.{Fits}
+use Rattle.downlink.specs.Mapping.{sentSubframes}
+use Rattle.cell.specs.Layout.{layoutOf}
+use Rattle.downlink.specs.Quick.{ReadyFor}
+use Rattle.npdsch.specs.declared.NpdschGrant.{NpdschGrant}
+use Rattle.npdsch.specs.Refusals.{refusalOf}
+use Rattle.npdsch.specs.Questions.{burstOf}
 use Rattle.transmitted.specs.declared.Call.{Call}
 use Rattle.transmitted.specs.Refusals.{codewordBytes, lateRefusal, callRefusal}
 use Rattle.transmitted.specs.Quick.{Prepared, CallFor}
@@ -54,7 +54,7 @@ late-passed b i outside bits wrong level e =
       fitting = d .1;
     }
 
-module _ (c : Cell) (anchor other : List ℕ) (g : DownlinkGrant) (i : ℕ) (outside : Bool) (bits : List ℕ) (wrong : Bool) (level : Float) where
+module _ (c : Cell) (anchor other : List ℕ) (g : NpdschGrant) (i : ℕ) (outside : Bool) (bits : List ℕ) (wrong : Bool) (level : Float) where
   abbrev refusal : ℕ
   refusal = callRefusal c anchor other g i outside bits wrong level
 
@@ -94,13 +94,13 @@ module _ (c : Cell) (anchor other : List ℕ) (g : DownlinkGrant) (i : ℕ) (out
       W = countOf (layoutOf c) 0 subcarriers
 
       abbrev unit : ℕ
-      unit = carried (burstOf c g .row) 1 (burstOf c g .codeword) i
+      unit = carried (burstOf c g .consecutive) 1 (burstOf c g .codeword) i
 
       -- the carried subframe's symbols are some of the codeword's
       within : unit * W + W ≤ burstOf c g .codeword * W
       within =
           let below : unit < burstOf c g .codeword =
-          carried-below (burstOf c g .row) 1 (burstOf c g .codeword) i (fits .row) (omega arith) (mod-one (burstOf c g .codeword)) (fits .codeword) in
+          carried-below (burstOf c g .consecutive) 1 (burstOf c g .codeword) i (fits .consecutive) (omega arith) (mod-one (burstOf c g .codeword)) (fits .codeword) in
           omega (arith, suc-mul unit W, mul-le-mul-right W below)
 
       prepared-by : lateRefusal (burstOf c g) i outside bits wrong level ≡ 0 → Prepared (layoutOf c) (unit * W) bits
@@ -121,12 +121,12 @@ module _ (c : Cell) (anchor other : List ℕ) (g : DownlinkGrant) (i : ℕ) (out
       }
 
     pub accepted : (n w u : ℕ) → q .no ≡ 0 → n ≡ lateRefusal (q .burst) i outside bits wrong level → n ≡ 0
-        → w ≡ countOf (q .burst .layout) (q .burst .low) (q .burst .width) → u ≡ carried (q .burst .row) 1 (q .burst .codeword) i
+        → w ≡ countOf (q .burst .layout) (q .burst .low) (q .burst .width) → u ≡ carried (q .burst .consecutive) 1 (q .burst .codeword) i
         → Judged (record { no = 0; first = u * w; v = q .burst .layout .v })
     accepted n w u z e h hw hu =
         let b = r .burst z in
         let m : u * w ≡ unit z * W z = ap₂ (λ (x y : ℕ). x * y)
-        (hu ∙ ap (λ (d : Burst). carried (d .row) 1 (d .codeword) i) b) (hw ∙ ap (λ (d : Burst). countOf (d .layout) (d .low) (d .width)) b) in
+        (hu ∙ ap (λ (d : Burst). carried (d .consecutive) 1 (d .codeword) i) b) (hw ∙ ap (λ (d : Burst). countOf (d .layout) (d .low) (d .width)) b) in
         subst Judged (sym (λ k. record { no = 0; first = m k; v = b k .layout .v })) (accepted-at z (sym (late-is n e z) ∙ h))
 
   -- an accepted call passed 14 and 15

@@ -20,13 +20,13 @@ use Rattle.elements.specs.declared.Layout.{Layout}
 use Rattle.elements.specs.Elements.{countOf, used, numberOf, kindOf}
 use Rattle.elements.proofs.Laws.{used-listed}
 use Rattle.spans.specs.declared.Pattern.{Pattern}
-use Rattle.subframes.specs.declared.Burst.{Burst}
-use Rattle.subframes.specs.declared.Ready.{Ready}
-use Rattle.subframes.specs.Mapping.{sentSubframes, firstOf, sendingOf}
-use Rattle.subframes.specs.Cells.{layoutOf}
-use Rattle.subframes.specs.Quick.{standsIn, ReadyFor}
-use Rattle.downlink.specs.declared.DownlinkGrant.{DownlinkGrant}
-use Rattle.downlink.specs.Questions.{burstOf}
+use Rattle.downlink.specs.declared.Burst.{Burst}
+use Rattle.downlink.specs.declared.Ready.{Ready}
+use Rattle.downlink.specs.Mapping.{sentSubframes, firstOf, sendingOf}
+use Rattle.cell.specs.Layout.{layoutOf}
+use Rattle.downlink.specs.Quick.{contentIn, ReadyFor}
+use Rattle.npdsch.specs.declared.NpdschGrant.{NpdschGrant}
+use Rattle.npdsch.specs.Questions.{burstOf}
 use Rattle.symbol.specs.declared.Outgoing.{Outgoing}
 use Rattle.symbol.specs.declared.Outgoing.the-variants.{Ours}
 use Rattle.symbol.specs.Outgoing.{Within}
@@ -34,10 +34,10 @@ use Rattle.transmitted.specs.GoesOut.{goesOut, outgoingOf}
 use Rattle.transmitted.specs.Quick.{goesIn, Prepared}
 
 -- the i-th subframe that is sent has what stands in it
-pub stands-at : (u : ℕ → Bool) (P : ℕ) → ((t : ℕ) → u (t + P) ≡ u t) → 0 < rank u P → (b : Burst) (i x : ℕ) → i < sentSubframes b
-    → contentAt (sendingOf u P b) (sendingOf u P b .time i) x ≡ standsIn b i x
-unfolding standsIn
-stands-at u P repeats some b i x h =
+pub use-at : (u : ℕ → Bool) (P : ℕ) → ((t : ℕ) → u (t + P) ≡ u t) → 0 < rank u P → (b : Burst) (i x : ℕ) → i < sentSubframes b
+    → contentAt (sendingOf u P b) (sendingOf u P b .time i) x ≡ contentIn b i x
+unfolding contentIn
+use-at u P repeats some b i x h =
     let L = lists u P repeats some (firstOf u P b) (sentSubframes b) in
     rw (L .passes i h, L .placed i h) refl
 
@@ -45,20 +45,20 @@ goes-by : (t : Bool) (a d : Content) → goesOut (cond t a d) ≡ cond t (goesOu
 goes-by true a d = refl
 goes-by false a d = refl
 
-module _ (c : Cell) (anchor other : List ℕ) (g : DownlinkGrant) where
-  pub goes-in : (i x : ℕ) → goesOut (standsIn (burstOf c g) i x)
-      ≡ goesIn (layoutOf c) (carried (burstOf c g .row) 1 (burstOf c g .codeword) i * countOf (layoutOf c) 0 subcarriers) x
-  unfolding standsIn goesIn
+module _ (c : Cell) (anchor other : List ℕ) (g : NpdschGrant) where
+  pub goes-in : (i x : ℕ) → goesOut (contentIn (burstOf c g) i x)
+      ≡ goesIn (layoutOf c) (carried (burstOf c g .consecutive) 1 (burstOf c g .codeword) i * countOf (layoutOf c) 0 subcarriers) x
+  unfolding contentIn goesIn
   goes-in i x = goes-by (used (layoutOf c) 0 subcarriers x) _ _
 
   pub going : (refusal : ℕ) (q : Ready) (p : Pattern) → ReadyFor c (bitmapIn c (ownBuffer c anchor other)) refusal (burstOf c g) q p → q .no ≡ 0
       → (i x : ℕ) → i < sentSubframes (burstOf c g)
-      → goesIn (layoutOf c) (carried (burstOf c g .row) 1 (burstOf c g .codeword) i * countOf (layoutOf c) 0 subcarriers) x ≡ outgoingOf c anchor other g i x
+      → goesIn (layoutOf c) (carried (burstOf c g .consecutive) 1 (burstOf c g .codeword) i * countOf (layoutOf c) 0 subcarriers) x ≡ outgoingOf c anchor other g i x
   unfolding outgoingOf
   going refusal q p r z i x h =
       let m = bitmapIn c (ownBuffer c anchor other) in
       sym (ap goesOut
-      (stands-at (usable c m) period (usable-repeats c m p (r .shows z))
+      (use-at (usable c m) period (usable-repeats c m p (r .shows z))
       (some-usable c m p (r .shows z) (r .answerable .going z .some)) (burstOf c g) i x h)
       ∙ goes-in i x)
 
@@ -87,7 +87,7 @@ module _ (g : Layout) (first x : ℕ) where
       plain false k c h = let z : _≡_ {A = ℕ} 0 1 = cc in omega arith
 
       by : (b : Bool) → used g 0 subcarriers x ≡ b → (c : ℕ)
-          → cond b (Ours (first + numberOf g 0 subcarriers x)) (goesOut (Content.other (kindOf g x))) ≡ Ours c → c < 4 * length bits
+          → cond b (Ours (first + numberOf g 0 subcarriers x)) (goesOut (Content.notOurs (kindOf g x))) ≡ Ours c → c < 4 * length bits
       by true y c h =
           let same : first + numberOf g 0 subcarriers x ≡ c = cc in
           omega (arith, p .room, used-listed g 0 subcarriers .below x y)

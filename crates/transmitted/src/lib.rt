@@ -3,21 +3,22 @@ ghost use mathlib.Core.Path.{_≡_};
 ghost use Prim.Native.Nat.{_%_, _^_, _<_};
 ghost use Rattle.grid.specs.Grid.{subcarriers, symbols, slots, elementOf};
 ghost use Rattle.elements.specs.Elements.{Valid, countOf};
-ghost use Rattle.subframes.specs.Fits.{Fits};
-ghost use Rattle.subframes.specs.Cells.{layoutOf};
+ghost use Rattle.downlink.specs.Fits.{Fits};
+ghost use Rattle.cell.specs.Layout.{layoutOf};
 ghost use Rattle.transmitted.specs.Refusals.{lateRefusal};
 ghost use Rattle.transmitted.specs.Element.{elementAnswer};
 ghost use Rattle.transmitted.specs.Quick.{goesIn, CallFor};
 use cell::Cell;
-use downlink::DownlinkGrant;
+use downlink::Burst;
+use elements::ElementUse;
 use elements::Layout;
-use elements::Standing;
 use grid::Grid;
-use subframes::Burst;
+use npdsch::NpdschGrant;
 use symbol::Element;
 use symbol::Outgoing;
 
-// A call judged: the refusal number, and for an accepted one the codeword symbol that goes out first in the subframe, and the shift of the references.
+// A call judged: the refusal number, and for an accepted one the codeword symbol that goes out first in the subframe,
+// and the shift of the references.
 pub struct Call {
     pub no: u64,
     pub first: u64,
@@ -43,8 +44,8 @@ fn late_refusal(
     requires { ⌜ Fits b × (w ≡ countOf (b .layout) (b .low) (b .width)) ⌝ }
     ensures { λ r. ⌜ r ≡ lateRefusal b i outside (now (bits .entry)) wrong level ⌝ }
 {
-    if (i >= subframes::sent_subframes(b)) | outside {
-        return 14;
+    if (i >= downlink::sent_subframes(b)) | outside {
+        return sending::NO_SUCH_PLACE;
     }
     let codeword = b.codeword;
     if (bits.len() as u64 != (codeword * w + 3) / 4) | wrong {
@@ -64,27 +65,28 @@ pub fn judged(
     c: Cell,
     anchor: &[u8],
     other: &[u8],
-    g: DownlinkGrant,
+    g: NpdschGrant,
     i: u64,
     outside: bool,
     bits: &[u8],
     wrong: bool,
     level: f32,
 ) -> Call
-    ensures { λ r. ⌜ CallFor c (now (anchor .entry)) (now (other .entry)) g i outside (now (bits .entry)) wrong level r ⌝ }
+    ensures { λ r. ⌜ CallFor c (now (anchor .entry)) (now (other .entry)) g i outside
+        (now (bits .entry)) wrong level r ⌝ }
 {
     let v = cell::judged(c, anchor, other);
-    let q = downlink::ready(v.no, c, g);
+    let q = npdsch::ready(v.no, c, g);
     if q.no != 0 {
         return refused(q.no);
     }
     let b = q.burst;
-    let w = subframes::used_elements(b);
+    let w = downlink::used_elements(b);
     let no = late_refusal(b, w, i, outside, bits, wrong, level);
     if no != 0 {
         return refused(no);
     }
-    let unit = subframes::carried_by(b, i);
+    let unit = downlink::carried_by(b, i);
     Call {
         no: 0,
         first: unit * w,
@@ -110,10 +112,10 @@ fn outgoing(layout: Layout, first: u64, slot: u64, l: u64, k: u64) -> Outgoing
     requires { ⌜ Valid layout × (first < 2 ^ 32) × (slot < slots) × (l < symbols) × (k < subcarriers) ⌝ }
     ensures { λ r. ⌜ r ≡ goesIn layout first (elementOf slot l k) ⌝ }
 {
-    let at = elements::stands_at(layout, 0, Grid::SUBCARRIERS, slot, l, k);
+    let at = elements::use_at(layout, 0, Grid::SUBCARRIERS, slot, l, k);
     match at {
-        Standing::Used(e) => Outgoing::Ours(first + e),
-        Standing::Other(kind) => {
+        ElementUse::Used(e) => Outgoing::Ours(first + e),
+        ElementUse::Unused(kind) => {
             if kind == 0 {
                 return Outgoing::Silent;
             }
@@ -127,7 +129,7 @@ pub fn element(
     c: Cell,
     anchor: &[u8],
     other: &[u8],
-    g: DownlinkGrant,
+    g: NpdschGrant,
     i: u64,
     slot: u64,
     l: u64,
@@ -135,7 +137,8 @@ pub fn element(
     bits: &[u8],
     level: f32,
 ) -> Element
-    ensures { λ r. ⌜ r ≡ elementAnswer c (now (anchor .entry)) (now (other .entry)) g i slot l k (now (bits .entry)) level ⌝ }
+    ensures { λ r. ⌜ r
+        ≡ elementAnswer c (now (anchor .entry)) (now (other .entry)) g i slot l k (now (bits .entry)) level ⌝ }
 {
     let inside = (slot < Grid::SLOTS) & ((l < Grid::SYMBOLS) & (k < Grid::SUBCARRIERS));
     let call = judged(c, anchor, other, g, i, !inside, bits, false, level);

@@ -1,227 +1,274 @@
-// NPUSCH format 1: an uplink grant's refusals, its shape, and the questions on it.
+// Uplink questions on a shape: the numbers that place a grant's codeword on uplink slots, whatever kind of grant they
+// are made from.
+ghost use mathlib.Core.Bool.{Bool};
 ghost use mathlib.Core.Path.{_≡_};
-ghost use Rattle.slots.specs.Quick.{sized};
-ghost use Rattle.uplink.specs.Unwindowed.{fieldsOf, unwindowed};
-ghost use Rattle.uplink.specs.Quick.{sizesOf, forwardOr};
-ghost use Rattle.uplink.specs.Refusals.{aboveLargest, fieldsRefusal};
-ghost use Rattle.uplink.specs.Shaping.{shapeOf};
-ghost use Rattle.uplink.specs.Questions.{planOf, forwardOf, backwardOf};
+ghost use Prim.Native.Nat.{ℕ, _-_, _^_, _<_};
+ghost use Rattle.sending.specs.CopyOrder.{carried};
+ghost use Rattle.sending.specs.Answer.{extentOf};
+ghost use Rattle.closures.specs.Closures.{clear};
+ghost use Rattle.uplink.specs.Fits.{Fits, OpenRepeats};
+ghost use Rattle.uplink.specs.Timing.{allOpen, sentSlots, slotAt};
+ghost use Rattle.uplink.specs.Mapping.{places, sendingOf};
+ghost use Rattle.uplink.specs.Quick.{Searchable, splitOf, amongSent, Counted, Located};
+ghost use Rattle.uplink.specs.Answers.{refusedPlan, refusedPlace, planShown, placeIn, backIn};
+use closures::Nested;
 use grid::UplinkGrid;
 use sending::Back;
-use slots::Shape;
-use slots::UplinkPlace;
-use slots::UplinkPlan;
-use windows::Windows;
 
-mod fields;
+mod data;
+mod timing;
 
-// The grant ends in subframe n; the rest are fields, and the random access windows that it has to keep clear of.
-pub struct UplinkGrant {
-    pub n: u64,
-    pub spacing: u64,
-    pub subcarrier: u64,
-    pub units: u64,
+pub use data::split as taken_apart;
+
+// Slots from `first` on, in blocks of sending with a gap after each; `tones` of the grid's `subcarriers` from `tone`
+// on; `codeword` slots, sent `copies` times, each group of `group` slots `consecutive` times in a row; `references`
+// reference symbols from `reference` on.
+pub struct Shape {
+    pub first: u64,
+    pub subcarriers: u64,
+    pub block: u64,
+    pub gap: u64,
+    pub tone: u64,
+    pub tones: u64,
+    pub codeword: u64,
     pub copies: u64,
-    pub delay: u64,
-    pub mcs: u64,
-    pub windows: Windows,
+    pub consecutive: u64,
+    pub group: u64,
+    pub reference: u64,
+    pub references: u64,
 }
 
-// The fields alone: a grant with no window.
-pub struct UplinkFields {
-    pub n: u64,
-    pub spacing: u64,
-    pub subcarrier: u64,
-    pub units: u64,
+// Plan's answer: the refusal number; the first and last slot, the copies, the places, the transport block's size and
+// the modulation order.
+pub struct UplinkPlan {
+    pub no: u64,
+    pub first: u64,
+    pub last: u64,
     pub copies: u64,
-    pub delay: u64,
-    pub mcs: u64,
+    pub places: u64,
+    pub size: u64,
+    pub order: u64,
 }
 
-// The last subframe in which a grant may end.
-const LAST_SUBFRAME: u64 = 1_073_741_823;
+// Forward's answer: the refusal number; slot, symbol and subcarrier of the place, and the codeword symbol there.
+pub struct UplinkPlace {
+    pub no: u64,
+    pub slot: u64,
+    pub l: u64,
+    pub k: u64,
+    pub symbol: u64,
+}
 
-fn fields_of(g: UplinkGrant) -> UplinkFields
-    ensures { λ r. ⌜ r ≡ fieldsOf g ⌝ }
+// A position taken apart: the transmitted slot, the data element in it, and that element's symbol and subcarrier.
+pub struct Split {
+    pub i: u64,
+    pub e: u64,
+    pub l: u64,
+    pub k: u64,
+}
+
+// Whether a slot is sent, and if so which transmitted slot it is.
+pub struct SentIndex {
+    pub sent: bool,
+    pub i: u64,
+}
+
+pub fn refused_plan(no: u64) -> UplinkPlan
+    ensures { λ r. ⌜ r ≡ refusedPlan no ⌝ }
 {
-    UplinkFields {
-        n: g.n,
-        spacing: g.spacing,
-        subcarrier: g.subcarrier,
-        units: g.units,
-        copies: g.copies,
-        delay: g.delay,
-        mcs: g.mcs,
+    UplinkPlan {
+        no,
+        first: 0,
+        last: 0,
+        copies: 0,
+        places: 0,
+        size: 0,
+        order: 0,
     }
 }
 
-// A field is above its largest number.
-fn above_largest(f: UplinkFields) -> bool
-    ensures { λ r. ⌜ r ≡ aboveLargest (unwindowed f) ⌝ }
+pub fn refused_place(no: u64) -> UplinkPlace
+    ensures { λ r. ⌜ r ≡ refusedPlace no ⌝ }
 {
-    let spacing = f.spacing;
-    let subcarrier = f.subcarrier;
-    let units = f.units;
-    let copies = f.copies;
-    let delay = f.delay;
-    let mcs = f.mcs;
-    (spacing > 1)
-        | ((subcarrier > 63) | ((units > 7) | ((copies > 7) | ((delay > 3) | (mcs > 15)))))
+    UplinkPlace {
+        no,
+        slot: 0,
+        l: 0,
+        k: 0,
+        symbol: 0,
+    }
 }
 
-// The number with which the fields are refused, or 0.
-fn judge_fields(f: UplinkFields) -> u64
-    ensures { λ r. ⌜ r ≡ fieldsRefusal (unwindowed f) ⌝ }
+// How many slots are sent.
+fn sent_slots(s: Shape) -> u64
+    requires { ⌜ Fits s ⌝ }
+    ensures { λ r. ⌜ (r ≡ sentSlots s) × (0 < r) × (r < 2 ^ 32) ⌝ }
 {
-    let n = f.n;
-    let subcarrier = f.subcarrier;
-    let mcs = f.mcs;
-    if n > LAST_SUBFRAME {
-        return 9;
-    }
-    if above_largest(f) {
-        return 10;
-    }
-    if subcarrier >= fields::tone_fields(f.spacing) {
-        return 11;
-    }
-    if mcs > 4 {
-        return 13;
-    }
-    0
+    let copies = s.copies;
+    let codeword = s.codeword;
+    copies * codeword
 }
 
-// The shape of accepted fields, with a size and an order: only a plan asks for the grant's own.
-fn shape(f: UplinkFields, size: u64, order: u64) -> Shape
-    requires { ⌜ fieldsRefusal (unwindowed f) ≡ 0 ⌝ }
-    ensures { λ r. ⌜ r ≡ sized (shapeOf (unwindowed f)) size order ⌝ }
+// Transmitted slot i, where there is one, in the groups that the closures leave open.
+pub fn slot_at_beside(s: Shape, nested: Nested, i: u64) -> u64
+    requires { ⌜ Fits s × OpenRepeats s (clear (nested .closures)) × Searchable s nested ⌝ }
+    ensures { λ r. ⌜ (i < sentSlots s → r ≡ slotAt s (clear (nested .closures)) i) ⌝ }
 {
-    let spacing = f.spacing;
-    let units = f.units;
-    let tones = fields::tones(spacing, f.subcarrier);
-    let copies = grid::uplink_copies(f.copies);
-    Shape {
-        first: fields::start(spacing, f.n, f.delay),
-        subcarriers: UplinkGrid::subcarriers(spacing),
-        block: numerology::block(spacing),
-        gap: numerology::gap(spacing),
-        tone: fields::first_tone(spacing, f.subcarrier),
-        tones,
-        codeword: fields::codeword(tones, units),
-        copies,
-        row: fields::row(tones, copies),
-        group: numerology::group(spacing),
-        reference: fields::reference(spacing),
-        references: 1,
+    if i >= sent_slots(s) {
+        return 0;
+    }
+    timing::open_slot_at(s, nested, timing::group_search(s, nested), i)
+}
+
+// The same, where there is no window.
+pub fn slot_at(s: Shape, i: u64) -> u64
+    requires { ⌜ Fits s ⌝ }
+    ensures { λ r. ⌜ (i < sentSlots s → r ≡ slotAt s allOpen i) ⌝ }
+{
+    let first = s.first;
+    if i >= sent_slots(s) {
+        return 0;
+    }
+    first + timing::active_at(s, i)
+}
+
+// Where a slot was found, if it is one of those that are sent.
+fn among_sent(s: Shape, found: SentIndex) -> SentIndex
+    requires { ⌜ Fits s ⌝ }
+    ensures { λ r. ⌜ r ≡ amongSent s found ⌝ }
+{
+    let i = found.i;
+    let many = sent_slots(s);
+    SentIndex {
+        sent: found.sent & (i < many),
+        i,
+    }
+}
+
+// Whether a slot is sent, and which one it is.
+pub fn locate_beside(s: Shape, nested: Nested, slot: u64) -> SentIndex
+    requires { ⌜ Fits s × OpenRepeats s (clear (nested .closures)) × Searchable s nested ⌝ }
+    ensures { λ r. ⌜ Located s (clear (nested .closures)) slot r ⌝ }
+{
+    let first = s.first;
+    if slot < first {
+        return SentIndex { sent: false, i: 0 };
+    }
+    among_sent(
+        s,
+        timing::open_index(s, nested, timing::group_search(s, nested), slot - first),
+    )
+}
+
+// The same, where there is no window.
+pub fn locate(s: Shape, slot: u64) -> SentIndex
+    requires { ⌜ Fits s ⌝ }
+    ensures { λ r. ⌜ Located s allOpen slot r ⌝ }
+{
+    let first = s.first;
+    if slot < first {
+        return SentIndex { sent: false, i: 0 };
+    }
+    among_sent(s, timing::active_index(s, slot - first))
+}
+
+// The codeword slot that transmitted slot i carries.
+fn carried_by(s: Shape, i: u64) -> u64
+    requires { ⌜ Fits s ⌝ }
+    ensures { λ r. ⌜ (r ≡ carried (s .consecutive) (s .group) (s .codeword) i) × (r < 2 ^ 16) ⌝ }
+{
+    sending::carried(s.consecutive, s.group, s.codeword, i)
+}
+
+// How many places there are.
+fn places(s: Shape) -> u64
+    requires { ⌜ Fits s ⌝ }
+    ensures { λ r. ⌜ r ≡ places s ⌝ }
+{
+    sent_slots(s) * data::slot_data(s)
+}
+
+// First and last slot, copies, places, size and order, whichever groups are open.
+fn planned(s: Shape, first: u64, last: u64, size: u64, order: u64) -> UplinkPlan
+    requires { ⌜ Fits s ⌝ }
+    ensures { λ r. ⌜ ((isOpen : ℕ → Bool) → first ≡ slotAt s isOpen 0 → last ≡ slotAt s isOpen (sentSlots s - 1)
+        → r ≡ planShown size order (extentOf (sendingOf s isOpen))) ⌝ }
+{
+    UplinkPlan {
+        no: 0,
+        first,
+        last,
+        copies: s.copies,
+        places: places(s),
         size,
         order,
     }
 }
 
-// The size of the transport block, and the modulation order.
-struct Sizes {
-    size: u64,
-    order: u64,
+pub fn plan_beside(s: Shape, nested: Nested, size: u64, order: u64) -> UplinkPlan
+    requires { ⌜ Fits s × OpenRepeats s (clear (nested .closures)) × Searchable s nested ⌝ }
+    ensures { λ r. ⌜ r ≡ planShown size order (extentOf (sendingOf s (clear (nested .closures)))) ⌝ }
+{
+    let last = sent_slots(s) - 1;
+    let ends = timing::open_ends(s, nested, timing::group_search(s, nested), last);
+    planned(s, ends.first, ends.last, size, order)
 }
 
-// Those of accepted fields.
-fn sizes_of(f: UplinkFields) -> Sizes
-    requires { ⌜ fieldsRefusal (unwindowed f) ≡ 0 ⌝ }
-    ensures { λ r. ⌜ r ≡ sizesOf f ⌝ }
+// The same, where there is no window.
+pub fn plan(s: Shape, size: u64, order: u64) -> UplinkPlan
+    requires { ⌜ Fits s ⌝ }
+    ensures { λ r. ⌜ r ≡ planShown size order (extentOf (sendingOf s allOpen)) ⌝ }
 {
-    let tones = fields::tones(f.spacing, f.subcarrier);
-    let size = fields::block_size(tones, f.mcs, f.units);
-    let order = fields::order(tones, f.mcs);
-    Sizes { size, order }
+    let first = s.first;
+    let last = sent_slots(s) - 1;
+    planned(s, first, first + timing::active_at(s, last), size, order)
 }
 
-// First and last slot, copies, places, size and order.
-pub fn plan(g: UplinkGrant) -> UplinkPlan
-    ensures { λ r. ⌜ r ≡ planOf g ⌝ }
+// The place of position p, which `at` is taken apart and which is in `slot`, and the symbol there. Whoever asks takes
+// it apart and finds the slot: one function of all would be too long for the compiler to put into either kind of
+// grant's.
+pub fn forward(s: Shape, p: u64, at: Split, slot: u64) -> UplinkPlace
+    requires { ⌜ Fits s × (at ≡ splitOf s p) ⌝ }
+    ensures { λ r. ⌜ ((isOpen : ℕ → Bool) → (at .i < sentSlots s → slot ≡ slotAt s isOpen (at .i))
+        → r ≡ placeIn (s .subcarriers) (sendingOf s isOpen) p) ⌝ }
 {
-    let f = fields_of(g);
-    let no = judge_fields(f);
-    if no != 0 {
-        return slots::refused_plan(no);
+    if at.i >= sent_slots(s) {
+        return refused_place(sending::NO_SUCH_PLACE);
     }
-    let own = sizes_of(f);
-    windowed::plan(g.spacing, shape(f, own.size, own.order), g.windows)
-}
-
-pub fn plain_plan(f: UplinkFields) -> UplinkPlan
-    ensures { λ r. ⌜ r ≡ planOf (unwindowed f) ⌝ }
-{
-    let no = judge_fields(f);
-    if no != 0 {
-        return slots::refused_plan(no);
+    let w = data::slot_data(s);
+    let unit = carried_by(s, at.i);
+    UplinkPlace {
+        no: 0,
+        slot,
+        l: at.l,
+        k: at.k,
+        symbol: sending::item(unit, w, at.e),
     }
-    let own = sizes_of(f);
-    slots::plain_plan(shape(f, own.size, own.order))
 }
 
-// The place of position p, and the symbol there.
-pub fn forward(g: UplinkGrant, p: u64) -> UplinkPlace
-    ensures { λ r. ⌜ r ≡ forwardOf g p ⌝ }
+// What stands at symbol l and subcarrier k of a slot, which is located at `found`, as forward has its position.
+pub fn backward(s: Shape, slot: u64, found: SentIndex, l: u64, k: u64) -> Back
+    requires { ⌜ Fits s × Counted s found ⌝ }
+    ensures { λ r. ⌜ ((isOpen : ℕ → Bool) → Located s isOpen slot found
+        → r ≡ backIn (s .subcarriers) (sendingOf s isOpen) slot l k) ⌝ }
 {
-    forward_or(g, p, 14)
-}
-
-// The same for a step; `end` is the number right after the last position.
-pub fn forward_or(g: UplinkGrant, p: u64, end: u64) -> UplinkPlace
-    ensures { λ r. ⌜ r ≡ forwardOr end g p ⌝ }
-{
-    let f = fields_of(g);
-    let no = judge_fields(f);
-    if no != 0 {
-        return slots::refused_place(no);
+    let subcarriers = s.subcarriers;
+    let inside = (l < UplinkGrid::SYMBOLS) & (k < subcarriers);
+    if !inside {
+        return sending::refused(sending::NO_SUCH_PLACE);
     }
-    windowed::forward_or(g.spacing, shape(f, 0, 0), g.windows, p, end)
-}
-
-// A step of fields alone has a function of its own, so that the compiler puts either into its one caller.
-pub fn plain_forward(f: UplinkFields, p: u64) -> UplinkPlace
-    ensures { λ r. ⌜ r ≡ forwardOf (unwindowed f) p ⌝ }
-{
-    let no = judge_fields(f);
-    if no != 0 {
-        return slots::refused_place(no);
+    if !found.sent {
+        return sending::not_ours(0);
     }
-    let s = shape(f, 0, 0);
-    let at = slots::taken_apart(s, p);
-    slots::forward_or(s, p, at, slots::plain_slot_at(s, at.i), 14)
-}
-
-pub fn plain_forward_or(f: UplinkFields, p: u64, end: u64) -> UplinkPlace
-    ensures { λ r. ⌜ r ≡ forwardOr end (unwindowed f) p ⌝ }
-{
-    let no = judge_fields(f);
-    if no != 0 {
-        return slots::refused_place(no);
+    if !data::is_granted(s, k) {
+        return sending::not_ours(0);
     }
-    let s = shape(f, 0, 0);
-    let at = slots::taken_apart(s, p);
-    slots::forward_or(s, p, at, slots::plain_slot_at(s, at.i), end)
-}
-
-// What stands at symbol l and subcarrier k of a slot.
-pub fn backward(g: UplinkGrant, slot: u64, l: u64, k: u64) -> Back
-    ensures { λ r. ⌜ r ≡ backwardOf g slot l k ⌝ }
-{
-    let f = fields_of(g);
-    let no = judge_fields(f);
-    if no != 0 {
-        return sending::refused(no);
+    if data::is_reference(s, l) {
+        return sending::not_ours(1);
     }
-    windowed::backward(g.spacing, shape(f, 0, 0), g.windows, slot, l, k)
-}
-
-pub fn plain_backward(f: UplinkFields, slot: u64, l: u64, k: u64) -> Back
-    ensures { λ r. ⌜ r ≡ backwardOf (unwindowed f) slot l k ⌝ }
-{
-    let no = judge_fields(f);
-    if no != 0 {
-        return sending::refused(no);
-    }
-    let s = shape(f, 0, 0);
-    slots::backward(s, slot, slots::plain_locate(s, slot), l, k)
+    let w = data::slot_data(s);
+    let i = found.i;
+    let e = data::number_of(s, l, k);
+    let unit = carried_by(s, i);
+    sending::ours(sending::item(unit, w, e), sending::item(i, w, e))
 }

@@ -4,17 +4,17 @@ use mathlib.Core.List.{List}
 use Prim.Native.Nat.{ℕ, _+_}
 use lib.Dec.{eqb, ltb}
 use Rattle.cell.specs.declared.Cell.{Cell}
-use Rattle.slots.specs.declared.UplinkPlace.{UplinkPlace}
-use Rattle.subframes.specs.declared.DownlinkPlace.{DownlinkPlace}
-use Rattle.uplink.specs.Questions as up
-use Rattle.acknowledgement.specs.Questions as ack
-use Rattle.downlink.specs.Questions as down
-use Rattle.control.specs.Questions as control
+use Rattle.uplink.specs.declared.UplinkPlace.{UplinkPlace}
+use Rattle.downlink.specs.declared.DownlinkPlace.{DownlinkPlace}
+use Rattle.npusch.specs.Questions as up
+use Rattle.harq_ack.specs.Questions as ack
+use Rattle.npdsch.specs.Questions as down
+use Rattle.npdcch.specs.Questions as control
 use Rattle.walk.specs.declared.Grant.{Grant}
-use Rattle.walk.specs.declared.Grant.the-variants.{Up, Ack, Down, Control}
+use Rattle.walk.specs.declared.Grant.the-variants.{Npusch, HarqAck, Npdsch, Npdcch}
 use Rattle.walk.specs.declared.Walk.{Walk}
 use Rattle.walk.specs.declared.WalkPlace.{WalkPlace}
-use Rattle.walk.specs.declared.Moved.{Moved}
+use Rattle.sending.specs.Answer.{noSuchPlace}
 use Rattle.walk.specs.declared.Stepped.{Stepped}
 
 -- ---- answers
@@ -42,22 +42,22 @@ pub record Asked : Type 0 where
 
 -- an uplink grant has no use for the cell and the buffers
 unfoldable pub asked : Cell → List ℕ → List ℕ → Grant → Asked
-asked c anchor other (Up g) = record {
-  no = up.planOf g .no;
-  places = up.planOf g .places;
-  at = λ p. fromUplink (up.forwardOf g p);
+asked c anchor other (Npusch g ws) = record {
+  no = up.planOf g ws .no;
+  places = up.planOf g ws .places;
+  at = λ p. fromUplink (up.forwardOf g ws p);
 }
-asked c anchor other (Ack g) = record {
-  no = ack.planOf g .no;
-  places = ack.planOf g .places;
-  at = λ p. fromUplink (ack.forwardOf g p);
+asked c anchor other (HarqAck g ws) = record {
+  no = ack.planOf g ws .no;
+  places = ack.planOf g ws .places;
+  at = λ p. fromUplink (ack.forwardOf g ws p);
 }
-asked c anchor other (Down g) = record {
+asked c anchor other (Npdsch g) = record {
   no = down.planOf c anchor other g .no;
   places = down.planOf c anchor other g .places;
   at = λ p. fromDownlink (down.forwardOf c anchor other g p);
 }
-asked c anchor other (Control g) = record {
+asked c anchor other (Npdcch g) = record {
   no = control.planOf c anchor other g .no;
   places = control.planOf c anchor other g .places;
   at = λ p. fromDownlink (control.forwardOf c anchor other g p);
@@ -67,6 +67,10 @@ abbrev pub askedOf : Walk → List ℕ → List ℕ → Asked
 askedOf w anchor other = asked (w .cell) anchor other (w .grant)
 
 -- ---- a step
+
+pub record Moved : Type 0 where
+  pub answer : WalkPlace
+  pub p : ℕ
 
 abbrev pub onward : WalkPlace → ℕ → Moved
 onward answer p = record { answer = answer; p = p + 1 }
@@ -80,7 +84,7 @@ moved q p =
     cond (eqb (q .no) 0)
     (cond (ltb p (q .places)) (onward (q .at p) p)
     (cond (eqb p (q .places)) (unmoved finishedStep p)
-    (unmoved (refusedStep 14) p)))
+    (unmoved (refusedStep noSuchPlace) p)))
     (unmoved (refusedStep (q .no)) p)
 
 abbrev pub movedOf : Walk → List ℕ → List ℕ → Moved

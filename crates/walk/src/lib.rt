@@ -1,24 +1,23 @@
-// The walk: the places of a grant one after the other, by a record of the caller's own. The step on values; `inplace` moves the record.
+// The walk: the places of a grant one after the other, by a record of the caller's own. What a step asks; `inplace`
+// moves the record.
 ghost use mathlib.Core.Path.{_≡_};
-ghost use Prim.Native.Nat.{_^_, _<_};
-ghost use Rattle.walk.specs.Step.{fromUplink, fromDownlink, refusedStep, finishedStep, onward, unmoved, movedOf};
-ghost use Rattle.walk.specs.Quick.{walkAt, stoppedAt};
-use acknowledgement::AckGrant;
+ghost use Rattle.walk.specs.Step.{fromUplink, fromDownlink, refusedStep, finishedStep, askedOf};
+ghost use Rattle.walk.specs.Quick.{walkAt, isEnd, stoppedAt};
 use cell::Cell;
-use control::ControlGrant;
-use downlink::DownlinkGrant;
-use slots::UplinkPlace;
-use subframes::DownlinkPlace;
-use uplink::UplinkGrant;
+use downlink::DownlinkPlace;
+use harq_ack::HarqAckGrant;
+use npdcch::NpdcchGrant;
+use npdsch::NpdschGrant;
+use nprach::Windows;
+use npusch::NpuschGrant;
+use uplink::UplinkPlace;
 
-// The number that a step has forward give right after the last position: no question's, and not 255 either.
-pub const END: u64 = 256;
-
+// An uplink grant stands beside the random access windows that it keeps clear of.
 pub enum Grant {
-    Up(UplinkGrant),
-    Ack(AckGrant),
-    Down(DownlinkGrant),
-    Control(ControlGrant),
+    Npusch(NpuschGrant, Windows),
+    HarqAck(HarqAckGrant, Windows),
+    Npdsch(NpdschGrant),
+    Npdcch(NpdcchGrant),
 }
 
 // A grant, its cell, and the position whose turn it is. An uplink grant has no use for the cell.
@@ -28,7 +27,8 @@ pub struct Walk {
     pub p: u64,
 }
 
-// A step's answer: the refusal number; 1 at the end; else the place and the codeword symbol there. In the uplink t is 0.
+// A step's answer: the refusal number; 1 at the end; else the place and the codeword symbol there. In the uplink t is
+// 0.
 pub struct WalkPlace {
     pub no: u64,
     pub finished: u64,
@@ -37,12 +37,6 @@ pub struct WalkPlace {
     pub l: u64,
     pub k: u64,
     pub symbol: u64,
-}
-
-// A step's answer, and the position after it.
-pub struct Moved {
-    pub answer: WalkPlace,
-    pub p: u64,
 }
 
 // A step's answer, and the record after it.
@@ -107,54 +101,82 @@ fn finished_step() -> WalkPlace
     }
 }
 
-// The next position's turn comes.
-fn onward(answer: WalkPlace, p: u64) -> Moved
-    requires { ⌜ p < 2 ^ 63 ⌝ }
-    ensures { λ r. ⌜ r ≡ onward answer p ⌝ }
-{
-    Moved { answer, p: p + 1 }
-}
-
-// The walk stays where it is.
-fn unmoved(answer: WalkPlace, p: u64) -> Moved
-    ensures { λ r. ⌜ r ≡ unmoved answer p ⌝ }
-{
-    Moved { answer, p }
-}
-
-// What forward answers at p, and at the end that it is the end.
-fn ask(w: Walk, anchor: &[u8], other: &[u8]) -> WalkPlace
+// What forward answers at p.
+pub fn forward(w: Walk, anchor: &[u8], other: &[u8]) -> WalkPlace
     ensures { λ r. ⌜ r ≡ walkAt w (now (anchor .entry)) (now (other .entry)) ⌝ }
 {
     let p = w.p;
     let c = w.cell;
     let grant = w.grant;
     match grant {
-        Grant::Up(g) => from_uplink(uplink::forward_or(g, p, END)),
-        Grant::Ack(g) => from_uplink(acknowledgement::forward_or(g, p, END)),
-        Grant::Down(g) => from_downlink(downlink::forward_or(c, anchor, other, g, p, END)),
-        Grant::Control(g) => from_downlink(control::forward_or(c, anchor, other, g, p, END)),
+        Grant::Npusch(g, ws) => from_uplink(npusch::forward_beside(g, ws, p)),
+        Grant::HarqAck(g, ws) => from_uplink(harq_ack::forward_beside(g, ws, p)),
+        Grant::Npdsch(g) => from_downlink(npdsch::forward(c, anchor, other, g, p)),
+        Grant::Npdcch(g) => from_downlink(npdcch::forward(c, anchor, other, g, p)),
     }
 }
 
-// The step at a position that forward refuses.
-pub fn stopped(no: u64) -> WalkPlace
-    ensures { λ r. ⌜ r ≡ stoppedAt no ⌝ }
+// Plan's refusal number and places.
+struct Total {
+    no: u64,
+    places: u64,
+}
+
+fn plan_of(w: Walk, anchor: &[u8], other: &[u8]) -> Total
+    ensures { λ r. ⌜ (r .no ≡ askedOf w (now (anchor .entry)) (now (other .entry)) .no)
+        × (r .places ≡ askedOf w (now (anchor .entry)) (now (other .entry)) .places) ⌝ }
 {
-    if no == END {
+    let c = w.cell;
+    let grant = w.grant;
+    match grant {
+        Grant::Npusch(g, ws) => {
+            let a = npusch::plan_beside(g, ws);
+            Total {
+                no: a.no,
+                places: a.places,
+            }
+        }
+        Grant::HarqAck(g, ws) => {
+            let a = harq_ack::plan_beside(g, ws);
+            Total {
+                no: a.no,
+                places: a.places,
+            }
+        }
+        Grant::Npdsch(g) => {
+            let a = npdsch::plan(c, anchor, other, g);
+            Total {
+                no: a.no,
+                places: a.places,
+            }
+        }
+        Grant::Npdcch(g) => {
+            let a = npdcch::plan(c, anchor, other, g);
+            Total {
+                no: a.no,
+                places: a.places,
+            }
+        }
+    }
+}
+
+// Whether p is the end, by plan.
+fn is_end(w: Walk, anchor: &[u8], other: &[u8]) -> bool
+    ensures { λ r. ⌜ r ≡ isEnd (askedOf w (now (anchor .entry)) (now (other .entry))) (w .p) ⌝ }
+{
+    let t = plan_of(w, anchor, other);
+    (t.no == 0) & (w.p == t.places)
+}
+
+// The step at a position that forward refuses with a number.
+pub fn stopped(w: Walk, anchor: &[u8], other: &[u8], no: u64) -> WalkPlace
+    ensures { λ r. ⌜ r ≡ stoppedAt (askedOf w (now (anchor .entry)) (now (other .entry))) (w .p) no ⌝ }
+{
+    if no != sending::NO_SUCH_PLACE {
+        return refused_step(no);
+    }
+    if is_end(w, anchor, other) {
         return finished_step();
     }
     refused_step(no)
-}
-
-// The step on values: forward judges the record and answers, or tells the end from a refusal.
-pub fn advance(w: Walk, anchor: &[u8], other: &[u8]) -> Moved
-    ensures { λ r. ⌜ r ≡ movedOf w (now (anchor .entry)) (now (other .entry)) ⌝ }
-{
-    let p = w.p;
-    let answer = ask(w, anchor, other);
-    if answer.no == 0 {
-        return onward(answer, p);
-    }
-    unmoved(stopped(answer.no), p)
 }

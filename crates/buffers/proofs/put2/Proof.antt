@@ -1,15 +1,9 @@
 use mathlib.Core.List.{[], _∷_}
-use mathlib.Core.Path.{refl}
 use native.Mathlib.Omega.{arith}
 use lib.ListN.{length-set}
-use Rattle.buffers.proofs.Replies.{stored}
+use Rattle.buffers.proofs.Replies.{put-stored}
 use Rattle.buffers.proofs.put2.Statement.{statement}
 use Rattle.buffers.proofs.put2.Tie as tie
-
-returns : tie.Need-returns
-returns c =
-    let x = c .args in
-    (refl, stored (x .a ∷ x .b ∷ []) (x .s .now) (c .pre))
 
 pub put2-spec : {M : Type 1} → statement M
 put2-spec =
@@ -18,4 +12,4 @@ put2-spec =
     (λ c. omega arith)
     (λ c. simp length-set (omega arith))
     (λ c. simp length-set)
-    returns)
+    (λ c. let x = c .args in put-stored (x .a) (x .b ∷ []) (x .s .now) (c .pre)))

@@ -1,15 +1,9 @@
 use mathlib.Core.List.{[], _∷_}
-use mathlib.Core.Path.{refl}
 use native.Mathlib.Omega.{arith}
 use lib.ListN.{length-set}
-use Rattle.buffers.proofs.Replies.{stored}
+use Rattle.buffers.proofs.Replies.{put-stored}
 use Rattle.buffers.proofs.put3.Statement.{statement}
 use Rattle.buffers.proofs.put3.Tie as tie
-
-returns : tie.Need-returns
-returns c =
-    let x = c .args in
-    (refl, stored (x .a ∷ x .b ∷ x .c ∷ []) (x .s .now) (c .pre))
 
 pub put3-spec : {M : Type 1} → statement M
 put3-spec =
@@ -19,4 +13,4 @@ put3-spec =
     (λ c. simp length-set (omega arith))
     (λ c. simp length-set (omega arith))
     (λ c. simp length-set)
-    returns)
+    (λ c. let x = c .args in put-stored (x .a) (x .b ∷ x .c ∷ []) (x .s .now) (c .pre)))

@@ -1,15 +1,9 @@
 use mathlib.Core.List.{[], _∷_}
-use mathlib.Core.Path.{refl}
 use native.Mathlib.Omega.{arith}
 use lib.ListN.{length-set}
-use Rattle.buffers.proofs.Replies.{stored}
+use Rattle.buffers.proofs.Replies.{put-stored}
 use Rattle.buffers.proofs.put7.Statement.{statement}
 use Rattle.buffers.proofs.put7.Tie as tie
-
-returns : tie.Need-returns
-returns c =
-    let x = c .args in
-    (refl, stored (x .a ∷ x .b ∷ x .c ∷ x .d ∷ x .e ∷ x .f ∷ x .g ∷ []) (x .s .now) (c .pre))
 
 pub put7-spec : {M : Type 1} → statement M
 put7-spec =
@@ -23,4 +17,4 @@ put7-spec =
     (λ c. simp length-set (omega arith))
     (λ c. simp length-set (omega arith))
     (λ c. simp length-set)
-    returns)
+    (λ c. let x = c .args in put-stored (x .a) (x .b ∷ x .c ∷ x .d ∷ x .e ∷ x .f ∷ x .g ∷ []) (x .s .now) (c .pre)))

@@ -1,6 +1,6 @@
 use mathlib.Core.Path.{_≡_}
 use borrow.Author.Tests.{eq-eqb, ne-eqb}
-use Rattle.cell.specs.Quick.{Leaves}
+use Rattle.cell.specs.Quick.{ShowsLoaded}
 use Rattle.cell.proofs.Showing.{shows-anchor, shows-other}
 use Rattle.cell.proofs.pattern.Statement.{statement}
 use Rattle.cell.proofs.pattern.Tie as tie

@@ -1,20 +1,14 @@
-use mathlib.Core.Path.{_∙_}
-use Rattle.subframes.proofs.Cells.{forward-or-14, forward-ready}
-use Rattle.downlink.specs.Questions.{forwardOf}
-use Rattle.downlink.proofs.Accepting.{question}
+use mathlib.Core.Path.{sym, _∙_}
+use Rattle.sending.proofs.Answer.{accepted, refused}
+use Rattle.downlink.specs.Answers.{refusedPlace}
 use Rattle.downlink.proofs.forward.Statement.{statement}
 use Rattle.downlink.proofs.forward.Tie as tie
-
-returns : tie.Need-returns
-unfolding forwardOf
-returns c =
-    let r = c .before in
-    c .forward-or .ensures ∙ forward-ready _ _ _ _ _ _ (question _ _ _ _ (r .before .judged .result) (r .before .judged .ensures) (r .ready .result) (r .ready .ensures)) 14 _
-    ∙ forward-or-14 _ _ _ _ _
 
 pub forward-spec : {M : Type 1} → statement M
 forward-spec =
     tie.close
-    (tie.spec (λ c κs. tt) (λ c κs. tt)
-    (λ c κs. question _ _ _ _ (c .before .judged .result) (c .before .judged .ensures) (c .ready .result) (c .ready .ensures) .answerable)
-    returns)
+    (tie.spec
+    (λ c κs. tt)
+    (λ c. c .refused-place .ensures ∙ sym (refused refusedPlace _ _ (c .before .if1 .taken)))
+    (λ c κs. let a = c .before .before in (a .pre .going (c .if1 .left), a .pre .fits (c .if1 .left)))
+    (λ c. c .burst-forward .ensures ∙ sym (accepted refusedPlace _ _ (c .before .if1 .left))))

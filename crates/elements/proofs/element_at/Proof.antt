@@ -4,9 +4,9 @@ use Prim.Native.Nat.{ℕ, _+_, _-_, _*_, _/_, _≤_, _<_}
 use native.Mathlib.Nat.{mul-le-mul}
 use native.Mathlib.Omega.{arith}
 use Rattle.grid.specs.Grid.{subcarriers, symbols, elementOf}
-use Rattle.ncce.specs.declared.Marks.{Marks}
-use Rattle.ncce.specs.Ncce.{ncceWidth}
-use Rattle.ncce.specs.Quick.{marksOf}
+use Rattle.references.specs.declared.Marks.{Marks}
+use Rattle.elements.specs.Elements.{ncceWidth}
+use Rattle.references.specs.Quick.{marksOf}
 use Rattle.elements.specs.Elements.{numberOf}
 use Rattle.elements.specs.Quick.{rows, freeOf, sixInRows, nthIn}
 use Rattle.elements.proofs.Marked.{free-some, marksIn, Nth, row-nth}

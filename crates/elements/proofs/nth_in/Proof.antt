@@ -2,7 +2,7 @@ use mathlib.Core.Path.{refl}
 use Prim.Native.Nat.{_*_, _≤_}
 use native.Mathlib.Omega.{arith}
 use borrow.Author.Needs.{needs}
-use Rattle.ncce.proofs.Held.{held}
+use Rattle.references.proofs.Held.{held}
 use Rattle.elements.proofs.nth_in.Statement.{statement}
 use Rattle.elements.proofs.nth_in.Tie as tie
 

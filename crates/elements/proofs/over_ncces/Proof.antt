@@ -2,7 +2,7 @@ use mathlib.Core.Path.{_≡_, ap, sym, _∙_}
 use Prim.Native.Nat.{ℕ, _/_}
 use native.Mathlib.Nat.{div-one}
 use native.Mathlib.Omega.{arith}
-use Rattle.ncce.specs.Ncce.{ncceWidth}
+use Rattle.elements.specs.Elements.{ncceWidth}
 use Rattle.elements.proofs.over_ncces.Statement.{statement}
 use Rattle.elements.proofs.over_ncces.Tie as tie
 

@@ -2,7 +2,7 @@ use mathlib.Core.Path.{_≡_, refl, ap, _∙_}
 use Prim.Native.Nat.{ℕ, _+_, _-_, _*_, _≤_, _<_}
 use native.Mathlib.Omega.{arith}
 use Rattle.grid.specs.Grid.{symbols}
-use Rattle.ncce.proofs.Held.{held}
+use Rattle.references.proofs.Held.{held}
 use Rattle.elements.specs.Quick.{rows}
 use Rattle.elements.proofs.Closed.{six, six-at, six-few, rows-second, past-first, spot}
 use Rattle.elements.proofs.row_with.Statement.{statement}

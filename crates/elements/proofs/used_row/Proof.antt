@@ -1,7 +1,7 @@
 use mathlib.Core.Path.{_≡_, sym, ap, subst, _∙_}
 use Prim.Native.Nat.{ℕ, _-_}
 use native.Mathlib.Omega.{arith}
-use Rattle.ncce.specs.Quick.{marksOf}
+use Rattle.references.specs.Quick.{marksOf}
 use Rattle.elements.specs.Quick.{RowOf}
 use Rattle.elements.proofs.Marked.{marksIn}
 use Rattle.elements.proofs.Stands.{row-is}

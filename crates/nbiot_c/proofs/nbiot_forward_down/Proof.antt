@@ -1,26 +1,18 @@
-use mathlib.Core.Path.{refl}
+use mathlib.Core.Path.{_∙_}
 use borrow.Author.Needs.{needs}
-use Rattle.nbiot_c.specs.Calls as calls
 use Rattle.buffers.proofs.Replies.{unread, replied}
+use Rattle.nbiot_c.specs.Calls.{forwardDown}
 use Rattle.nbiot_c.proofs.nbiot_forward_down.Statement.{statement}
 use Rattle.nbiot_c.proofs.nbiot_forward_down.Tie as tie
 
-returns : tie.Need-returns
-unfolding calls.forwardDown
-returns c = unread _ _ (c .before .short3 .ensures .says) (c .if1 .taken)
-
-room : tie.Need-place-down-requires
-room c κs =
-    let e = c .before in
-    let short = e .before .short3 .ensures in
-    (short .first (e .if1 .left), short .middle (e .if1 .left), short .last (e .if1 .left))
-
-returns-2 : tie.Need-returns-2
-unfolding calls.forwardDown
-returns-2 c =
-    let put = c .before .before in
-    let e = put .before .before in
-    replied _ (e .before .short3 .ensures .says) (e .if1 .left) refl (put .place-down .ensures .0) (put .place-down .ensures .1)
-
 pub nbiot-forward-down-spec : {M : Type 1} → statement M
-nbiot-forward-down-spec = tie.close (tie.spec (λ c κs. search needs) returns room (λ c. search needs) returns-2)
+unfolding forwardDown
+nbiot-forward-down-spec =
+    tie.close
+    (tie.spec (λ c κs. tt) (λ c. unread _ _ (c .before .short3 .ensures .says) (c .if1 .taken))
+    (λ c κs. c .before .short3 .ensures .first (c .if1 .left))
+    (λ c κs. let e = c .before in e .before .short3 .ensures .middle (e .if1 .left)) (λ c κs. tt)
+    (λ c κs. let e = c .before .before .before .before in e .before .short3 .ensures .last (e .if1 .left)) (λ c. search needs)
+    (λ c. let p = c .before .before in let a = p .before .before in let e = a .before .before .before in
+    replied _ (e .before .short3 .ensures .says) (e .if1 .left)
+    (p .put-downlink-place .ensures ∙ simp (a .forward .ensures, a .before .npdsch-at .ensures, a .before .before .cell-at .ensures))))

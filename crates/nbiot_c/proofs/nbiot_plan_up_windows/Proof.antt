@@ -1,26 +1,16 @@
-use mathlib.Core.Path.{refl}
+use mathlib.Core.Path.{_∙_}
 use borrow.Author.Needs.{needs}
 use Rattle.buffers.proofs.Replies.{unread, replied}
-use Rattle.nbiot_c.specs.Calls as calls
+use Rattle.nbiot_c.specs.Calls.{planUp}
 use Rattle.nbiot_c.proofs.nbiot_plan_up_windows.Statement.{statement}
 use Rattle.nbiot_c.proofs.nbiot_plan_up_windows.Tie as tie
 
-returns : tie.Need-returns
-unfolding calls.planUp
-returns c = unread _ _ (c .before .short-up .ensures .says) (c .if1 .taken)
-
-room : tie.Need-plan-windows-requires
-room c κs =
-    let e = c .before in
-    let short = e .before .short-up .ensures in
-    (short .first (e .if1 .left), short .last (e .if1 .left))
-
-returns-2 : tie.Need-returns-2
-unfolding calls.planUp
-returns-2 c =
-    let put = c .before .before in
-    let e = put .before .before in
-    replied _ (e .before .short-up .ensures .says) (e .if1 .left) refl (put .plan-windows .ensures .0) (put .plan-windows .ensures .1)
-
 pub nbiot-plan-up-windows-spec : {M : Type 1} → statement M
-nbiot-plan-up-windows-spec = tie.close (tie.spec (λ c κs. search needs) returns room (λ c. search needs) returns-2)
+unfolding planUp
+nbiot-plan-up-windows-spec =
+    tie.close
+    (tie.spec (λ c κs. tt) (λ c. unread _ _ (c .before .short-beside .ensures .says) (c .if1 .taken))
+    (λ c κs. c .before .short-beside .ensures .first (c .if1 .left)) (λ c κs. tt)
+    (λ c κs. let e = c .before .before .before in e .before .short-beside .ensures .last (e .if1 .left)) (λ c. search needs)
+    (λ c. let p = c .before .before in let a = p .before .before in let e = a .before .before in
+    replied _ (e .before .short-beside .ensures .says) (e .if1 .left) (p .put-uplink-plan .ensures ∙ simp (a .plan-up-beside .ensures, a .before .npusch-at .ensures))))

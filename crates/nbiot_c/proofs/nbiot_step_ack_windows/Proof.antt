@@ -1,75 +1,29 @@
 use mathlib.Core.List.{[]}
-use mathlib.Core.Path.{refl, sym, ap, _∙_}
+use mathlib.Core.Logic.{inl, inr, ⊎-elim}
+use mathlib.Core.Path.{_∙_}
 use native.Mathlib.Omega.{arith}
 use borrow.Author.Needs.{needs}
-use lib.ListN.{drop}
-use Rattle.walk.proofs.Steps.{next-small}
-use Rattle.buffers.specs.Buffers.{ackWalkOf}
-use Rattle.buffers.proofs.Replies.{unread-step}
-use Rattle.lent.proofs.Walked.{moved-reply, stopped-reply}
-use Rattle.nbiot_c.specs.Calls as calls
+use Rattle.walk.specs.Step.{fromUplink, asked}
+use Rattle.buffers.specs.Buffers.{harqAckWalk}
+use Rattle.buffers.proofs.Replies.{unread, replied}
+use Rattle.buffers.proofs.Steps.{next-fits, stepped-by}
+use Rattle.nbiot_c.specs.Calls.{stepAck}
 use Rattle.nbiot_c.proofs.nbiot_step_ack_windows.Statement.{statement}
 use Rattle.nbiot_c.proofs.nbiot_step_ack_windows.Tie as tie
 
-returns : tie.Need-returns
-unfolding calls.stepAck
-returns c = unread-step _ _ _ (c .before .short-up .ensures .says) (c .if1 .taken)
-
-room : tie.Need-walked-windows-requires
-room c κs =
-    let e = c .before .before in
-    let short = e .before .short-up .ensures in
-    (short .first (e .if1 .left), short .last (e .if1 .left))
-
-next : tie.Need-moved-requires
-next c κs =
-    let walked = c .before .before .before .before in
-    let e = walked .before .before .before in
-    let x = e .before .before .before .before .before .args in (
-      omega (arith, e .before .short-up .ensures .first (e .if1 .left)),
-      next-small (ackWalkOf (x .walk .now) (x .windows .now)) [] [] _ refl (sym (walked .walked-windows .ensures .0) ∙ c .before .if2 .taken),
-    )
-
-returns-2 : tie.Need-returns-2
-unfolding calls.stepAck
-returns-2 c =
-    let move = c .before .before in
-    let walked = c .before .before .before .before .before .before .before in
-    let e = walked .before .before .before in
-    let x = e .before .before .before .before .before .args in
-    moved-reply (ackWalkOf (x .walk .now) (x .windows .now)) [] [] (x .walk .now) (x .answer .now) (e .before .short-up .ensures .says) (e .if1 .left)
-    (sym (walked .walked-windows .ensures .0) ∙ c .before .before .before .before .if2 .taken) (move .moved .ensures .0) (move .moved .ensures .1) (walked .walked-windows .ensures .1)
-
-room-2 : tie.Need-stopped-requires
-room-2 c κs =
-    let e = c .before .before .before .before .before .before .before in
-    let short = e .before .short-up .ensures in
-    search (needs, short .first (e .if1 .left), short .last (e .if1 .left))
-
-returns-3 : tie.Need-returns-3
-unfolding calls.stepAck
-returns-3 c =
-    let stop = c .before .before in
-    let walked = c .before .before .before .before .before .before .before in
-    let e = walked .before .before .before in
-    let x = e .before .before .before .before .before .args in
-    let short = e .before .short-up .ensures in
-    stopped-reply (ackWalkOf (x .walk .now) (x .windows .now)) [] [] (x .walk .now) (x .answer .now) (short .says) (e .if1 .left) (walked .walked-windows .last .1 .1 .1 .0)
-    (walked .walked-windows .ensures .0) (c .before .before .before .before .if2 .left) refl (omega (arith, short .first (e .if1 .left)))
-    (stop .stopped .ensures .0) (ap (drop 7) (walked .walked-windows .ensures .1)) (stop .stopped .ensures .1)
-
 pub nbiot-step-ack-windows-spec : {M : Type 1} → statement M
+unfolding stepAck asked
 nbiot-step-ack-windows-spec =
     tie.close
-    (tie.spec
-    (λ c κs. search needs)
-    returns
-    room
-    next
-    (λ c. search needs)
-    (λ c. search needs)
-    returns-2
-    room-2
-    (λ c. search needs)
-    (λ c. search needs)
-    returns-3)
+    (tie.spec (λ c κs. tt) (λ c. unread _ _ (c .before .short-beside .ensures .says) (c .if1 .taken))
+    (λ c. omega (arith, c .before .before .short-beside .ensures .first (c .before .if1 .left)))
+    (λ c κs. let e = c .before .before in e .before .short-beside .ensures .first (e .if1 .left)) (λ c κs. tt) (λ c κs. tt) (λ c κs. tt)
+    (λ c κs. let f = c .before .before .before .before in let e = f .before .before .before .before in let x = e .before .before .before .before .before .args in
+    let long = e .before .short-beside .ensures in let a = fromUplink (f .forward-ack-beside .result) in
+    (omega (arith, long .first (e .if1 .left)), long .last (e .if1 .left), next-fits (harqAckWalk (x .walk .now) (x .windows .now)) [] [] a (simp (f .forward-ack-beside .ensures, f .before .harq-ack-at .ensures))))
+    (λ c. search needs) (λ c. search needs)
+    (λ c. let p = c .before .before .before .before in let j = p .before .before .before in let f = j .before .before in
+    let e = f .before .before .before .before in let x = e .before .before .before .before .before .args in
+    replied _ (e .before .short-beside .ensures .says) (e .if1 .left) (p .put-step .ensures
+    ∙ stepped-by (harqAckWalk (x .walk .now) (x .windows .now)) [] [] (fromUplink (f .forward-ack-beside .result)) (simp (f .forward-ack-beside .ensures, f .before .harq-ack-at .ensures)) (x .walk .now) (x .answer .now)
+    (⊎-elim (λ h. inl (h .0 .taken, h .3 ∙ h .2 .ensures ∙ simp (h .1 .ensures, f .before .harq-ack-at .ensures))) (λ h. inr (h .0 .left, h .1)) (j .if2 .came)))))

@@ -1,74 +1,29 @@
-use mathlib.Core.Path.{refl, sym, ap, _∙_}
+use mathlib.Core.Logic.{inl, inr, ⊎-elim}
+use mathlib.Core.Path.{_∙_}
 use native.Mathlib.Omega.{arith}
 use borrow.Author.Needs.{needs}
-use lib.ListN.{drop}
-use Rattle.walk.proofs.Steps.{next-small}
-use Rattle.buffers.specs.Buffers.{downWalkOf}
-use Rattle.buffers.proofs.Replies.{unread-step}
-use Rattle.lent.proofs.Walked.{moved-reply, stopped-reply}
-use Rattle.nbiot_c.specs.Calls as calls
+use Rattle.walk.specs.Step.{fromDownlink, asked}
+use Rattle.buffers.specs.Buffers.{npdschWalk}
+use Rattle.buffers.proofs.Replies.{unread, replied}
+use Rattle.buffers.proofs.Steps.{next-fits, stepped-by}
+use Rattle.nbiot_c.specs.Calls.{stepDown}
 use Rattle.nbiot_c.proofs.nbiot_step_down.Statement.{statement}
 use Rattle.nbiot_c.proofs.nbiot_step_down.Tie as tie
 
-returns : tie.Need-returns
-unfolding calls.stepDown
-returns c = unread-step _ _ _ (c .before .short2 .ensures .says) (c .if1 .taken)
-
-room : tie.Need-walked-down-requires
-room c κs =
-    let e = c .before .before in
-    let short = e .before .short2 .ensures in
-    (short .first (e .if1 .left), short .last (e .if1 .left))
-
-next : tie.Need-moved-requires
-next c κs =
-    let walked = c .before .before .before .before in
-    let e = walked .before .before .before in
-    let x = e .before .before .before .before .before .before .args in (
-      omega (arith, e .before .short2 .ensures .first (e .if1 .left)),
-      next-small (downWalkOf (x .walk .now)) (x .anchor .now) (x .other .now) _ refl (sym (walked .walked-down .ensures .0) ∙ c .before .if2 .taken),
-    )
-
-returns-2 : tie.Need-returns-2
-unfolding calls.stepDown
-returns-2 c =
-    let move = c .before .before in
-    let walked = c .before .before .before .before .before .before .before in
-    let e = walked .before .before .before in
-    let x = e .before .before .before .before .before .before .args in
-    moved-reply (downWalkOf (x .walk .now)) (x .anchor .now) (x .other .now) (x .walk .now) (x .answer .now) (e .before .short2 .ensures .says) (e .if1 .left)
-    (sym (walked .walked-down .ensures .0) ∙ c .before .before .before .before .if2 .taken) (move .moved .ensures .0) (move .moved .ensures .1) (walked .walked-down .ensures .1)
-
-room-2 : tie.Need-stopped-requires
-room-2 c κs =
-    let e = c .before .before .before .before .before .before .before in
-    let short = e .before .short2 .ensures in
-    search (needs, short .first (e .if1 .left), short .last (e .if1 .left))
-
-returns-3 : tie.Need-returns-3
-unfolding calls.stepDown
-returns-3 c =
-    let stop = c .before .before in
-    let walked = c .before .before .before .before .before .before .before in
-    let e = walked .before .before .before in
-    let x = e .before .before .before .before .before .before .args in
-    let short = e .before .short2 .ensures in
-    stopped-reply (downWalkOf (x .walk .now)) (x .anchor .now) (x .other .now) (x .walk .now) (x .answer .now) (short .says) (e .if1 .left) (walked .walked-down .last .1 .1 .1 .0)
-    (walked .walked-down .ensures .0) (c .before .before .before .before .if2 .left) refl (omega (arith, short .first (e .if1 .left)))
-    (stop .stopped .ensures .0) (ap (drop 7) (walked .walked-down .ensures .1)) (stop .stopped .ensures .1)
-
 pub nbiot-step-down-spec : {M : Type 1} → statement M
+unfolding stepDown asked
 nbiot-step-down-spec =
     tie.close
-    (tie.spec
-    (λ c κs. search needs)
-    returns
-    room
-    next
-    (λ c. search needs)
-    (λ c. search needs)
-    returns-2
-    room-2
-    (λ c. search needs)
-    (λ c. search needs)
-    returns-3)
+    (tie.spec (λ c κs. tt) (λ c. unread _ _ (c .before .short2 .ensures .says) (c .if1 .taken))
+    (λ c. omega (arith, c .before .before .short2 .ensures .first (c .before .if1 .left)))
+    (λ c κs. let e = c .before .before in omega (arith, e .before .short2 .ensures .first (e .if1 .left)))
+    (λ c κs. let e = c .before .before .before .before in e .before .short2 .ensures .first (e .if1 .left)) (λ c κs. tt) (λ c κs. tt) (λ c κs. tt)
+    (λ c κs. let f = c .before .before .before .before in let e = f .before .before .before .before .before .before in let x = e .before .before .before .before .before .before .args in
+    let long = e .before .short2 .ensures in let a = fromDownlink (f .forward .result) in
+    (omega (arith, long .first (e .if1 .left)), long .last (e .if1 .left), next-fits (npdschWalk (x .walk .now)) (x .anchor .now) (x .other .now) a (simp (f .forward .ensures, f .before .npdsch-at .ensures, f .before .before .before .cell-at .ensures))))
+    (λ c. search needs) (λ c. search needs)
+    (λ c. let p = c .before .before .before .before in let j = p .before .before .before in let f = j .before .before in
+    let e = f .before .before .before .before .before .before in let x = e .before .before .before .before .before .before .args in
+    replied _ (e .before .short2 .ensures .says) (e .if1 .left) (p .put-step .ensures
+    ∙ stepped-by (npdschWalk (x .walk .now)) (x .anchor .now) (x .other .now) (fromDownlink (f .forward .result)) (simp (f .forward .ensures, f .before .npdsch-at .ensures, f .before .before .before .cell-at .ensures)) (x .walk .now) (x .answer .now)
+    (⊎-elim (λ h. inl (h .0 .taken, h .3 ∙ h .2 .ensures ∙ simp (h .1 .ensures, f .before .npdsch-at .ensures, f .before .before .before .cell-at .ensures))) (λ h. inr (h .0 .left, h .1)) (j .if2 .came)))))

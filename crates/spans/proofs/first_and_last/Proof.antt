@@ -3,13 +3,13 @@ use Prim.Native.Nat.{ℕ, _+_}
 use native.Mathlib.Omega.{arith}
 use borrow.Author.Needs.{needs}
 use Rattle.counting.proofs.Rank.{rank-le}
-use Rattle.spans.specs.Pattern.{allows, Counts}
+use Rattle.spans.specs.Pattern.{allows, OnesOf}
 use Rattle.spans.proofs.Laws.{nth-is}
 use Rattle.spans.proofs.first_and_last.Statement.{statement}
 use Rattle.spans.proofs.first_and_last.Tie as tie
 
-counts : (c : tie.After-ones-of2) → Counts (c .before .before .args .p) (c .before .ones-of .result) (c .ones-of2 .result)
-counts c = record { sib1 = c .before .ones-of .ensures; plain = c .ones-of2 .ensures }
+counts : (c : tie.After-ones-of2) → OnesOf (c .before .before .args .p) (c .before .ones-of .result) (c .ones-of2 .result)
+counts c = record { sib1 = c .before .ones-of .ensures; usual = c .ones-of2 .ensures }
 
 pub first-and-last-spec : {M : Type 1} → statement M
 first-and-last-spec =

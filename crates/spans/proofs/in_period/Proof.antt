@@ -8,7 +8,7 @@ use Rattle.spans.proofs.in_period.Statement.{statement}
 use Rattle.spans.proofs.in_period.Tie as tie
 
 sum : (s : tie.Start) → 4 * s .args .a + (spansOf (s .args .p) - 4) * s .args .b ≡ rank (allows (s .args .p)) (periodOf (s .args .p))
-sum s = rw (s .pre .1 .sib1, s .pre .1 .plain) (sym (some-of-period (s .args .p) (s .pre .0)))
+sum s = rw (s .pre .1 .sib1, s .pre .1 .usual) (sym (some-of-period (s .args .p) (s .pre .0)))
 
 whole : (c : tie.After-power-of-two) → 4 * c .before .args .a + (c .power-of-two .result - 4) * c .before .args .b ≡ rank (allows (c .before .args .p)) (periodOf (c .before .args .p))
 whole c = ap (λ (x : ℕ). 4 * c .before .args .a + (x - 4) * c .before .args .b) (c .power-of-two .ensures) ∙ sum (c .before)

@@ -2,13 +2,13 @@ use mathlib.Core.Path.{_≡_, _∙_, sym}
 use Prim.Native.Nat.{_-_, _≤_}
 use native.Mathlib.Omega.{arith}
 use Rattle.counting.proofs.Rank.{rank-mono}
-use Rattle.spans.specs.Pattern.{allows, Counts}
+use Rattle.spans.specs.Pattern.{allows, OnesOf}
 use Rattle.spans.proofs.Laws.{early, skipped, past, found, ahead, amid}
 use Rattle.spans.proofs.locate.Statement.{statement}
 use Rattle.spans.proofs.locate.Tie as tie
 
-counts : (c : tie.After-ones-of2) → Counts (c .before .before .before .args .p) (c .before .ones-of .result) (c .ones-of2 .result)
-counts c = record { sib1 = c .before .ones-of .ensures; plain = c .ones-of2 .ensures }
+counts : (c : tie.After-ones-of2) → OnesOf (c .before .before .before .args .p) (c .before .ones-of .result) (c .ones-of2 .result)
+counts c = record { sib1 = c .before .ones-of .ensures; usual = c .ones-of2 .ensures }
 
 abbrev start : tie.After-rank-of2 → tie.Start
 start r = r .before .before .before .before .before

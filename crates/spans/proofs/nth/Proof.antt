@@ -14,12 +14,12 @@ nth-spec =
     (tie.spec
     (λ c κs. tt)
     (λ c κs. tt)
-    (λ c κs. let s = c .before .before in (s .pre .0, record { sib1 = c .before .ones-of .ensures; plain = c .ones-of2 .ensures }))
+    (λ c κs. let s = c .before .before in (s .pre .0, record { sib1 = c .before .ones-of .ensures; usual = c .ones-of2 .ensures }))
     (λ c. let s = c .before .before .before in omega (arith, c .rank-of .ensures, rank-le (allows (s .args .p)) (s .args .from), s .pre .2, s .pre .3))
     (λ c κs.
     let b = c .before in
     let s = b .before .before in
-    (s .pre .0, record { sib1 = b .before .ones-of .ensures; plain = b .ones-of2 .ensures }, s .pre .1, omega (arith, c .rank-of .ensures, rank-le (allows (s .args .p)) (s .args .from), s .pre .2, s .pre .3)))
+    (s .pre .0, record { sib1 = b .before .ones-of .ensures; usual = b .ones-of2 .ensures }, s .pre .1, omega (arith, c .rank-of .ensures, rank-le (allows (s .args .p)) (s .args .from), s .pre .2, s .pre .3)))
     (λ c.
     let r = c .before in
     let s = r .before .before .before in

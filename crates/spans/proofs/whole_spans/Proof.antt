@@ -15,7 +15,7 @@ sum : (c : tie.After-sib1-before)
     ≡ rank (allows (c .before .args .p)) (span * c .before .args .s)
 sum c =
     let s = c .before in
-    rw (c .sib1-before .ensures, s .pre .1 .sib1, s .pre .1 .plain) (sym (spans-rank (s .args .p) (s .pre .0) (s .args .s)))
+    rw (c .sib1-before .ensures, s .pre .1 .sib1, s .pre .1 .usual) (sym (spans-rank (s .args .p) (s .pre .0) (s .args .s)))
 
 bound : (c : tie.After-sib1-before)
     → rank (allows (c .before .args .p)) (span * c .before .args .s) ≤ span * c .before .args .s

@@ -8,7 +8,7 @@ use lib.ListN.{getD}
 use lib.Pow.{shr-shr}
 use mir.Val.{boolByte}
 use Rattle.counting.specs.Bits.{bitAt}
-use Rattle.bitmap.specs.Bitmap.{bitOf}
+use Rattle.counting.specs.Bits.{bitOf}
 use Rattle.symbol.specs.Quick.{unset, pickedOf}
 use Rattle.symbol.proofs.symbol_at.Statement.{statement}
 use Rattle.symbol.proofs.symbol_at.Tie as tie

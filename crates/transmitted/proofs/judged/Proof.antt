@@ -1,11 +1,11 @@
 use native.Mathlib.Nat.{mul-le-mul}
 use native.Mathlib.Omega.{arith}
 use Rattle.cell.specs.Bitmap.{ownBuffer, bitmapIn}
-use Rattle.subframes.specs.Fits.{Fits}
-use Rattle.subframes.specs.Quick.{ReadyFor}
-use Rattle.downlink.specs.Refusals.{refusalOf}
-use Rattle.downlink.specs.Questions.{burstOf}
-use Rattle.downlink.proofs.Accepting.{question}
+use Rattle.downlink.specs.Fits.{Fits}
+use Rattle.downlink.specs.Quick.{ReadyFor}
+use Rattle.npdsch.specs.Refusals.{refusalOf}
+use Rattle.npdsch.specs.Questions.{burstOf}
+use Rattle.npdsch.proofs.Accepting.{question}
 use Rattle.transmitted.proofs.Calling.{refused-early, refused-late, accepted}
 use Rattle.transmitted.proofs.judged.Statement.{statement}
 use Rattle.transmitted.proofs.judged.Tie as tie

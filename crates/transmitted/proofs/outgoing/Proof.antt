@@ -5,7 +5,7 @@ use native.Mathlib.Omega.{arith}
 use borrow.Author.Needs.{needs}
 use Rattle.grid.specs.Grid.{subcarriers, elementOf}
 use Rattle.elements.specs.Elements.{used, kindOf, numberOf}
-use Rattle.elements.proofs.Laws.{whole-part, used-listed, count-le, standing-used, standing-other}
+use Rattle.elements.proofs.Laws.{whole-part, used-listed, count-le, use-used, use-unused}
 use Rattle.transmitted.proofs.Going.{goes-ours, goes-silent, goes-reference}
 use Rattle.transmitted.proofs.outgoing.Statement.{statement}
 use Rattle.transmitted.proofs.outgoing.Tie as tie
@@ -20,7 +20,7 @@ ours c =
     let a = c .before in
     let t = a .before .before in
     let s = t .before in
-    standing-used (s .args .layout) 0 subcarriers (x s) (a .at .given .0 .0) (sym (t .stands-at .ensures) ∙ a .at .given .1)
+    use-used (s .args .layout) 0 subcarriers (x s) (a .at .given .0 .0) (sym (t .use-at .ensures) ∙ a .at .given .1)
 
 other : (c : tie.After-known-told2) →
     let s = c .before .before .before .before in
@@ -29,7 +29,7 @@ other c =
     let a = c .before in
     let t = a .before .before in
     let s = t .before in
-    standing-other (s .args .layout) 0 subcarriers (x s) (a .at2 .given .0 .0) (sym (t .stands-at .ensures) ∙ a .at2 .given .1)
+    use-unused (s .args .layout) 0 subcarriers (x s) (a .at2 .given .0 .0) (sym (t .use-at .ensures) ∙ a .at2 .given .1)
 
 pub outgoing-spec : {M : Type 1} → statement M
 outgoing-spec =

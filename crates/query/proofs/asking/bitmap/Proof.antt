@@ -32,7 +32,7 @@ unfolding inForceOf
 short c anchor other = front (eqb (judgeOf c anchor other) 0) (bytesOf (c .bits)) (ownBuffer c anchor other) (few (c .bits))
 
 put-bitmap-requires : tie.Need-put-bitmap-requires
-put-bitmap-requires c κs = (search needs, rw (c .before .bitmap .ensures) (short _ _ _))
+put-bitmap-requires c κs = (search needs, rw (c .before .in-force .ensures) (short _ _ _))
 
 pub bitmap-spec : {M : Type 1} → statement M
 bitmap-spec =

@@ -1,2 +1,0 @@
-pub mod Anchor
-pub mod Quick

@@ -1,6 +1,0 @@
-use borrow.Author.Needs.{needs}
-use Rattle.lent.proofs.moved.Statement.{statement}
-use Rattle.lent.proofs.moved.Tie as tie
-
-pub moved-spec : {M : Type 1} → statement M
-moved-spec = tie.close (tie.spec (λ c. search needs) (λ c. search needs) (λ c κs. search needs) (λ c. search needs) (λ c. search needs))

@@ -1,2 +1,0 @@
-pub mod Ncce
-pub mod Quick

@@ -1,0 +1,3 @@
+pub mod Ncce
+pub mod Refusals
+pub mod Questions

@@ -1,0 +1,119 @@
+// NPDCCH: plan, forward and backward of control sent in usable subframes.
+ghost use mathlib.Core.Path.{_≡_};
+ghost use Rattle.downlink.specs.Quick.{Judged};
+ghost use Prim.Native.Nat.{_≤_};
+ghost use Rattle.npdcch.specs.Ncce.{firstSubcarrier, usedSubcarriers};
+ghost use Rattle.npdcch.specs.Refusals.{aboveLargest, grantRefusal};
+ghost use Rattle.npdcch.specs.Questions.{burstOf, planOf, forwardOf, backwardOf};
+use cell::Cell;
+use downlink::Burst;
+use downlink::DownlinkBack;
+use downlink::DownlinkPlace;
+use downlink::DownlinkPlan;
+use downlink::Ready;
+use grid::Grid;
+
+// r copies from subframe n on; format 0 uses the NCCE, format 1 both.
+pub struct NpdcchGrant {
+    pub n: u64,
+    pub r: u64,
+    pub format: u64,
+    pub ncce: u64,
+}
+
+// A field is above its largest number, or NCCE 1 with format 1.
+fn above_largest(g: NpdcchGrant) -> bool
+    ensures { λ r. ⌜ r ≡ aboveLargest g ⌝ }
+{
+    (g.format > 1) | ((g.ncce > 1) | ((g.format == 1) & (g.ncce == 1)))
+}
+
+// Format 0 uses one NCCE, format 1 both: the first subcarrier, and how many.
+fn first_subcarrier(format: u64, ncce: u64) -> u64
+    requires { ⌜ ncce ≤ 1 ⌝ }
+    ensures { λ r. ⌜ r ≡ firstSubcarrier format ncce ⌝ }
+{
+    if format == 0 {
+        return elements::NCCE_WIDTH * ncce;
+    }
+    0
+}
+
+fn used_subcarriers(format: u64) -> u64
+    ensures { λ r. ⌜ r ≡ usedSubcarriers format ⌝ }
+{
+    if format == 0 {
+        return elements::NCCE_WIDTH;
+    }
+    Grid::SUBCARRIERS
+}
+
+// The burst of an accepted grant.
+fn burst(c: Cell, g: NpdcchGrant) -> Burst
+    requires { ⌜ grantRefusal g ≡ 0 ⌝ }
+    ensures { λ r. ⌜ r ≡ burstOf c g ⌝ }
+{
+    let layout = cell::layout(c);
+    let low = first_subcarrier(g.format, g.ncce);
+    let width = used_subcarriers(g.format);
+    Burst {
+        layout,
+        low,
+        width,
+        from: g.n,
+        skip: 0,
+        codeword: 1,
+        copies: g.r,
+        consecutive: 1,
+    }
+}
+
+// The grant judged, after its cell's number.
+fn ready(cell: u64, c: Cell, g: NpdcchGrant) -> Ready
+    ensures { λ r. ⌜ Judged cell (grantRefusal g) (burstOf c g) r ⌝ }
+{
+    if cell != 0 {
+        return downlink::not_ready(cell);
+    }
+    let no = downlink::fields_refusal(g.n, above_largest(g), g.r);
+    if no != 0 {
+        return downlink::not_ready(no);
+    }
+    Ready {
+        no: 0,
+        burst: burst(c, g),
+    }
+}
+
+// First and last subframe, copies and places.
+pub fn plan(c: Cell, anchor: &[u8], other: &[u8], g: NpdcchGrant) -> DownlinkPlan
+    ensures { λ r. ⌜ r ≡ planOf c (now (anchor .entry)) (now (other .entry)) g ⌝ }
+{
+    let v = cell::judged(c, anchor, other);
+    downlink::plan(ready(v.no, c, g), v.pattern)
+}
+
+// The place of position p, and the symbol there.
+pub fn forward(c: Cell, anchor: &[u8], other: &[u8], g: NpdcchGrant, p: u64) -> DownlinkPlace
+    ensures { λ r. ⌜ r ≡ forwardOf c (now (anchor .entry)) (now (other .entry)) g p ⌝ }
+{
+    let v = cell::judged(c, anchor, other);
+    downlink::forward(ready(v.no, c, g), v.pattern, p)
+}
+
+// What stands at symbol l and subcarrier k of a slot of subframe t, and why the subframe was skipped.
+pub fn backward(
+    c: Cell,
+    anchor: &[u8],
+    other: &[u8],
+    g: NpdcchGrant,
+    t: u64,
+    slot: u64,
+    l: u64,
+    k: u64,
+) -> DownlinkBack
+    ensures { λ r. ⌜ r ≡ backwardOf c (now (anchor .entry)) (now (other .entry)) g t slot l k ⌝ }
+{
+    let v = cell::judged(c, anchor, other);
+    downlink::backward(ready(v.no, c, g), c, v.pattern, t, slot, l, k)
+}

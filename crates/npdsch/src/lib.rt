@@ -1,0 +1,100 @@
+// NPDSCH: plan, forward and backward of data sent in usable subframes.
+ghost use mathlib.Core.Path.{_≡_};
+ghost use Rattle.downlink.specs.Quick.{Judged};
+ghost use Rattle.npdsch.specs.Refusals.{aboveLargest, grantRefusal};
+ghost use Rattle.npdsch.specs.Questions.{burstOf, planOf, forwardOf, backwardOf};
+use cell::Cell;
+use downlink::Burst;
+use downlink::DownlinkBack;
+use downlink::DownlinkPlace;
+use downlink::DownlinkPlan;
+use downlink::Ready;
+use grid::Grid;
+
+// A grant that ends in subframe n; delay, subframes and copies are fields of its tables, rmax the number itself.
+pub struct NpdschGrant {
+    pub n: u64,
+    pub delay: u64,
+    pub rmax: u64,
+    pub subframes: u64,
+    pub copies: u64,
+}
+
+// A field is above its largest number.
+fn above_largest(g: NpdschGrant) -> bool
+    ensures { λ r. ⌜ r ≡ aboveLargest g ⌝ }
+{
+    (g.delay > 7) | ((g.subframes > 7) | (g.copies > 15))
+}
+
+// The burst of an accepted grant.
+fn burst(c: Cell, g: NpdschGrant) -> Burst
+    requires { ⌜ grantRefusal g ≡ 0 ⌝ }
+    ensures { λ r. ⌜ r ≡ burstOf c g ⌝ }
+{
+    let layout = cell::layout(c);
+    let skip = grid::downlink_delay(g.rmax, g.delay);
+    let codeword = grid::length(g.subframes);
+    let copies = grid::downlink_copies(g.copies);
+    let consecutive = grid::up_to_four(copies);
+    Burst {
+        layout,
+        low: 0,
+        width: Grid::SUBCARRIERS,
+        from: g.n + 5,
+        skip,
+        codeword,
+        copies,
+        consecutive,
+    }
+}
+
+// The grant judged, after its cell's number.
+pub fn ready(cell: u64, c: Cell, g: NpdschGrant) -> Ready
+    ensures { λ r. ⌜ Judged cell (grantRefusal g) (burstOf c g) r ⌝ }
+{
+    if cell != 0 {
+        return downlink::not_ready(cell);
+    }
+    let no = downlink::fields_refusal(g.n, above_largest(g), g.rmax);
+    if no != 0 {
+        return downlink::not_ready(no);
+    }
+    Ready {
+        no: 0,
+        burst: burst(c, g),
+    }
+}
+
+// First and last subframe, copies and places.
+pub fn plan(c: Cell, anchor: &[u8], other: &[u8], g: NpdschGrant) -> DownlinkPlan
+    ensures { λ r. ⌜ r ≡ planOf c (now (anchor .entry)) (now (other .entry)) g ⌝ }
+{
+    let v = cell::judged(c, anchor, other);
+    downlink::plan(ready(v.no, c, g), v.pattern)
+}
+
+// The place of position p, and the symbol there.
+pub fn forward(c: Cell, anchor: &[u8], other: &[u8], g: NpdschGrant, p: u64) -> DownlinkPlace
+    ensures { λ r. ⌜ r ≡ forwardOf c (now (anchor .entry)) (now (other .entry)) g p ⌝ }
+{
+    let v = cell::judged(c, anchor, other);
+    downlink::forward(ready(v.no, c, g), v.pattern, p)
+}
+
+// What stands at symbol l and subcarrier k of a slot of subframe t, and why the subframe was skipped.
+pub fn backward(
+    c: Cell,
+    anchor: &[u8],
+    other: &[u8],
+    g: NpdschGrant,
+    t: u64,
+    slot: u64,
+    l: u64,
+    k: u64,
+) -> DownlinkBack
+    ensures { λ r. ⌜ r ≡ backwardOf c (now (anchor .entry)) (now (other .entry)) g t slot l k ⌝ }
+{
+    let v = cell::judged(c, anchor, other);
+    downlink::backward(ready(v.no, c, g), c, v.pattern, t, slot, l, k)
+}

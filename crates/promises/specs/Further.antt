@@ -1,0 +1,73 @@
+-- What is promised beside demand 3: places clear of the random access windows, 02 L4; the bitmap in force as a part, 01 "The cell"; and the
+-- numbers of the answers that are enums, the cause of 02 L2 and one element of a fill, 01 "Questions".
+use mathlib.Core.List.{List, [], _++_}
+use mathlib.Core.Logic.{_↔_}
+use mathlib.Core.Path.{_≡_}
+use Prim.Native.Nat.{ℕ, _+_, _*_, _/_, _≤_, _<_}
+use lib.Ieee.{Float}
+use lib.ListN.{length}
+use Rattle.numerology.specs.Numerology.{groupOf, groupMs, narrowTones}
+use Rattle.nprach.specs.declared.Window.{Window}
+use Rattle.nprach.specs.declared.Windows.{Windows}
+use Rattle.nprach.specs.Windows.{windowTones}
+use Rattle.nprach.specs.Meaning.{Meeting}
+use Rattle.bitmap.specs.Bitmap.{bytesOf}
+use Rattle.cell.specs.declared.Cell.{Cell}
+use Rattle.cell.specs.declared.CauseAnswer.{CauseAnswer}
+use Rattle.cell.specs.Usable.{causeNumber}
+use Rattle.sending.specs.declared.Back.{Back}
+use Rattle.sending.specs.Sending.{ours, notOurs}
+use Rattle.sending.specs.Answer.{backOf}
+use Rattle.symbol.specs.declared.ElementNumbers.{ElementNumbers}
+use Rattle.symbol.specs.Symbol.{symbolOf}
+use Rattle.symbol.specs.Outgoing.{plusZero}
+
+-- ---- 02 L4: clear of the windows
+
+-- the windows that are read: as many of the four as are counted
+pub data Reads (ws : Windows) : Window → Type 0 where
+  first : 1 ≤ ws .count → Reads ws (ws .w1)
+  second : 2 ≤ ws .count → Reads ws (ws .w2)
+  third : 3 ≤ ws .count → Reads ws (ws .w3)
+  fourth : 4 ≤ ws .count → Reads ws (ws .w4)
+
+-- a window has one of so many granted tones from a first one on: one at 3.75 kHz, of which a tone at 15 kHz covers four
+pub record Shares (spacing tone tones : ℕ) (w : Window) : Type 0 where
+  pub at : ℕ
+  pub granted : (narrowTones spacing * tone ≤ at) × (at < narrowTones spacing * (tone + tones))
+  pub taken : (w .tone ≤ at) × (at < w .tone + windowTones)
+
+-- the slot is in no group that a window which is read meets in time and tone
+abbrev pub KeepsClear : ℕ → ℕ → ℕ → Windows → ℕ → Type 0
+KeepsClear spacing tone tones ws slot =
+    (w : Window) → Reads ws w → Shares spacing tone tones w → Meeting (groupMs spacing) w (slot / groupOf spacing) → ⊥
+
+-- ---- the bitmap in force
+
+-- the first n bytes of a buffer, which has them
+pub record Front (n : ℕ) (buffer part : List ℕ) : Type 0 where
+  pub rest : List ℕ
+  pub joined : buffer ≡ part ++ rest
+  pub size : length part ≡ n
+
+-- of a cell with refusal number `no`: 0, 2 or 5 bytes of the carrier's own buffer; a refused one has an empty part
+pub record InForce (c : Cell) (no : ℕ) (anchor other part : List ℕ) : Type 0 where
+  pub onAnchor : no ≡ 0 → c .carrier ≡ 0 → Front (bytesOf (c .bits)) anchor part
+  pub onOther : no ≡ 0 → c .carrier ≡ 1 → Front (bytesOf (c .bits)) other part
+  pub refused : (no ≡ 0 → ⊥) → part ≡ []
+
+-- ---- the cause by its number: 0 exactly where the subframe is usable, and where the cell is refused
+
+pub record CauseTold (no : ℕ) (usable : Type 0) (a : CauseAnswer) : Type 0 where
+  pub number : a .no ≡ no
+  pub told : no ≡ 0 → (causeNumber (a .cause) ≡ 0) ↔ usable
+  pub refused : (no ≡ 0 → ⊥) → causeNumber (a .cause) ≡ 0
+
+-- ---- one element by its numbers, beside what backward answers at its place
+
+-- a refusal alone; 4 and the symbol's two numbers where it is ours; elsewhere the kind, 0 silent and 1 to 3 a reference
+pub record ElementTold (no : ℕ) (at : Back) (bits : List ℕ) (level : Float) (e : ElementNumbers) : Type 0 where
+  pub refused : (no ≡ 0 → ⊥) → e ≡ record { no = no; state = 0; re = plusZero; im = plusZero }
+  pub sent : (s p : ℕ) → no ≡ 0 → at ≡ backOf (ours s p)
+      → e ≡ record { no = 0; state = 4; re = symbolOf bits level s .re; im = symbolOf bits level s .im }
+  pub unsent : (kind : ℕ) → no ≡ 0 → at ≡ backOf (notOurs kind) → e ≡ record { no = 0; state = kind; re = plusZero; im = plusZero }

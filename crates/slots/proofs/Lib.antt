@@ -1,9 +1,0 @@
-pub mod Rounds
-pub mod Grouped
-pub mod Leaving
-pub mod Lines
-pub mod Joined
-pub mod Splitting
-pub mod Lawfulness
-pub mod Sizes
-pub mod Judging
