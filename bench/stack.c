@@ -15,8 +15,11 @@ static const uint64_t up[] = {1000, 1, 14, 5, 6, 2, 3}, ack[] = {1000, 1, 6, 5};
 static const uint64_t windows[17] = {3, 160, 8, 688128, 0, 320, 64, 786432, 20, 2560, 256, 6291456, 8};
 static const uint8_t anchor[] = {0xff, 0xf7, 0xdb, 0xff, 0xff}, other[5];
 static uint8_t bits[320];
+/* The same cell with four schedules: windows that meet, windows alone, and times with none. */
+static const uint64_t messages[] = {1, 0, 5, 1, 4, 1, 1, 40, 480, 3, 4, 64, 4, 2, 128, 2, 2, 512, 8, 8, 4096, 2, 8};
 
 #define CELL cell, 8, anchor, 5, other, 5
+#define MESSAGES messages, 23, anchor, 5, other, 5
 #define ANSWER answer, 8
 #define WINDOWS windows, 17
 
@@ -81,6 +84,37 @@ static uint64_t step_control(void) {
     return nbiot_step_control(walk, 13, anchor, 5, other, 5, ANSWER);
 }
 
+/* With messages: the cell has 23 numbers, a walk the last 15 of them after the grant. */
+static uint64_t judge_messages(void) { return nbiot_judge(MESSAGES); }
+static uint64_t bitmap_messages(void) { return nbiot_bitmap(MESSAGES, ANSWER); }
+static uint64_t count_messages(void) { return nbiot_count(MESSAGES, ANSWER); }
+static uint64_t cause_messages(void) { return nbiot_cause(MESSAGES, 1001, ANSWER); }
+static uint64_t plan_down_messages(void) { return nbiot_plan_down(MESSAGES, down, 5, ANSWER); }
+static uint64_t plan_control_messages(void) { return nbiot_plan_control(MESSAGES, control, 4, ANSWER); }
+static uint64_t forward_down_messages(void) { return nbiot_forward_down(MESSAGES, down, 5, 5000, ANSWER); }
+static uint64_t forward_control_messages(void) { return nbiot_forward_control(MESSAGES, control, 4, 100, ANSWER); }
+static uint64_t backward_down_messages(void) { return nbiot_backward_down(MESSAGES, down, 5, 1100, 1, 2, 7, ANSWER); }
+static uint64_t backward_control_messages(void) { return nbiot_backward_control(MESSAGES, control, 4, 1011, 1, 2, 7, ANSWER); }
+
+static uint64_t step_down_messages(void) {
+    uint64_t walk[29] = {5000};
+    memcpy(walk + 1, messages, 8 * sizeof *messages);
+    memcpy(walk + 9, down, sizeof down);
+    memcpy(walk + 14, messages + 8, 15 * sizeof *messages);
+    return nbiot_step_down(walk, 29, anchor, 5, other, 5, ANSWER);
+}
+
+static uint64_t step_control_messages(void) {
+    uint64_t walk[28] = {100};
+    memcpy(walk + 1, messages, 8 * sizeof *messages);
+    memcpy(walk + 9, control, sizeof control);
+    memcpy(walk + 13, messages + 8, 15 * sizeof *messages);
+    return nbiot_step_control(walk, 28, anchor, 5, other, 5, ANSWER);
+}
+
+static uint64_t fill_messages(void) { return nbiot_fill(MESSAGES, down, 5, 20, bits, 320, 1.0f, output, 336); }
+static uint64_t element_messages(void) { return nbiot_element(MESSAGES, down, 5, 20, 1, 2, 7, bits, 320, 1.0f, ANSWER, pair, 2); }
+
 static uint64_t fill(void) { return nbiot_fill(CELL, down, 5, 20, bits, 320, 1.0f, output, 336); }
 static uint64_t element(void) { return nbiot_element(CELL, down, 5, 20, 1, 2, 7, bits, 320, 1.0f, ANSWER, pair, 2); }
 
@@ -116,6 +150,12 @@ int main(void) {
         {"forward up, windows", forward_up_windows}, {"forward ack, windows", forward_ack_windows},
         {"backward up, windows", backward_up_windows}, {"backward ack, windows", backward_ack_windows},
         {"step up, windows", step_up_windows}, {"step ack, windows", step_ack_windows},
+        {"judge, messages", judge_messages}, {"bitmap, messages", bitmap_messages}, {"count, messages", count_messages}, {"cause, messages", cause_messages},
+        {"plan down, messages", plan_down_messages}, {"plan control, messages", plan_control_messages},
+        {"forward down, messages", forward_down_messages}, {"forward control, messages", forward_control_messages},
+        {"backward down, messages", backward_down_messages}, {"backward control, messages", backward_control_messages},
+        {"step down, messages", step_down_messages}, {"step control, messages", step_control_messages},
+        {"fill, messages", fill_messages}, {"element, messages", element_messages},
     };
     uint64_t number;
     size_t base = depth(nothing, &number);

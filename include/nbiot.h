@@ -17,8 +17,9 @@
  *     5  control region not 1 to 3 in-band, or not 0 in the other modes
  *     6  SIB1 schedule above 11
  *     7  bitmap length not 0, 10 or 40, its buffer too short, or spare bits set
- *     8  the bitmap alone allows no subframe among the 2,560
- *    18  it allows some, and the anchor takes them all
+ *    21  a number of the messages that is not listed, a fifth schedule, or a window longer than its period
+ *     8  the bitmap alone allows no subframe
+ *    18  it allows some, and the anchor or its messages take them all
  *     9  n above 2^30 - 1, of an acknowledgement above 2^31 - 1
  *    10  a field above its largest number, or NCCE 1 with format 1
  *    11  subcarrier field 48 to 63 at 3.75 kHz, 19 to 63 at 15 kHz
@@ -47,7 +48,10 @@ extern "C" {
 
 #define NBIOT_TOO_SHORT 255
 
-/* A cell's numbers. */
+/*
+ * A cell's numbers: eight, or these and the messages' fifteen. A buffer of 8 to 22 numbers is read as eight, for which no message is sent;
+ * one of 23 or more has messages. Until the version that knows messages a longer buffer was read as eight.
+ */
 enum {
     NBIOT_CELL_MODE,     /* 0 in-band same identity, 1 in-band different identity, 2 guard band, 3 standalone */
     NBIOT_CELL_CARRIER,  /* 0 anchor, 1 non-anchor */
@@ -57,7 +61,28 @@ enum {
     NBIOT_CELL_CONTROL,  /* control region: 1 to 3 in-band, else 0 */
     NBIOT_CELL_SIB1,     /* SIB1 schedule, 0 to 11 */
     NBIOT_CELL_BITS,     /* bitmap length: 0, 10 or 40 */
-    NBIOT_CELL_NUMBERS
+    NBIOT_CELL_NUMBERS,
+    NBIOT_CELL_MESSAGES = NBIOT_CELL_NUMBERS,
+    NBIOT_CELL_WITH_MESSAGES = NBIOT_CELL_MESSAGES + 15
+};
+
+/*
+ * System information messages, which take subframes of an anchor: the window's length and offset, a count up to 4, then four schedules;
+ * those past the count are not read. Schedule i, from 0, has its numbers from NBIOT_MESSAGES_FIRST + i * NBIOT_SCHEDULE_NUMBERS on.
+ */
+enum {
+    NBIOT_SCHEDULE_PERIOD, /* frames from window to window: 64 to 4096, a power of two */
+    NBIOT_SCHEDULE_EVERY,  /* a copy begins every 2nd, 4th, 8th or 16th frame of a window */
+    NBIOT_SCHEDULE_SIZE,   /* subframes of a copy: 2 or 8 */
+    NBIOT_SCHEDULE_NUMBERS
+};
+
+enum {
+    NBIOT_MESSAGES_WINDOW, /* 160, 320, 480, 640, 960, 1280 or 1600 ms */
+    NBIOT_MESSAGES_OFFSET, /* 0 to 15 frames */
+    NBIOT_MESSAGES_COUNT,
+    NBIOT_MESSAGES_FIRST,
+    NBIOT_MESSAGES_NUMBERS = NBIOT_MESSAGES_FIRST + 4 * NBIOT_SCHEDULE_NUMBERS
 };
 
 /* An NPUSCH format 1 grant. It ends in subframe n; the rest are fields of the grant. */
@@ -151,7 +176,8 @@ enum {
     NBIOT_CAUSE_NPSS = 2,
     NBIOT_CAUSE_NSSS = 3,
     NBIOT_CAUSE_SIB1 = 4,
-    NBIOT_CAUSE_BITMAP = 6  /* withheld by the bitmap; 5 is kept for system information messages */
+    NBIOT_CAUSE_MESSAGE = 5, /* a system information message takes it */
+    NBIOT_CAUSE_BITMAP = 6   /* withheld by the bitmap */
 };
 
 /* E: how many elements of a subframe are eligible. */
@@ -312,7 +338,8 @@ uint64_t nbiot_backward_control(const uint64_t *cell, size_t cell_len,
 
 /*
  * Walk: the places of a grant one after the other. The record is the caller's: the position, which starts at 0, in the
- * downlink the cell's numbers, then the grant's. A step judges the record anew, answers what forward answers at the position
+ * downlink the cell's eight numbers, then the grant's, and after it in the downlink the messages' fifteen, if the record has room for
+ * them. A step judges the record anew, answers what forward answers at the position
  * and moves the position on; the other numbers stay. At the end it answers finished and moves nothing. An uplink step has t 0.
  */
 enum {
@@ -323,7 +350,9 @@ enum {
     NBIOT_WALK_UP_NUMBERS = NBIOT_WALK_UP_GRANT + NBIOT_UP_NUMBERS,
     NBIOT_WALK_ACK_NUMBERS = NBIOT_WALK_UP_GRANT + NBIOT_ACK_NUMBERS,
     NBIOT_WALK_DOWN_NUMBERS = NBIOT_WALK_GRANT + NBIOT_DOWN_NUMBERS,
-    NBIOT_WALK_CONTROL_NUMBERS = NBIOT_WALK_GRANT + NBIOT_CONTROL_NUMBERS
+    NBIOT_WALK_CONTROL_NUMBERS = NBIOT_WALK_GRANT + NBIOT_CONTROL_NUMBERS,
+    NBIOT_WALK_DOWN_WITH_MESSAGES = NBIOT_WALK_DOWN_NUMBERS + NBIOT_MESSAGES_NUMBERS,
+    NBIOT_WALK_CONTROL_WITH_MESSAGES = NBIOT_WALK_CONTROL_NUMBERS + NBIOT_MESSAGES_NUMBERS
 };
 
 enum {

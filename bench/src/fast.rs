@@ -1,13 +1,17 @@
 //! The questions in plain Rust, as fast as we can write them. Nothing is kept between calls: each call judges its cell and
 //! its grant. No loop runs over subframes or elements, but for the fill, which writes its numbers once.
-//! Cells, grants, windows and answers are in the order of include/nbiot.h.
+//! Cells, grants, windows and answers are in the order of include/nbiot.h. A cell is of 8 numbers, or of 23 with its messages, a walk's
+//! record of 15 more with them; which it is the compiler knows, so that a cell of 8 is asked nothing about messages.
 
 mod acknowledgement;
 mod cell;
 mod downlink;
 mod elements;
 mod fill;
+mod left;
+mod messages;
 mod timeline;
+mod timetable;
 mod uplink;
 
 pub use acknowledgement::{
@@ -17,19 +21,20 @@ pub use cell::{cause, judge};
 pub use elements::count;
 pub use downlink::{backward_control, backward_down, forward_control, forward_down, plan_control, plan_down, step_control, step_down};
 pub use fill::{element, fill};
+pub use messages::Messages;
 pub use uplink::{
     backward_up, backward_up_windows, forward_up, forward_up_windows, plan_up, plan_up_windows, step_up, step_up_windows,
 };
 
-pub type Cell = [u64; 8];
+pub type Cell<const N: usize = 8> = [u64; N];
 pub type UpGrant = [u64; 7];
 pub type AckGrant = [u64; 4];
 pub type DownGrant = [u64; 5];
 pub type ControlGrant = [u64; 4];
 pub type UpWalk = [u64; 8];
 pub type AckWalk = [u64; 5];
-pub type DownWalk = [u64; 14];
-pub type ControlWalk = [u64; 13];
+pub type DownWalk<const N: usize = 14> = [u64; N];
+pub type ControlWalk<const N: usize = 13> = [u64; N];
 
 const LAST_SUBFRAME: u64 = (1 << 30) - 1;
 const LENGTHS: [u32; 8] = [1, 2, 3, 4, 5, 6, 8, 10];

@@ -1,6 +1,8 @@
 //! Calls whose instructions are counted, each C function once on each of the same accepted scenes. `bench/instructions` has them counted by
 //! valgrind's callgrind, part by part: a count is over all calls of a function in one run. The scenes do not depend on the library.
 
+use crate::fast::{ControlGrant, DownGrant};
+use crate::messages::Messaged;
 use crate::ours;
 use crate::questions::elements;
 use crate::scene::Scene;
@@ -10,8 +12,29 @@ fn expect<const N: usize>(numbers: [u64; N], expected: u64) {
     assert_eq!(numbers, [expected; N], "not the refusal that was expected");
 }
 
-fn cell(s: &Scene) -> [u64; 4] {
-    let (cell, anchor, other) = (&s.cell, &s.anchor, &s.other);
+/// What is asked of a cell and its downlink, with messages or without.
+struct Downlink<'a> {
+    cell: &'a [u64],
+    lent: [&'a [u8]; 2],
+    down: &'a DownGrant,
+    control: &'a ControlGrant,
+    p: [u64; 2],
+    at_down: [u64; 4],
+    at_control: [u64; 4],
+}
+
+fn downlink(s: &Scene) -> Downlink<'_> {
+    let &Scene { ref cell, ref anchor, ref other, ref down, ref control, p: [_, p, q, _], at_down, at_control, .. } = s;
+    Downlink { cell, lent: [anchor, other], down, control, p: [p, q], at_down, at_control }
+}
+
+fn downlink_with_messages(s: &Messaged) -> Downlink<'_> {
+    let &Messaged { ref cell, ref anchor, ref other, ref down, ref control, p, at_down, at_control, .. } = s;
+    Downlink { cell, lent: [anchor, other], down, control, p, at_down, at_control }
+}
+
+fn cell(s: &Downlink) -> [u64; 4] {
+    let (cell, [anchor, other]) = (s.cell, s.lent);
     [
         ours::judge(cell, anchor, other),
         ours::bitmap(cell, anchor, other, &mut [0; 3]),
@@ -38,21 +61,21 @@ fn ack(s: &Scene) -> [u64; 3] {
     ]
 }
 
-fn down(s: &Scene) -> [u64; 3] {
-    let (cell, anchor, other, [t, slot, l, k]) = (&s.cell, &s.anchor, &s.other, s.at_down);
+fn down(s: &Downlink) -> [u64; 3] {
+    let (cell, [anchor, other], [t, slot, l, k]) = (s.cell, s.lent, s.at_down);
     [
-        ours::plan_down(cell, anchor, other, &s.down, &mut [0; 5]),
-        ours::forward_down(cell, anchor, other, &s.down, s.p[1], &mut [0; 6]),
-        ours::backward_down(cell, anchor, other, &s.down, t, slot, l, k, &mut [0; 6]),
+        ours::plan_down(cell, anchor, other, s.down, &mut [0; 5]),
+        ours::forward_down(cell, anchor, other, s.down, s.p[0], &mut [0; 6]),
+        ours::backward_down(cell, anchor, other, s.down, t, slot, l, k, &mut [0; 6]),
     ]
 }
 
-fn control(s: &Scene) -> [u64; 3] {
-    let (cell, anchor, other, [t, slot, l, k]) = (&s.cell, &s.anchor, &s.other, s.at_control);
+fn control(s: &Downlink) -> [u64; 3] {
+    let (cell, [anchor, other], [t, slot, l, k]) = (s.cell, s.lent, s.at_control);
     [
-        ours::plan_control(cell, anchor, other, &s.control, &mut [0; 5]),
-        ours::forward_control(cell, anchor, other, &s.control, s.p[2], &mut [0; 6]),
-        ours::backward_control(cell, anchor, other, &s.control, t, slot, l, k, &mut [0; 6]),
+        ours::plan_control(cell, anchor, other, s.control, &mut [0; 5]),
+        ours::forward_control(cell, anchor, other, s.control, s.p[1], &mut [0; 6]),
+        ours::backward_control(cell, anchor, other, s.control, t, slot, l, k, &mut [0; 6]),
     ]
 }
 
@@ -71,11 +94,10 @@ fn steps(s: &Scene) -> ([u64; 4], u64) {
 }
 
 /// With one port.
-fn subframe(s: &Scene) -> [u64; 2] {
-    let lent: [&[u8]; 2] = [&s.anchor, &s.other];
+fn subframe(s: &Downlink, i: u64, bits: &[u8], level: f32) -> [u64; 2] {
     [
-        ours::fill(&s.cell, lent, &s.down, s.i, &s.bits, s.level, &mut [0.0; 336]),
-        ours::element(&s.cell, lent, &s.down, elements(s), &s.bits, s.level, &mut [0; 2], &mut [0.0; 2]),
+        ours::fill(s.cell, s.lent, s.down, i, bits, level, &mut [0.0; 336]),
+        ours::element(s.cell, s.lent, s.down, elements(i, s.at_down), bits, level, &mut [0; 2], &mut [0.0; 2]),
     ]
 }
 
@@ -110,12 +132,24 @@ fn lent(s: &Scene) -> [&[u64]; 2] {
 
 /// What is asked of a cell and its grants without windows.
 fn unwindowed(s: &Scene) {
-    expect(cell(s), 0);
+    let lent = downlink(s);
+    expect(cell(&lent), 0);
     expect(up(s), 0);
     expect(ack(s), 0);
-    expect(down(s), 0);
-    expect(control(s), 0);
+    expect(down(&lent), 0);
+    expect(control(&lent), 0);
     assert_eq!(steps(s), ([0; 4], 0));
+}
+
+/// The same of a cell with messages: it has no uplink.
+fn with_messages(s: &Messaged) {
+    let lent = downlink_with_messages(s);
+    expect(cell(&lent), 0);
+    expect(down(&lent), 0);
+    expect(control(&lent), 0);
+    let (mut walks, mut answer) = (s.clone(), [0; 7]);
+    expect([ours::step_down(&mut walks.walk_down, &s.anchor, &s.other, &mut answer), answer[1]], 0);
+    expect([ours::step_control(&mut walks.walk_control, &s.anchor, &s.other, &mut answer), answer[1]], 0);
 }
 
 fn windowed(s: &Scene, lent: [&[u64]; 2]) {
@@ -149,7 +183,7 @@ pub fn call(part: &str, plain: &[Scene], ported: &[Scene], beside: &[Scene]) {
     match part {
         "each" => {
             plain.iter().for_each(unwindowed);
-            ported.iter().for_each(|s| expect(subframe(s), 0));
+            ported.iter().for_each(|s| expect(subframe(&downlink(s), s.i, &s.bits, s.level), 0));
             beside.iter().for_each(|s| windowed(s, lent(s)));
         }
         "none" => plain.iter().for_each(|s| windowed(s, [&[], &[]])),
@@ -158,4 +192,10 @@ pub fn call(part: &str, plain: &[Scene], ported: &[Scene], beside: &[Scene]) {
         "past" => stopped(&past(plain, 1), &past(beside, 1), 14, 0),
         _ => panic!("no part {part}"),
     }
+}
+
+/// Cells of 23 numbers, and the same with one port.
+pub fn call_with_messages(plain: &[Messaged], ported: &[Messaged]) {
+    plain.iter().for_each(with_messages);
+    ported.iter().for_each(|s| expect(subframe(&downlink_with_messages(s), s.i, &s.bits, s.level), 0));
 }

@@ -1,6 +1,5 @@
 //! Times of two versions of a question, side by side in one run.
 
-use crate::scene::Scene;
 use std::hint::black_box;
 use std::time::Instant;
 
@@ -12,10 +11,10 @@ fn median(mut times: Vec<f64>) -> f64 {
 }
 
 /// Nanoseconds a call over all scenes, the median of many rounds, of ours and of fast by turns.
-pub fn versus<A, B>(
-    scenes: &mut [Scene],
-    mut ours: impl FnMut(&mut Scene) -> A,
-    mut fast: impl FnMut(&mut Scene) -> B,
+pub fn versus<S, A, B>(
+    scenes: &mut [S],
+    mut ours: impl FnMut(&mut S) -> A,
+    mut fast: impl FnMut(&mut S) -> B,
 ) -> (f64, f64) {
     let (mut first, mut second) = (Vec::new(), Vec::new());
     let calls = scenes.len() as f64;

@@ -1,6 +1,7 @@
-//! The proved library, through its C functions. A call is safe: each buffer goes with its own length.
+//! The proved library, through its C functions. A call is safe: each buffer goes with its own length. A cell and a walk's record of the
+//! downlink may have any length, which says whether messages are lent.
 
-use crate::fast::{AckGrant, AckWalk, Cell, ControlGrant, ControlWalk, DownGrant, DownWalk, UpGrant, UpWalk};
+use crate::fast::{AckGrant, AckWalk, ControlGrant, DownGrant, UpGrant, UpWalk};
 
 extern "C" {
     fn nbiot_judge(cell: *const u64, cells: usize, anchor: *const u8, anchors: usize, other: *const u8, others: usize) -> u64;
@@ -44,7 +45,7 @@ macro_rules! downlink {
             ) -> u64;)*
         }
         $(#[inline(always)]
-        pub fn $name(cell: &Cell, anchor: &[u8], other: &[u8], grant: &$grant, $($number: u64,)* answer: &mut [u64; $columns]) -> u64 {
+        pub fn $name(cell: &[u64], anchor: &[u8], other: &[u8], grant: &$grant, $($number: u64,)* answer: &mut [u64; $columns]) -> u64 {
             // SAFETY: the pointers and lengths are those of slices, and only `answer` is written.
             unsafe {
                 $extern(
@@ -102,13 +103,13 @@ uplink! {
 }
 
 #[inline(always)]
-pub fn judge(cell: &Cell, anchor: &[u8], other: &[u8]) -> u64 {
+pub fn judge(cell: &[u64], anchor: &[u8], other: &[u8]) -> u64 {
     // SAFETY: the pointers and lengths are those of slices, and nothing is written.
     unsafe { nbiot_judge(cell.as_ptr(), cell.len(), anchor.as_ptr(), anchor.len(), other.as_ptr(), other.len()) }
 }
 
 #[inline(always)]
-pub fn bitmap(cell: &Cell, anchor: &[u8], other: &[u8], answer: &mut [u64; 3]) -> u64 {
+pub fn bitmap(cell: &[u64], anchor: &[u8], other: &[u8], answer: &mut [u64; 3]) -> u64 {
     // SAFETY: as above; only `answer` is written.
     unsafe {
         nbiot_bitmap(cell.as_ptr(), cell.len(), anchor.as_ptr(), anchor.len(), other.as_ptr(), other.len(), answer.as_mut_ptr(), answer.len())
@@ -116,7 +117,7 @@ pub fn bitmap(cell: &Cell, anchor: &[u8], other: &[u8], answer: &mut [u64; 3]) -
 }
 
 #[inline(always)]
-pub fn count(cell: &Cell, anchor: &[u8], other: &[u8], answer: &mut [u64; 2]) -> u64 {
+pub fn count(cell: &[u64], anchor: &[u8], other: &[u8], answer: &mut [u64; 2]) -> u64 {
     // SAFETY: as above; only `answer` is written.
     unsafe {
         nbiot_count(cell.as_ptr(), cell.len(), anchor.as_ptr(), anchor.len(), other.as_ptr(), other.len(), answer.as_mut_ptr(), answer.len())
@@ -124,7 +125,7 @@ pub fn count(cell: &Cell, anchor: &[u8], other: &[u8], answer: &mut [u64; 2]) ->
 }
 
 #[inline(always)]
-pub fn cause(cell: &Cell, anchor: &[u8], other: &[u8], t: u64, answer: &mut [u64; 2]) -> u64 {
+pub fn cause(cell: &[u64], anchor: &[u8], other: &[u8], t: u64, answer: &mut [u64; 2]) -> u64 {
     // SAFETY: as above; only `answer` is written.
     unsafe {
         nbiot_cause(
@@ -162,7 +163,7 @@ pub fn step_ack_windows(walk: &mut AckWalk, windows: &[u64], answer: &mut [u64; 
 }
 
 #[inline(always)]
-pub fn step_down(walk: &mut DownWalk, anchor: &[u8], other: &[u8], answer: &mut [u64; 7]) -> u64 {
+pub fn step_down(walk: &mut [u64], anchor: &[u8], other: &[u8], answer: &mut [u64; 7]) -> u64 {
     // SAFETY: as above; only `walk` and `answer` are written.
     unsafe {
         nbiot_step_down(
@@ -172,7 +173,7 @@ pub fn step_down(walk: &mut DownWalk, anchor: &[u8], other: &[u8], answer: &mut 
 }
 
 #[inline(always)]
-pub fn step_control(walk: &mut ControlWalk, anchor: &[u8], other: &[u8], answer: &mut [u64; 7]) -> u64 {
+pub fn step_control(walk: &mut [u64], anchor: &[u8], other: &[u8], answer: &mut [u64; 7]) -> u64 {
     // SAFETY: as above; only `walk` and `answer` are written.
     unsafe {
         nbiot_step_control(
@@ -182,7 +183,7 @@ pub fn step_control(walk: &mut ControlWalk, anchor: &[u8], other: &[u8], answer:
 }
 
 #[inline(always)]
-pub fn fill(cell: &Cell, lent: [&[u8]; 2], grant: &DownGrant, i: u64, bits: &[u8], level: f32, out: &mut [f32]) -> u64 {
+pub fn fill(cell: &[u64], lent: [&[u8]; 2], grant: &DownGrant, i: u64, bits: &[u8], level: f32, out: &mut [f32]) -> u64 {
     let [anchor, other] = lent;
     // SAFETY: as above; only `out` is written.
     unsafe {
@@ -195,7 +196,7 @@ pub fn fill(cell: &Cell, lent: [&[u8]; 2], grant: &DownGrant, i: u64, bits: &[u8
 
 #[inline(always)]
 pub fn element(
-    cell: &Cell, lent: [&[u8]; 2], grant: &DownGrant, at: [u64; 4], bits: &[u8], level: f32,
+    cell: &[u64], lent: [&[u8]; 2], grant: &DownGrant, at: [u64; 4], bits: &[u8], level: f32,
     answer: &mut [u64; 2], amplitudes: &mut [f32; 2],
 ) -> u64 {
     let ([anchor, other], [i, slot, l, k]) = (lent, at);
@@ -207,4 +208,11 @@ pub fn element(
             answer.as_mut_ptr(), answer.len(), amplitudes.as_mut_ptr(), amplitudes.len(),
         )
     }
+}
+
+/// Whether the library reads messages: a window of no length is refused then.
+pub fn reads_messages() -> bool {
+    let mut cell = [0; 23];
+    [cell[0], cell[3]] = [3, 1];
+    judge(&cell, &[], &[]) == 21
 }

@@ -27,6 +27,7 @@ macro_rules! line {
         report($name, ours_ns, fast_ns, agreed, $compared.len());
     }};
 }
+pub(crate) use line;
 
 fn report(name: &str, ours: f64, fast: f64, agreed: usize, compared: usize) {
     println!("| {name} | {ours:.1} | {fast:.1} | {:.2} | {agreed} of {compared} |", ours / fast);
@@ -55,14 +56,25 @@ pub fn beside_windows(timed: &mut [Scene], compared: &mut [Scene]) {
     steps_beside(timed, compared);
 }
 
+/// The judge's line.
+macro_rules! judge_line {
+    ($name:expr, $timed:expr, $compared:expr) => {{
+        let (ns, fs) = versus(
+            $timed,
+            |s| ours::judge(&s.cell, &s.anchor, &s.other),
+            |s| fast::judge(&s.cell, &s.anchor, &s.other),
+        );
+        let mut agreed = 0;
+        for s in $compared.iter() {
+            agreed += (ours::judge(&s.cell, &s.anchor, &s.other) == fast::judge(&s.cell, &s.anchor, &s.other)) as usize;
+        }
+        report($name, ns, fs, agreed, $compared.len());
+    }};
+}
+pub(crate) use judge_line;
+
 fn judge(timed: &mut [Scene], compared: &[Scene]) {
-    let (ns, fs) = versus(
-        timed,
-        |s| ours::judge(&s.cell, &s.anchor, &s.other),
-        |s| fast::judge(&s.cell, &s.anchor, &s.other),
-    );
-    let same = |s: &&Scene| ours::judge(&s.cell, &s.anchor, &s.other) == fast::judge(&s.cell, &s.anchor, &s.other);
-    report("judge", ns, fs, compared.iter().filter(same).count(), compared.len());
+    judge_line!("judge", timed, compared);
 }
 
 fn count(timed: &mut [Scene], compared: &mut [Scene]) {
@@ -209,6 +221,7 @@ macro_rules! step {
                 $fast
             }
         );
+        let mut same = 0;
         for $s in $compared.iter_mut() {
             $s.record();
             let $a = &mut [0; 7];
@@ -216,10 +229,16 @@ macro_rules! step {
             let moved = $s.$walk;
             $s.record();
             $fast;
-            assert_eq!(moved, $s.$walk, "{}: the records differ", $name);
+            same += (moved == $s.$walk) as usize;
             $s.record();
         }
+        records($name, same, $compared.len());
     }};
+}
+pub(crate) use step;
+
+fn records(name: &str, same: usize, compared: usize) {
+    assert_eq!(same, compared, "{name}: the records differ");
 }
 
 fn steps(timed: &mut [Scene], compared: &mut [Scene]) {
@@ -259,39 +278,63 @@ fn steps_beside(timed: &mut [Scene], compared: &mut [Scene]) {
 }
 
 /// The place of an element that is asked for.
-pub fn elements(s: &Scene) -> [u64; 4] {
-    [s.i, s.at_down[1], s.at_down[2], s.at_down[3]]
+pub fn elements(i: u64, [_, slot, l, k]: [u64; 4]) -> [u64; 4] {
+    [i, slot, l, k]
 }
+
+/// The element's line; its answer has two amplitudes, which are compared by their digits.
+macro_rules! element_line {
+    ($name:expr, $timed:expr, $compared:expr) => {{
+        let (mut answer, mut pair) = ([0; 2], [0.0; 2]);
+        macro_rules! ours {
+            ($s:expr) => {{
+                let (lent, at): ([&[u8]; 2], _) = ([&$s.anchor, &$s.other], elements($s.i, $s.at_down));
+                let no = ours::element(&$s.cell, lent, &$s.down, at, &$s.bits, $s.level, &mut answer, &mut pair);
+                (no, answer[1], pair)
+            }};
+        }
+        macro_rules! fast {
+            ($s:expr) => {
+                fast::element(&$s.cell, [&$s.anchor, &$s.other], &$s.down, elements($s.i, $s.at_down), &$s.bits, $s.level)
+            };
+        }
+        let (ns, fs) = versus($timed, |s| ours!(s), |s| fast!(s));
+        let digits = |(no, state, [re, im]): (u64, u64, [f32; 2])| (no, state, re.to_bits(), im.to_bits());
+        let mut agreed = 0;
+        for s in $compared.iter().chain($timed.iter()) {
+            agreed += (digits(ours!(s)) == digits(fast!(s))) as usize;
+        }
+        report($name, ns, fs, agreed, $compared.len() + $timed.len());
+    }};
+}
+pub(crate) use element_line;
 
 fn element(timed: &mut [Scene], compared: &[Scene]) {
-    let (mut answer, mut pair) = ([0; 2], [0.0; 2]);
-    let mut ours = |s: &Scene| {
-        let no = ours::element(
-            &s.cell, [&s.anchor, &s.other], &s.down, elements(s), &s.bits, s.level, &mut answer, &mut pair,
-        );
-        (no, answer[1], pair)
-    };
-    let fast = |s: &Scene| fast::element(&s.cell, [&s.anchor, &s.other], &s.down, elements(s), &s.bits, s.level);
-    let (ns, fs) = versus(timed, |s| ours(s), |s| fast(s));
-    let patterns = |(no, state, [re, im]): (u64, u64, [f32; 2])| (no, state, re.to_bits(), im.to_bits());
-    let agreed = compared.iter().chain(timed.iter()).filter(|s| patterns(ours(s)) == patterns(fast(s))).count();
-    report("element", ns, fs, agreed, compared.len() + timed.len());
+    element_line!("element", timed, compared);
 }
 
+/// The fill's line; its output is compared by its digits.
+macro_rules! fill_line {
+    ($name:expr, $timed:expr, $compared:expr) => {{
+        let mut out = [0.0f32; 336];
+        let mut also = [0.0f32; 336];
+        let (ns, fs) = versus(
+            $timed,
+            |s| ours::fill(&s.cell, [&s.anchor, &s.other], &s.down, s.i, &s.bits, s.level, &mut out),
+            |s| fast::fill(&s.cell, [&s.anchor, &s.other], &s.down, s.i, &s.bits, s.level, &mut also),
+        );
+        let mut agreed = 0;
+        for s in $compared.iter().chain($timed.iter()) {
+            (out, also) = ([7.0; 336], [7.0; 336]);
+            let no = ours::fill(&s.cell, [&s.anchor, &s.other], &s.down, s.i, &s.bits, s.level, &mut out);
+            let same = no == fast::fill(&s.cell, [&s.anchor, &s.other], &s.down, s.i, &s.bits, s.level, &mut also);
+            agreed += (same && out.map(f32::to_bits) == also.map(f32::to_bits)) as usize;
+        }
+        report($name, ns, fs, agreed, $compared.len() + $timed.len());
+    }};
+}
+pub(crate) use fill_line;
+
 fn fill(timed: &mut [Scene], compared: &[Scene]) {
-    let mut out = [0.0f32; 336];
-    let mut also = [0.0f32; 336];
-    let (ns, fs) = versus(
-        timed,
-        |s| ours::fill(&s.cell, [&s.anchor, &s.other], &s.down, s.i, &s.bits, s.level, &mut out),
-        |s| fast::fill(&s.cell, [&s.anchor, &s.other], &s.down, s.i, &s.bits, s.level, &mut also),
-    );
-    let mut agreed = 0;
-    for s in compared.iter().chain(timed.iter()) {
-        (out, also) = ([7.0; 336], [7.0; 336]);
-        let no = ours::fill(&s.cell, [&s.anchor, &s.other], &s.down, s.i, &s.bits, s.level, &mut out);
-        let same = no == fast::fill(&s.cell, [&s.anchor, &s.other], &s.down, s.i, &s.bits, s.level, &mut also);
-        agreed += (same && out.map(f32::to_bits) == also.map(f32::to_bits)) as usize;
-    }
-    report("fill", ns, fs, agreed, compared.len() + timed.len());
+    fill_line!("fill", timed, compared);
 }

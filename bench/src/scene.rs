@@ -10,7 +10,7 @@ impl Random {
         Random(seed)
     }
 
-    fn next(&mut self) -> u64 {
+    pub fn next(&mut self) -> u64 {
         self.0 ^= self.0 >> 12;
         self.0 ^= self.0 << 25;
         self.0 ^= self.0 >> 27;
@@ -21,12 +21,12 @@ impl Random {
         self.next() % n
     }
 
-    fn one_of(&mut self, list: &[u64]) -> u64 {
+    pub fn one_of(&mut self, list: &[u64]) -> u64 {
         list[self.below(list.len() as u64) as usize]
     }
 
     /// Mostly a number below n; now and then one out of range.
-    fn wild(&mut self, n: u64) -> u64 {
+    pub fn wild(&mut self, n: u64) -> u64 {
         match self.below(24) {
             0 => n,
             1 => n + self.below(64),
@@ -63,11 +63,11 @@ pub struct Scene {
 }
 
 /// Parts one after the other.
-fn joined<const N: usize>(parts: &[&[u64]]) -> [u64; N] {
+pub fn joined<const N: usize>(parts: &[&[u64]]) -> [u64; N] {
     parts.concat().try_into().expect("the parts fill the record")
 }
 
-fn cell(r: &mut Random) -> Cell {
+pub fn cell(r: &mut Random) -> Cell {
     let mode = r.below(4);
     let in_band = mode < 2;
     let cports = if in_band { r.one_of(&[1, 2, 4]) } else { 0 };
@@ -76,7 +76,7 @@ fn cell(r: &mut Random) -> Cell {
 }
 
 /// A bitmap of 10 or 40 bits, about half of them ones.
-fn bitmap(r: &mut Random, bits: u64) -> [u8; 5] {
+pub fn bitmap(r: &mut Random, bits: u64) -> [u8; 5] {
     let mut bytes = [0; 5];
     for byte in &mut bytes {
         *byte = r.below(256) as u8;
@@ -97,11 +97,11 @@ fn ack(r: &mut Random) -> AckGrant {
     [r.below(1 << 31), r.below(2), r.below(16), r.below(8)]
 }
 
-fn down(r: &mut Random) -> DownGrant {
+pub fn down(r: &mut Random) -> DownGrant {
     [r.below(1 << 30), r.below(8), 1 << r.below(12), r.below(8), r.below(16)]
 }
 
-fn control(r: &mut Random) -> ControlGrant {
+pub fn control(r: &mut Random) -> ControlGrant {
     let format = r.below(2);
     [r.below(1 << 30), 1 << r.below(12), format, if format == 0 { r.below(2) } else { 0 }]
 }

@@ -72,6 +72,7 @@ impl Ack {
         let copies = COPIES[self.copies as usize];
         let g = slots::group(self.spacing);
         Ok(Listing {
+            cell: None,
             copies,
             codeword_units: SLOTS_IN_UNIT,
             sent: slots::sent_slots(self.spacing, self.start(), self.slot_count(), &free),

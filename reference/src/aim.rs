@@ -2,10 +2,15 @@
 //! slots, places that the grant has and places that it just misses.
 
 use crate::cell::Cause;
+use crate::drawn_messages::near_window;
 use crate::elements::{self, Element, SLOTS, SYMBOLS};
+use crate::messages;
 use crate::random::Random;
 use crate::scene::{Scene, Word};
-use crate::text::Question;
+use crate::text::{Kind, Question};
+
+/// Subframes of a frame that the anchor takes, always or in some frames.
+const ANCHORED: [u64; 7] = [0, 4, 4, 4, 5, 9, 9];
 
 /// The number of a transmitted subframe or slot: ends, passes, gaps, any.
 pub fn draw_sent(random: &mut Random, scene: &Scene) -> u64 {
@@ -21,6 +26,44 @@ pub fn draw_sent(random: &mut Random, scene: &Scene) -> u64 {
         _ => random.below(count),
     };
     i % count
+}
+
+/// The subframe of a picture: beside messages often one before many skipped
+/// ones, or before about as many as a picture lists.
+pub fn draw_pictured(random: &mut Random, scene: &Scene) -> u64 {
+    let sent = &scene.listing.sent;
+    if !scene.has_messages() || sent.len() < 2 || random.chance(30) {
+        return draw_sent(random, scene);
+    }
+    let skipped = |i: usize| sent[i + 1] - sent[i] - 1;
+    let numbers = 0..sent.len() - 1;
+    let longest = numbers.clone().max_by_key(|&i| skipped(i));
+    let about_200 = numbers.min_by_key(|&i| skipped(i).abs_diff(200));
+    random.pick(&[longest, about_200]).unwrap_or(0) as u64
+}
+
+/// A grant whose first subframe is the last before the longest row of skipped
+/// ones, and a picture of it.
+pub fn before_longest_row(random: &mut Random, scene: &Scene) -> Vec<Word> {
+    let period = messages::PERIOD;
+    let usable: Vec<u64> = (5..2 * period)
+        .filter(|&t| scene.why(t).is_none())
+        .collect();
+    let longest = usable.windows(2).max_by_key(|pair| pair[1] - pair[0]);
+    let Some(pair) = longest else {
+        return Vec::new();
+    };
+    let t = pair[0] + period * random.below(20_000);
+    let word = |name, value: u64| (name, value.to_string());
+    match scene.kind {
+        Kind::Control => vec![word("n", t), word("r", 2), word("i", 0)],
+        _ => vec![
+            word("n", t - 5),
+            word("delay", 0),
+            word("copies", 1),
+            word("i", 0),
+        ],
+    }
 }
 
 /// A position: first, last, at a unit's ends, any, or around the end.
@@ -51,19 +94,45 @@ pub fn draw_position(random: &mut Random, scene: &Scene, question: Question) -> 
 /// A subframe to be asked for its cause: sent, skipped, at the places that
 /// the anchor takes, any up to 2^64 - 1.
 pub fn draw_subframe(random: &mut Random, scene: &Scene) -> u64 {
+    if scene.has_messages() && random.chance(40) {
+        return draw_near(random, scene);
+    }
     let unit = scene.listing.sent[draw_sent(random, scene) as usize];
     let any = random.draw() >> random.below(64);
     let early = random.below(2 * 10240);
-    let taken = random.pick(&[0, 4, 4, 4, 5, 9, 9]);
+    let taken = random.pick(&ANCHORED);
     match random.below(8) {
         0 => unit,
         1 => skipped_within(random, scene).unwrap_or(unit + 1),
-        2 => unit_far(random, unit),
+        2 => unit_far(random, scene, unit),
         3 => early,
+        4 if taken == 4 => next_sib1(scene, early).unwrap_or(early),
         4 | 5 => early - early % 10 + taken,
         6 => (any - any % 10).saturating_add(taken),
         _ => any,
     }
+}
+
+/// The next subframe that SIB1 takes; it takes none off the anchor.
+fn next_sib1(scene: &Scene, t: u64) -> Option<u64> {
+    let fourth = t - t % 10 + 4;
+    let mut fourths = (fourth..fourth + 640).step_by(10);
+    fourths.find(|&t| scene.why(t) == Some(Cause::Sib1))
+}
+
+/// A subframe near the windows of the scene's messages: often one that they
+/// take, or where the anchor takes some; early or far away.
+fn draw_near(random: &mut Random, scene: &Scene) -> u64 {
+    let any = near_window(random, &scene.cell.messages).unwrap_or(0);
+    let is_taken = |t: &u64| scene.why(*t) == Some(Cause::Message);
+    let near = match random.below(5) {
+        0 => any,
+        1 | 2 => any - any % 10 + random.pick(&ANCHORED),
+        _ => (any..any + 20).find(is_taken).unwrap_or(any),
+    };
+    let turns = random.draw() >> random.below(64);
+    let far = (turns / messages::PERIOD).saturating_sub(3) * messages::PERIOD;
+    random.pick(&[near, near, near + far])
 }
 
 pub fn place_words(random: &mut Random, scene: &Scene) -> Vec<Word> {
@@ -85,6 +154,10 @@ fn draw_place(random: &mut Random, scene: &Scene) -> (u64, Element) {
     let listing = &scene.listing;
     let unit = listing.sent[draw_sent(random, scene) as usize];
     let e = random.pick(&listing.elements);
+    if scene.has_messages() && random.chance(10) {
+        let between = skipped_within(random, scene).unwrap_or(unit);
+        return (between, any_element(random, scene));
+    }
     match random.below(100) {
         0..=34 => (unit, e),
         35..=42 => {
@@ -93,7 +166,7 @@ fn draw_place(random: &mut Random, scene: &Scene) -> (u64, Element) {
         }
         43..=52 => (unit, beside(random, scene, e)),
         53..=59 => (unit_beside(random, scene, unit), e),
-        60..=64 => (unit_far(random, unit), e),
+        60..=64 => (unit_far(random, scene, unit), e),
         65..=78 => (unit, reference(random, scene)),
         79..=82 => (unit_beside(random, scene, unit), reference(random, scene)),
         83..=88 => (unit, any_element(random, scene)),
@@ -159,12 +232,19 @@ fn unsent_within(random: &mut Random, scene: &Scene) -> Option<u64> {
     Some(random.between(before + 1, after - 1))
 }
 
-/// As above; of a downlink grant often one that SIB1 takes, which are few.
+/// As above; of a downlink grant often one that SIB1 or a message takes.
 fn skipped_within(random: &mut Random, scene: &Scene) -> Option<u64> {
-    if !scene.kind.is_uplink() && random.chance(40) {
+    let wanted = if scene.has_messages() && random.chance(60) {
+        Some(Cause::Message)
+    } else if !scene.kind.is_uplink() && random.chance(40) {
+        Some(Cause::Sib1)
+    } else {
+        None
+    };
+    if wanted.is_some() {
         for _ in 0..8 {
             let t = unsent_within(random, scene)?;
-            if scene.cell.cause(t) == Some(Cause::Sib1) {
+            if scene.why(t) == wanted {
                 return Some(t);
             }
         }
@@ -173,7 +253,10 @@ fn skipped_within(random: &mut Random, scene: &Scene) -> Option<u64> {
 }
 
 /// Far away: cut to 32 bits, or by a whole period, some look like the grant's own.
-fn unit_far(random: &mut Random, unit: u64) -> u64 {
+fn unit_far(random: &mut Random, scene: &Scene, unit: u64) -> u64 {
+    if scene.has_messages() && random.chance(20) {
+        return unit + messages::PERIOD * random.between(1, 3);
+    }
     let aside = random.draw() >> random.below(64);
     random.pick(&[
         0,

@@ -4,11 +4,13 @@ use crate::cell::{Cause, Cell};
 use crate::elements::{self, Element, SLOTS, SUBCARRIERS, SYMBOLS};
 use crate::fill::{self, Lent, Shown};
 use crate::grant::{self, Found, Grant, Plan, Step};
+use crate::laid::{Cells, Laid};
 use crate::lines::next_line;
 use crate::places::{Listing, Place};
 use crate::text::{read_line, Fault, Kind, Question, Values};
 use crate::{refuse, Refusal};
 use std::io::{self, BufRead, Write};
+use std::rc::Rc;
 
 /// The pattern that each lent number has before a fill.
 const PRESET: u32 = 0x4228_0000;
@@ -55,6 +57,7 @@ struct Last {
 #[derive(Debug, Default)]
 pub struct Answerer {
     pub values: Values,
+    cells: Cells,
     last: [Option<Last>; 4],
 }
 
@@ -77,7 +80,7 @@ impl Answerer {
     fn ask(&mut self, question: Question) -> Answer {
         match question {
             Question::Set => unreachable!("set asks nothing"),
-            Question::Cell => Answer::Cell(self.values.cell.judge()),
+            Question::Cell => Answer::Cell(self.cell().map(|_| ())),
             Question::Bitmap => Answer::Bitmap(self.bitmap()),
             Question::Cause => Answer::Cause(self.cause()),
             Question::Count => Answer::Count(self.count()),
@@ -100,7 +103,7 @@ impl Answerer {
         let cell = &self.values.cell;
         let last = &mut self.last[kind as usize];
         if !last.as_ref().is_some_and(|l| l.serves(cell, &grant)) {
-            let listing = grant.list(cell)?;
+            let listing = grant.list(cell, &mut self.cells)?;
             *last = Some(Last {
                 cell: cell.clone(),
                 grant,
@@ -113,19 +116,21 @@ impl Answerer {
         }
     }
 
-    fn bitmap(&self) -> Result<Vec<u8>, Refusal> {
-        self.values.cell.judge()?;
-        Ok(self.values.cell.bitmap_in_force().to_vec())
+    /// The cell in force, laid anew only if its values changed.
+    pub fn cell(&mut self) -> Result<Rc<Laid>, Refusal> {
+        self.cells.lay(&self.values.cell)
     }
 
-    fn cause(&self) -> Result<Option<Cause>, Refusal> {
-        self.values.cell.judge()?;
-        Ok(self.values.cell.cause(self.values.t))
+    fn bitmap(&mut self) -> Result<Vec<u8>, Refusal> {
+        Ok(self.cell()?.bitmap_in_force().to_vec())
     }
 
-    fn count(&self) -> Result<u64, Refusal> {
-        self.values.cell.judge()?;
-        Ok(elements::count(&self.values.cell))
+    fn cause(&mut self) -> Result<Option<Cause>, Refusal> {
+        Ok(self.cell()?.cause(self.values.t))
+    }
+
+    fn count(&mut self) -> Result<u64, Refusal> {
+        Ok(elements::count(&self.cell()?.cell))
     }
 
     fn plan(&mut self, kind: Kind) -> Result<Plan, Refusal> {
@@ -177,14 +182,14 @@ impl Answerer {
         let rows = (0..SUBCARRIERS).rev();
         Ok(Picture {
             rows: rows.map(|k| row(&values.cell, listing, k)).collect(),
-            skipped: skipped_after(&values.cell, listing, values.i as usize),
+            skipped: skipped_after(listing, values.i as usize),
         })
     }
 }
 
 /// The subframes between the i-th one sent and the next, with their causes.
-fn skipped_after(cell: &Cell, listing: &Listing, i: usize) -> Vec<(u64, Cause)> {
-    let Some(&next) = listing.sent.get(i + 1) else {
+fn skipped_after(listing: &Listing, i: usize) -> Vec<(u64, Cause)> {
+    let (Some(cell), Some(&next)) = (&listing.cell, listing.sent.get(i + 1)) else {
         return Vec::new();
     };
     let between = listing.sent[i] + 1..next;

@@ -1,9 +1,10 @@
-//! The cell: its numbers, its bitmap and its usable subframes
-//! (01, "The cell" and "Usable subframes").
+//! The cell: its numbers, its bitmap, and what the anchor takes (01, "The cell"
+//! and "Usable subframes").
 
+use crate::messages::Messages;
 use crate::{refuse, Refusal};
 
-/// The subframes after which all usability repeats.
+/// The subframes after which what the anchor takes and the bitmap repeat.
 pub const PERIOD: u64 = 2560;
 
 /// Why a subframe isn't usable; the first that holds is named.
@@ -13,15 +14,18 @@ pub enum Cause {
     Npss,
     Nsss,
     Sib1,
+    /// A system information message.
+    Message,
     Bitmap,
 }
 
 impl Cause {
-    pub const ALL: [Cause; 5] = [
+    pub const ALL: [Cause; 6] = [
         Cause::Npbch,
         Cause::Npss,
         Cause::Nsss,
         Cause::Sib1,
+        Cause::Message,
         Cause::Bitmap,
     ];
 
@@ -31,12 +35,13 @@ impl Cause {
             Cause::Npss => "npss",
             Cause::Nsss => "nsss",
             Cause::Sib1 => "sib1",
+            Cause::Message => "message",
             Cause::Bitmap => "bitmap",
         }
     }
 }
 
-/// The numbers of a cell and the two lent bitmap buffers.
+/// The numbers of a cell, the two lent bitmap buffers and the messages.
 #[derive(Clone, Debug, Default, PartialEq, Eq)]
 pub struct Cell {
     pub mode: u64,
@@ -49,20 +54,19 @@ pub struct Cell {
     pub bits: u64,
     pub anchor: Vec<u8>,
     pub other: Vec<u8>,
+    pub messages: Messages,
 }
 
 impl Cell {
-    /// The cell's refusals in the list's order: 18 stands right after 8.
-    pub fn judge(&self) -> Result<(), Refusal> {
+    /// Numbers 1 to 7.
+    pub fn judge_numbers(&self) -> Result<(), Refusal> {
         refuse(1, self.mode > 3 || self.carrier > 1)?;
         refuse(2, self.identity > 503)?;
         refuse(3, self.nports != 1 && self.nports != 2)?;
         refuse(4, !self.cell_ports_listed())?;
         refuse(5, !self.control_region_listed())?;
         refuse(6, self.sib1 > 11)?;
-        refuse(7, self.bitmap_wrong())?;
-        refuse(8, !(0..PERIOD).any(|t| self.allowed(t)))?;
-        refuse(18, !(0..PERIOD).any(|t| self.usable(t)))
+        refuse(7, self.bitmap_wrong())
     }
 
     /// Modes 0 and 1 lie inside an LTE carrier.
@@ -115,15 +119,6 @@ impl Cell {
         self.bits == 10 && own[1] & 0b0011_1111 != 0
     }
 
-    /// The bitmap in force: a part of the own buffer, empty if the cell is refused.
-    pub fn bitmap_in_force(&self) -> &[u8] {
-        if self.judge().is_ok() {
-            &self.own_buffer()[..self.part_bytes()]
-        } else {
-            &[]
-        }
-    }
-
     /// Bit t mod 10 or t mod 40 allows subframe t; length 0 allows all.
     pub fn allowed(&self, t: u64) -> bool {
         if self.bits == 0 {
@@ -160,28 +155,19 @@ impl Cell {
         rest % 2 == 0 && rest < 16
     }
 
-    /// Why subframe t isn't usable (02, "L2"; TS 36.213 clause 16.4), none if it is.
-    pub fn cause(&self, t: u64) -> Option<Cause> {
-        let anchor = self.carrier == 0;
-        let frame = (t / 10) % 1024;
-        let subframe = t % 10;
-        if anchor && subframe == 0 {
-            Some(Cause::Npbch)
-        } else if anchor && subframe == 5 {
-            Some(Cause::Npss)
-        } else if anchor && subframe == 9 && frame.is_multiple_of(2) {
-            Some(Cause::Nsss)
-        } else if anchor && subframe == 4 && self.sib1_in_frame(frame) {
-            Some(Cause::Sib1)
-        } else if !self.allowed(t) {
-            Some(Cause::Bitmap)
-        } else {
-            None
+    /// What the anchor takes subframe t for (TS 36.213 clause 16.4), none off
+    /// the anchor.
+    pub fn anchor_cause(&self, t: u64) -> Option<Cause> {
+        if self.carrier != 0 {
+            return None;
         }
-    }
-
-    /// A usable downlink subframe.
-    pub fn usable(&self, t: u64) -> bool {
-        self.cause(t).is_none()
+        let frame = (t / 10) % 1024;
+        match t % 10 {
+            0 => Some(Cause::Npbch),
+            5 => Some(Cause::Npss),
+            9 if frame.is_multiple_of(2) => Some(Cause::Nsss),
+            4 if self.sib1_in_frame(frame) => Some(Cause::Sib1),
+            _ => None,
+        }
     }
 }

@@ -1,9 +1,10 @@
 //! Downlink grants: NPDSCH and NPDCCH (01, "Downlink grants").
 
-use crate::cell::Cell;
 use crate::elements::{self, Element};
+use crate::laid::Laid;
 use crate::places::{copy_order, Listing};
 use crate::{refuse, Refusal};
+use std::rc::Rc;
 
 /// The largest n, for all kinds of grant.
 pub const LARGEST_N: u64 = (1 << 30) - 1;
@@ -44,7 +45,7 @@ fn is_listed_power(x: u64) -> bool {
 }
 
 /// The usable subframes from `from` on, the first `skip` of them left out.
-fn usable_from(cell: &Cell, from: u64, skip: u64, count: u64) -> Vec<u64> {
+fn usable_from(cell: &Laid, from: u64, skip: u64, count: u64) -> Vec<u64> {
     let mut list = Vec::new();
     let mut skipped = 0;
     let mut t = from;
@@ -77,9 +78,8 @@ impl Npdsch {
         row[self.delay as usize]
     }
 
-    /// Judge cell and grant, then list what is sent.
-    pub fn list(&self, cell: &Cell) -> Result<Listing, Refusal> {
-        cell.judge()?;
+    /// Judge the grant in an accepted cell, then list what is sent.
+    pub fn list(&self, cell: Rc<Laid>) -> Result<Listing, Refusal> {
         self.judge()?;
         let copies = COPIES[self.copies as usize];
         let subframes = SUBFRAMES[self.subframes as usize];
@@ -87,9 +87,10 @@ impl Npdsch {
         Ok(Listing {
             copies,
             codeword_units: subframes,
-            sent: usable_from(cell, self.n + 5, self.delay_number(), copies * subframes),
+            sent: usable_from(&cell, self.n + 5, self.delay_number(), copies * subframes),
             carries: copy_order(copies, subframes, m, 1),
-            elements: elements::eligible(cell),
+            elements: elements::eligible(&cell.cell),
+            cell: Some(cell),
         })
     }
 }
@@ -111,18 +112,19 @@ impl Npdcch {
         }
     }
 
-    /// Judge cell and grant, then list what is sent: each subframe carries the whole codeword.
-    pub fn list(&self, cell: &Cell) -> Result<Listing, Refusal> {
-        cell.judge()?;
+    /// Judge the grant in an accepted cell, then list what is sent: each
+    /// subframe carries the whole codeword.
+    pub fn list(&self, cell: Rc<Laid>) -> Result<Listing, Refusal> {
         self.judge()?;
-        let mut elements = elements::eligible(cell);
+        let mut elements = elements::eligible(&cell.cell);
         elements.retain(|&e| self.uses(e));
         Ok(Listing {
             copies: self.r,
             codeword_units: 1,
-            sent: usable_from(cell, self.n, 0, self.r),
+            sent: usable_from(&cell, self.n, 0, self.r),
             carries: vec![0; self.r as usize],
             elements,
+            cell: Some(cell),
         })
     }
 }

@@ -5,7 +5,7 @@
 use crate::random::Random;
 use crate::scene::Word;
 use crate::slots::SlotUse;
-use crate::spoil::above;
+use crate::spoil::{above, draw_bad};
 use crate::windows::{Window, Windows, FORMATS, PERIODS, REPETITIONS, STARTS, TONES, UNITS};
 
 const NAMES: [&str; 4] = ["w1", "w2", "w3", "w4"];
@@ -179,14 +179,6 @@ const BAD_LENGTHS: [u64; 12] = [
     0, 1, 30_720, 86_016, 98_304, 172_031, 172_033, 196_607, 196_609, 516_096, 22_020_096,
     25_165_824,
 ];
-
-fn draw_bad(random: &mut Random, list: &[u64], largest: u64) -> u64 {
-    if random.chance(70) {
-        random.pick(list)
-    } else {
-        above(random, largest)
-    }
-}
 
 /// The words that set windows; entries that aren't read are given now and then.
 pub fn window_words(random: &mut Random, windows: &Windows) -> Vec<Word> {

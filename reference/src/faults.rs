@@ -66,6 +66,14 @@ const NAME: &[&[u8]] = &[
     b"w0=40,8,172032,0",
     b"w5=40,8,172032,0",
     b"w=x",
+    b"m0=64,2,8",
+    b"m5=64,2,8",
+    b"m=64,2,8",
+    b"M1=64,2,8",
+    b"message=1",
+    b"window=160",
+    b"siWindow=160",
+    b"offset=x",
     b"\xff=1",
 ];
 const NUMBER: &[&[u8]] = &[
@@ -89,6 +97,22 @@ const NUMBER: &[&[u8]] = &[
     b"w3=40,8,,0",
     b"w4=40,8,172032,-1",
     b"w4=18446744073709551616,8,172032,0",
+    b"siwindow=",
+    b"siwindow=160ms",
+    b"sioffset=-1",
+    b"sioffset=18446744073709551616",
+    b"messages=1,",
+    b"m1=",
+    b"m1=64",
+    b"m1=64,2",
+    b"m2=64,2,8,0",
+    b"m2=64,2,8,",
+    b"m2=,64,2,8",
+    b"m3=64;2;8",
+    b"m3=64,,8",
+    b"m4=64,2,-8",
+    b"m4=64,2,0x8",
+    b"m4=18446744073709551616,2,8",
     b"room=-",
     b"i=1_0",
 ];
@@ -125,6 +149,10 @@ const BEGINNINGS: &[&[u8]] = &[
     b"fill level=00000000 room=3",
     b"element i=99999999 data=-",
     b"picture control identity=504",
+    b"set siwindow=7 messages=4",
+    b"cell messages=9",
+    b"cause sioffset=16 m1=1,2,3",
+    b"plan down messages=2 m1=64,2,8 m2=64,2,8 siwindow=640",
 ];
 
 /// A line of exactly 4,096 bytes: the zeros count for nothing.

@@ -1,12 +1,36 @@
 //! Makes a question file from a seed.
 
-use crate::aim::{draw_position, draw_sent, draw_subframe, place_words};
+use crate::aim::{
+    before_longest_row, draw_pictured, draw_position, draw_sent, draw_subframe, place_words,
+};
+use crate::cell::Cell;
+use crate::drawn_messages::near_window;
 use crate::faults::{bad_line, full_line};
 use crate::random::Random;
 use crate::scene::{cell_words, draw_cell, Scene, Word};
 use crate::spoil::{numbers_of, spoil};
 use crate::text::{Kind, Question};
 use std::io::{self, Write};
+
+/// A question file to be made.
+#[derive(Clone, Copy, Debug)]
+pub struct Wanted {
+    pub seed: u64,
+    pub count: u64,
+    /// All of one question.
+    pub only: Option<Question>,
+}
+
+impl Wanted {
+    /// Of all questions.
+    pub fn new(seed: u64, count: u64) -> Wanted {
+        Wanted {
+            seed,
+            count,
+            only: None,
+        }
+    }
+}
 
 /// Writes a question file.
 struct Generator<'a, W: Write> {
@@ -17,18 +41,13 @@ struct Generator<'a, W: Write> {
     only: Option<Question>,
 }
 
-/// Writes `count` questions made from the seed, all of one question if asked so.
-pub fn generate(
-    seed: u64,
-    count: u64,
-    only: Option<Question>,
-    out: &mut impl Write,
-) -> io::Result<()> {
+/// Writes the questions of a file.
+pub fn generate(wanted: Wanted, out: &mut impl Write) -> io::Result<()> {
     let mut generator = Generator {
-        random: Random::new(seed),
+        random: Random::new(wanted.seed),
         out,
-        left: count,
-        only,
+        left: wanted.count,
+        only: wanted.only,
     };
     while generator.left > 0 {
         generator.scene()?;
@@ -42,13 +61,18 @@ fn passing_value(name: &str) -> &'static str {
         "anchor" | "other" | "data" => "-",
         "level" => "00000000",
         "w1" | "w2" | "w3" | "w4" => "7,0,7,77",
+        "m1" | "m2" | "m3" | "m4" => "7,0,77",
         _ => "77",
     }
 }
 
-/// A question of a scene's kind, each with its share of a thousand.
-fn draw_question(random: &mut Random, kind: Kind) -> Question {
+/// A question of a scene's kind, each with its share of a thousand; beside
+/// messages there are more pictures.
+fn draw_question(random: &mut Random, scene: &Scene) -> Question {
+    let kind = scene.kind;
     let shares = match kind {
+        Kind::Down if scene.has_messages() => [70, 150, 215, 80, 40, 30, 230, 20, 25, 110, 30],
+        Kind::Control if scene.has_messages() => [80, 200, 265, 120, 30, 25, 230, 20, 0, 0, 30],
         Kind::Down => [70, 160, 220, 80, 40, 30, 230, 20, 25, 120, 5],
         Kind::Control => [80, 210, 280, 120, 30, 25, 230, 20, 0, 0, 5],
         Kind::Up | Kind::Ack => [120, 300, 400, 180, 0, 0, 0, 0, 0, 0, 0],
@@ -74,6 +98,28 @@ fn draw_question(random: &mut Random, kind: Kind) -> Question {
         at -= share;
     }
     Question::Plan(kind)
+}
+
+/// Another cell and its words.
+fn other_cell(random: &mut Random) -> (Cell, Vec<Word>) {
+    let cell = draw_cell(random);
+    let words = cell_words(random, &cell);
+    (cell, words)
+}
+
+/// A subframe asked for its cause, now and then in another cell.
+fn cause_words(random: &mut Random, scene: &Scene) -> Vec<Word> {
+    let mut t = draw_subframe(random, scene);
+    let mut words = Vec::new();
+    if random.chance(40) {
+        let (cell, others) = other_cell(random);
+        if random.chance(60) {
+            t = near_window(random, &cell.messages).unwrap_or(t);
+        }
+        words = others;
+    }
+    words.insert(0, ("t", t.to_string()));
+    words
 }
 
 impl<W: Write> Generator<'_, W> {
@@ -133,7 +179,7 @@ impl<W: Write> Generator<'_, W> {
         }
         let question = match self.only {
             Some(question) => question,
-            None => draw_question(&mut self.random, scene.kind),
+            None => draw_question(&mut self.random, scene),
         };
         let mut words = self.plain_words(scene, question);
         let spoiled = self.random.chance(22);
@@ -167,14 +213,13 @@ impl<W: Write> Generator<'_, W> {
 
     /// Adds what brings one refusal, or several at once.
     fn add_spoils(&mut self, scene: &Scene, question: Question, words: &mut Vec<Word>) {
-        let numbers = numbers_of(question);
         let several = match self.random.below(10) {
             0..=6 => 1,
             7 | 8 => 2,
             _ => self.random.between(3, 5),
         };
         for _ in 0..several {
-            let no = self.random.pick(numbers);
+            let no = self.random.pick(numbers_of(question));
             for word in spoil(&mut self.random, scene, question, no) {
                 words.retain(|(name, _)| *name != word.0);
                 words.push(word);
@@ -188,26 +233,25 @@ impl<W: Write> Generator<'_, W> {
         match question {
             Question::Set => Vec::new(),
             Question::Cell | Question::Bitmap | Question::Count if random.chance(60) => {
-                let cell = draw_cell(random);
-                cell_words(random, &cell)
+                other_cell(random).1
             }
             Question::Cell | Question::Bitmap | Question::Count => Vec::new(),
-            Question::Cause => {
-                let mut words = vec![("t", draw_subframe(random, scene).to_string())];
-                if random.chance(40) {
-                    let cell = draw_cell(random);
-                    words.extend(cell_words(random, &cell));
-                }
-                words
-            }
+            Question::Cause => cause_words(random, scene),
             Question::Plan(_) if random.chance(50) => scene.other_grant(random).unwrap_or_default(),
             Question::Plan(_) => Vec::new(),
             Question::Forward(_) | Question::Step(_) => {
                 vec![("p", draw_position(random, scene, question).to_string())]
             }
             Question::Backward(_) => place_words(random, scene),
+            Question::Picture(_) if scene.has_messages() && random.chance(40) => {
+                before_longest_row(random, scene)
+            }
             Question::Fill | Question::Picture(_) => {
-                let mut words = vec![("i", draw_sent(random, scene).to_string())];
+                let i = match question {
+                    Question::Fill => draw_sent(random, scene),
+                    _ => draw_pictured(random, scene),
+                };
+                let mut words = vec![("i", i.to_string())];
                 if random.chance(30) && question == Question::Fill {
                     words.extend(scene.other_bits(random));
                 }

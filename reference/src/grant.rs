@@ -4,6 +4,7 @@ use crate::ack::Ack;
 use crate::cell::{Cause, Cell};
 use crate::downlink::{Npdcch, Npdsch};
 use crate::elements::{self, Element, SUBCARRIERS};
+use crate::laid::Cells;
 use crate::places::{Listing, Place};
 use crate::slots::SlotUse;
 use crate::uplink::Npusch;
@@ -49,10 +50,10 @@ pub enum Step {
 
 impl Grant {
     /// Judge and list; an uplink grant has no cell.
-    pub fn list(&self, cell: &Cell) -> Result<Listing, Refusal> {
+    pub fn list(&self, cell: &Cell, cells: &mut Cells) -> Result<Listing, Refusal> {
         match self {
-            Grant::Down(g) => g.list(cell),
-            Grant::Control(g) => g.list(cell),
+            Grant::Down(g) => g.list(cells.lay(cell)?),
+            Grant::Control(g) => g.list(cells.lay(cell)?),
             Grant::Up(g) => g.list(),
             Grant::Ack(g) => g.list(),
         }
@@ -108,14 +109,6 @@ impl Grant {
         }
     }
 
-    /// Why a subframe between first and last isn't sent; uplink slots have no cause.
-    fn skipped_for(&self, cell: &Cell, listing: &Listing, unit: u64) -> Option<Cause> {
-        if self.is_uplink() || unit <= listing.first() || unit >= listing.last() {
-            return None;
-        }
-        cell.cause(unit)
-    }
-
     /// Whose is this place? Kinds 1 to 3 only in what the grant sends.
     pub fn backward(
         &self,
@@ -127,7 +120,7 @@ impl Grant {
         refuse(14, !self.in_grid(e))?;
         let Some(i) = listing.sent_number(unit) else {
             return Ok(Found {
-                cause: self.skipped_for(cell, listing, unit),
+                cause: skipped_for(listing, unit),
                 ..Found::default()
             });
         };
@@ -145,6 +138,14 @@ impl Grant {
             ..Found::default()
         })
     }
+}
+
+/// Why a subframe between first and last isn't sent; uplink slots have no cause.
+fn skipped_for(listing: &Listing, unit: u64) -> Option<Cause> {
+    if unit <= listing.first() || unit >= listing.last() {
+        return None;
+    }
+    listing.cell.as_ref()?.cause(unit)
 }
 
 /// A step at p: finished at the total, 14 past it, else what forward answers.

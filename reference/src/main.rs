@@ -1,13 +1,16 @@
-//! `reference answer`, `reference generate SEED COUNT [--only "forward up"]`, `reference counts`, `reference table`.
+//! `reference answer`, `reference generate SEED COUNT [--only "forward up"]`, `reference counts`,
+//! `reference subframes SEED CELLS`, `reference table`.
 
+use reference::generate::{generate, Wanted};
 use reference::text::{read_line, Question, Values};
-use reference::{answer, counts, generate, table};
+use reference::{answer, counts, subframes, table};
 use std::io::{self, BufReader, BufWriter, Write};
 use std::process::ExitCode;
 
 const USAGE: &str = "usage: reference answer < questions
        reference generate SEED COUNT [--only \"QUESTION KIND\"]
        reference counts
+       reference subframes SEED CELLS
        reference table < questions";
 
 fn main() -> ExitCode {
@@ -38,12 +41,17 @@ fn run(words: &[&str]) -> io::Result<bool> {
             table::table_of(&mut input)?.write(&mut out)?;
             out.flush()?;
         }
-        ["generate", seed, count] => return make(seed, count, None, &mut out),
-        ["generate", seed, count, "--only", only] => {
-            let Some(question) = read_only(only) else {
+        ["generate", seed, count, options @ ..] => {
+            let Some(wanted) = read_wanted(seed, count, options) else {
                 return Ok(false);
             };
-            return make(seed, count, Some(question), &mut out);
+            generate(wanted, &mut out)?;
+        }
+        ["subframes", seed, cells] => {
+            let (Ok(seed), Ok(cells)) = (seed.parse(), cells.parse()) else {
+                return Ok(false);
+            };
+            subframes::write_subframes(seed, cells, &mut out)?;
         }
         _ => return Ok(false),
     }
@@ -58,10 +66,16 @@ fn read_only(text: &str) -> Option<Question> {
     }
 }
 
-fn make(seed: &str, count: &str, only: Option<Question>, out: &mut impl Write) -> io::Result<bool> {
-    let (Ok(seed), Ok(count)) = (seed.parse(), count.parse()) else {
-        return Ok(false);
+/// The question file that the words ask for.
+fn read_wanted(seed: &str, count: &str, options: &[&str]) -> Option<Wanted> {
+    let only = match options {
+        [] => None,
+        ["--only", question] => Some(read_only(question)?),
+        _ => return None,
     };
-    generate::generate(seed, count, only, out)?;
-    Ok(true)
+    Some(Wanted {
+        seed: seed.parse().ok()?,
+        count: count.parse().ok()?,
+        only,
+    })
 }

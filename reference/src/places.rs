@@ -2,11 +2,15 @@
 //! that each transmitted subframe or slot uses (01, "Questions").
 
 use crate::elements::Element;
+use crate::laid::Laid;
 use crate::{refuse, Refusal};
+use std::rc::Rc;
 
 /// A grant, listed. A unit is a downlink subframe or an uplink slot.
 #[derive(Clone, Debug)]
 pub struct Listing {
+    /// The cell, its messages laid; an uplink grant has none.
+    pub cell: Option<Rc<Laid>>,
     /// The number of copies, R.
     pub copies: u64,
     /// Codeword subframes or slots, N.

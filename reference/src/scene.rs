@@ -2,17 +2,21 @@
 //! questions share.
 
 use crate::ack::{self, Ack};
-use crate::cell::{Cell, PERIOD};
+use crate::cell::{Cause, Cell, PERIOD};
 use crate::downlink::{self, Npdcch, Npdsch, LARGEST_N, SUBFRAMES};
+use crate::drawn_messages::{draw_messages, message_words, near_window};
 use crate::drawn_windows::{draw_windows, window_words};
 use crate::elements;
 use crate::grant::Grant;
+use crate::laid::{Cells, Laid};
+use crate::messages::{self, Messages};
 use crate::places::Listing;
 use crate::random::Random;
 use crate::text::Kind;
 use crate::uplink::Npusch;
 use crate::windows::Windows;
 use crate::write::hex_text;
+use std::rc::Rc;
 
 /// A name and its value's text.
 pub type Word = (&'static str, String);
@@ -25,6 +29,7 @@ pub struct Scene {
     pub grant: Grant,
     pub listing: Listing,
     pub words: Vec<Word>,
+    share: Share,
 }
 
 /// Bits at which a bitmap meets synchronization and broadcast.
@@ -75,8 +80,16 @@ fn garbage(random: &mut Random) -> Vec<u8> {
     random.bytes(count)
 }
 
-/// A cell with listed numbers; its bitmap may still leave nothing usable.
+/// A cell with listed numbers and messages; bitmap and messages may still
+/// leave nothing usable.
 pub fn draw_cell(random: &mut Random) -> Cell {
+    let mut cell = draw_plain_cell(random);
+    cell.messages = draw_messages(random, cell.carrier);
+    cell
+}
+
+/// As above, without messages.
+fn draw_plain_cell(random: &mut Random) -> Cell {
     let mode = random.below(4);
     let in_band = mode <= 1;
     let identity = if random.chance(30) {
@@ -110,21 +123,48 @@ pub fn draw_cell(random: &mut Random) -> Cell {
         bits,
         anchor,
         other,
+        messages: Messages::default(),
     }
 }
 
-fn draw_accepted_cell(random: &mut Random) -> Cell {
+/// The first cell drawn that is accepted, kept among the cells.
+fn accepted(random: &mut Random, cells: &mut Cells, draw: fn(&mut Random) -> Cell) -> Rc<Laid> {
     loop {
-        let cell = draw_cell(random);
-        if cell.judge().is_ok() {
-            return cell;
+        let cell = draw(random);
+        if let Ok(laid) = cells.lay(&cell) {
+            return laid;
         }
     }
 }
 
-/// Usable subframes among 2,560.
-pub fn usable_in_period(cell: &Cell) -> u64 {
-    (0..PERIOD).filter(|&t| cell.usable(t)).count() as u64
+/// An accepted cell, kept among the cells.
+pub fn draw_accepted_cell(random: &mut Random, cells: &mut Cells) -> Rc<Laid> {
+    accepted(random, cells, draw_cell)
+}
+
+/// How many subframes of a period are usable.
+#[derive(Clone, Copy, Debug)]
+pub struct Share {
+    usable: u64,
+    period: u64,
+}
+
+impl Share {
+    fn of(laid: &Laid) -> Share {
+        let period = laid.period();
+        let usable = (0..period).filter(|&t| laid.usable(t)).count() as u64;
+        Share { usable, period }
+    }
+
+    /// About how many subframes go by until so many usable ones have come.
+    fn steps(&self, usable: u64) -> u64 {
+        usable * self.period / self.usable
+    }
+
+    /// Fewer than 200 of 2,560.
+    fn is_small(&self) -> bool {
+        self.usable * PERIOD < 200 * self.period
+    }
 }
 
 fn draw_n(random: &mut Random) -> u64 {
@@ -147,14 +187,40 @@ fn draw_npdsch(random: &mut Random) -> Npdsch {
     }
 }
 
-/// Very long scans are drawn seldom.
-fn draw_bearable_npdsch(random: &mut Random, cell: &Cell) -> Npdsch {
-    let usable = usable_in_period(cell);
+/// Is a scan short enough? Long ones are drawn seldom, very long ones never.
+fn bearable(random: &mut Random, steps: u64, long: u64) -> bool {
+    steps < long || (random.chance(2) && steps < 4_000_000)
+}
+
+/// A begin near the messages' windows; none without messages.
+fn draw_n_near(random: &mut Random, cell: &Cell) -> Option<u64> {
+    let near = near_window(random, &cell.messages)?;
+    let turns = LARGEST_N / messages::PERIOD - 2;
+    match random.below(4) {
+        0 => None,
+        1 => Some(near + messages::PERIOD * turns),
+        _ => Some(near),
+    }
+}
+
+fn draw_bearable_npdsch(random: &mut Random, cell: &Cell, share: &Share) -> Npdsch {
     loop {
-        let g = draw_npdsch(random);
+        let mut g = draw_npdsch(random);
         let copies = downlink::COPIES[g.copies as usize];
         let sent = copies * SUBFRAMES[g.subframes as usize];
-        if sent * PERIOD / usable < 100_000 || random.chance(2) {
+        if bearable(random, share.steps(sent), 100_000) {
+            g.n = draw_n_near(random, cell).unwrap_or(g.n);
+            return g;
+        }
+    }
+}
+
+/// Long scans come with messages only.
+fn draw_bearable_npdcch(random: &mut Random, cell: &Cell, share: &Share) -> Npdcch {
+    loop {
+        let mut g = draw_npdcch(random);
+        if bearable(random, share.steps(g.r), 200_000) {
+            g.n = draw_n_near(random, cell).unwrap_or(g.n);
             return g;
         }
     }
@@ -235,10 +301,10 @@ fn draw_pushed_ack(random: &mut Random) -> Ack {
     g
 }
 
-fn draw_grant(random: &mut Random, kind: Kind, cell: &Cell) -> Grant {
+fn draw_grant(random: &mut Random, kind: Kind, cell: &Cell, share: &Share) -> Grant {
     match kind {
-        Kind::Down => Grant::Down(draw_bearable_npdsch(random, cell)),
-        Kind::Control => Grant::Control(draw_npdcch(random)),
+        Kind::Down => Grant::Down(draw_bearable_npdsch(random, cell, share)),
+        Kind::Control => Grant::Control(draw_bearable_npdcch(random, cell, share)),
         Kind::Up => Grant::Up(draw_pushed_npusch(random)),
         Kind::Ack => Grant::Ack(draw_pushed_ack(random)),
     }
@@ -248,9 +314,9 @@ fn number(name: &'static str, value: u64) -> Word {
     (name, value.to_string())
 }
 
-/// The words that set a cell.
+/// The words that set a cell and its messages.
 pub fn cell_words(random: &mut Random, cell: &Cell) -> Vec<Word> {
-    vec![
+    let mut words = vec![
         number("mode", cell.mode),
         number("carrier", cell.carrier),
         number("identity", cell.identity),
@@ -261,7 +327,9 @@ pub fn cell_words(random: &mut Random, cell: &Cell) -> Vec<Word> {
         number("bits", cell.bits),
         ("anchor", buffer(random, &cell.anchor)),
         ("other", buffer(random, &cell.other)),
-    ]
+    ];
+    words.extend(message_words(random, &cell.messages));
+    words
 }
 
 /// The words that set a grant.
@@ -357,6 +425,8 @@ fn idle_words(random: &mut Random, kind: Kind) -> Vec<Word> {
             "identity",
             "nports",
             "bits",
+            "siwindow",
+            "messages",
             "rmax",
             "subframes",
             "r",
@@ -366,6 +436,8 @@ fn idle_words(random: &mut Random, kind: Kind) -> Vec<Word> {
             "mode",
             "nports",
             "bits",
+            "sioffset",
+            "messages",
             "subframes",
             "r",
             "subcarrier",
@@ -385,11 +457,18 @@ fn idle_words(random: &mut Random, kind: Kind) -> Vec<Word> {
 }
 
 impl Scene {
-    /// Draws an accepted cell and grant of a kind.
+    /// Draws an accepted cell and grant of a kind; an uplink grant, which has
+    /// no cell, is drawn beside one without messages.
     pub fn draw(random: &mut Random, kind: Kind) -> Scene {
-        let cell = draw_accepted_cell(random);
-        let grant = draw_grant(random, kind, &cell);
-        let listing = match grant.list(&cell) {
+        let mut cells = Cells::default();
+        let laid = match kind.is_uplink() {
+            true => accepted(random, &mut cells, draw_plain_cell),
+            false => draw_accepted_cell(random, &mut cells),
+        };
+        let share = Share::of(&laid);
+        let cell = laid.cell.clone();
+        let grant = draw_grant(random, kind, &cell, &share);
+        let listing = match grant.list(&cell, &mut cells) {
             Ok(listing) => listing,
             Err(no) => unreachable!("drawn to be accepted, refused with {no}"),
         };
@@ -408,6 +487,7 @@ impl Scene {
             grant,
             listing,
             words,
+            share,
         }
     }
 
@@ -420,12 +500,22 @@ impl Scene {
         words
     }
 
+    /// Has the scene's own cell a message or more?
+    pub fn has_messages(&self) -> bool {
+        self.cell.messages.count > 0
+    }
+
+    /// Why a subframe isn't usable; an uplink grant's slots have no cause.
+    pub fn why(&self, t: u64) -> Option<Cause> {
+        self.listing.cell.as_ref()?.cause(t)
+    }
+
     /// Another accepted grant in the same cell, for plan; none where scans are long.
     pub fn other_grant(&self, random: &mut Random) -> Option<Vec<Word>> {
-        if !self.kind.is_uplink() && usable_in_period(&self.cell) < 200 {
+        if !self.kind.is_uplink() && self.share.is_small() {
             return None;
         }
-        let grant = draw_grant(random, self.kind, &self.cell);
+        let grant = draw_grant(random, self.kind, &self.cell, &self.share);
         Some(grant_words(random, &grant))
     }
 

@@ -2,6 +2,7 @@
 
 use crate::ack;
 use crate::downlink;
+use crate::drawn_messages::{self, message_words};
 use crate::drawn_windows::{draw_never_free, draw_unlisted, window_words};
 use crate::grant::Grant;
 use crate::random::Random;
@@ -10,16 +11,16 @@ use crate::slots::SlotUse;
 use crate::text::{Kind, Question};
 use crate::windows::Windows;
 
-const CELL: &[u64] = &[1, 2, 3, 4, 5, 6, 7, 8, 8, 18, 18];
-const PLAN: &[u64] = &[1, 2, 3, 4, 5, 6, 7, 8, 18, 9, 10, 12];
+const CELL: &[u64] = &[1, 2, 3, 4, 5, 6, 7, 21, 21, 8, 8, 18, 18];
+const PLAN: &[u64] = &[1, 2, 3, 4, 5, 6, 7, 21, 21, 8, 18, 9, 10, 12];
 const PLAN_UP: &[u64] = &[9, 10, 11, 13, 19, 20];
 const PLAN_ACK: &[u64] = &[9, 10, 19, 20];
-const PLACE: &[u64] = &[1, 2, 3, 4, 5, 6, 7, 8, 18, 9, 10, 12, 14];
+const PLACE: &[u64] = &[1, 2, 3, 4, 5, 6, 7, 21, 21, 8, 18, 9, 10, 12, 14];
 const PLACE_UP: &[u64] = &[9, 10, 11, 13, 19, 20, 14];
 const PLACE_ACK: &[u64] = &[9, 10, 19, 20, 14];
 const FILL: &[u64] = &[
-    1, 2, 3, 4, 5, 6, 7, 8, 18, 9, 10, 12, 14, 15, 15, 15, 15, 15, 15, 16, 16, 16, 16, 16, 16, 16,
-    16, 16, 17,
+    1, 2, 3, 4, 5, 6, 7, 21, 8, 18, 9, 10, 12, 14, 15, 15, 15, 15, 15, 15, 16, 16, 16, 16, 16, 16,
+    16, 16, 16, 17,
 ];
 
 /// Bits of forty that synchronization takes on an anchor.
@@ -50,7 +51,7 @@ const BAD_LEVELS: [u32; 20] = [
     0xFFFF_FFFF,
 ];
 
-/// The numbers with which a question can be refused.
+/// The numbers with which a question can be refused, in the list's order.
 pub fn numbers_of(question: Question) -> &'static [u64] {
     match question {
         Question::Set => &[],
@@ -83,6 +84,15 @@ pub fn above(random: &mut Random, largest: u64) -> u64 {
     value.max(largest + 1)
 }
 
+/// One of a list or, less often, a number above the largest.
+pub fn draw_bad(random: &mut Random, list: &[u64], largest: u64) -> u64 {
+    if random.chance(70) {
+        random.pick(list)
+    } else {
+        above(random, largest)
+    }
+}
+
 fn one_above(random: &mut Random, name: &'static str, largest: u64) -> Vec<Word> {
     vec![(name, above(random, largest).to_string())]
 }
@@ -110,7 +120,9 @@ pub fn spoil(random: &mut Random, scene: &Scene, question: Question, no: u64) ->
         5 => unlisted(random, "control", &[1, 2, 3], 0),
         6 => one_above(random, "sib1", 11),
         7 => bad_bitmap(random, scene),
+        21 => unlisted_messages(random),
         8 => nothing_allowed(random, scene),
+        18 if random.chance(50) => taken_by_messages(random, scene),
         18 => all_taken(random, scene),
         9 if scene.kind == Kind::Ack => one_above(random, "n", ack::LARGEST_N),
         9 => one_above(random, "n", downlink::LARGEST_N),
@@ -118,10 +130,10 @@ pub fn spoil(random: &mut Random, scene: &Scene, question: Question, no: u64) ->
         11 => bad_subcarrier(random, scene),
         12 => bad_power(random, scene),
         13 => vec![("mcs", random.between(5, 15).to_string())],
-        14 => bad_place(random, scene, question),
-        15 => bad_length(random, scene, question),
         19 => spoilt_windows(random, scene, draw_unlisted),
         20 => spoilt_windows(random, scene, draw_never_free),
+        14 => bad_place(random, scene, question),
+        15 => bad_length(random, scene, question),
         16 => vec![("level", format!("{:08x}", random.pick(&BAD_LEVELS)))],
         _ => two_ports(random, scene),
     }
@@ -154,6 +166,12 @@ fn bad_bitmap(random: &mut Random, scene: &Scene) -> Vec<Word> {
             ]
         }
     }
+}
+
+/// Number 21: messages with a number that isn't listed.
+fn unlisted_messages(random: &mut Random) -> Vec<Word> {
+    let messages = drawn_messages::draw_unlisted(random);
+    message_words(random, &messages)
 }
 
 /// Number 8: a bitmap that allows nothing.
@@ -193,6 +211,20 @@ fn all_taken(random: &mut Random, scene: &Scene) -> Vec<Word> {
         ("anchor", with_more(random, bytes)),
         ("other", "ffffffffff".to_string()),
     ]);
+    words
+}
+
+/// Number 18: messages that take all that the anchor and the bitmap leave; on
+/// the anchor, whatever carrier the scene is on.
+fn taken_by_messages(random: &mut Random, scene: &Scene) -> Vec<Word> {
+    let mut cell = scene.cell.clone();
+    let mut words = Vec::new();
+    if cell.carrier == 1 {
+        (cell.carrier, cell.bits) = (0, 0);
+        words = vec![("carrier", "0".to_string()), ("bits", "0".to_string())];
+    }
+    let messages = drawn_messages::draw_all_taken(random, &cell);
+    words.extend(message_words(random, &messages));
     words
 }
 

@@ -5,6 +5,7 @@ use crate::cell::Cause;
 use crate::fill::Shown;
 use crate::grant::Step;
 use crate::lines::next_line;
+use crate::message_counts::MessageCounts;
 use crate::text::{Fault, Kind, Question, Values};
 use std::io::{self, BufRead, Write};
 
@@ -18,9 +19,9 @@ pub struct Row {
     pub not_ours: [u64; 4],
     pub finished: u64,
     /// Causes named, in their order.
-    pub causes: [u64; 5],
+    pub causes: [u64; 6],
     /// By number; place 0 isn't used.
-    pub refused: [u64; 21],
+    pub refused: [u64; 22],
 }
 
 /// The whole table: a row for each question and kind.
@@ -30,6 +31,7 @@ pub struct Table {
     pub faults: [u64; 8],
     /// Uplink questions asked with a window or more.
     pub windowed: u64,
+    pub messages: MessageCounts,
 }
 
 impl Row {
@@ -83,7 +85,7 @@ impl Row {
         }
         write!(out, " {:>7}", self.finished)?;
         for x in self.causes {
-            write!(out, " {x:>6}")?;
+            write!(out, " {x:>7}")?;
         }
         for x in &self.refused[1..] {
             write!(out, " {x:>6}")?;
@@ -99,6 +101,7 @@ impl Default for Table {
             rows: questions.map(|q| (q, Row::default())).collect(),
             faults: [0; 8],
             windowed: 0,
+            messages: MessageCounts::default(),
         }
     }
 }
@@ -113,6 +116,7 @@ impl Table {
         if kind.is_some_and(Kind::is_uplink) && values.windows.count > 0 {
             self.windowed += 1;
         }
+        self.messages.count(answer, values);
         for (question, row) in &mut self.rows {
             if answer.question() == Some(*question) {
                 row.count(answer);
@@ -143,9 +147,9 @@ impl Table {
         }
         write!(out, " {:>7}", "finish")?;
         for cause in Cause::ALL {
-            write!(out, " {:>6}", cause.word())?;
+            write!(out, " {:>7}", cause.word())?;
         }
-        for no in 1..21 {
+        for no in 1..22 {
             write!(out, " {:>6}", format!("no{no}"))?;
         }
         writeln!(out)?;
@@ -154,6 +158,7 @@ impl Table {
         }
         self.total().write(out, "all")?;
         writeln!(out, "uplink questions with windows: {}", self.windowed)?;
+        self.messages.write(out)?;
         self.write_faults(out)
     }
 

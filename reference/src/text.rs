@@ -6,6 +6,7 @@ use crate::downlink::{Npdcch, Npdsch};
 use crate::elements::Element;
 use crate::grant::Grant;
 use crate::lines::LONGEST_LINE;
+use crate::messages::Schedule;
 use crate::uplink::Npusch;
 use crate::windows::{Window, Windows};
 
@@ -216,6 +217,7 @@ enum Kept<'a> {
     Buffer(&'a mut Vec<u8>, usize),
     Level(&'a mut u32),
     Window(&'a mut Window),
+    Schedule(&'a mut Schedule),
 }
 
 impl Values {
@@ -229,6 +231,10 @@ impl Values {
             b"w2" => Kept::Window(&mut self.windows.entries[1]),
             b"w3" => Kept::Window(&mut self.windows.entries[2]),
             b"w4" => Kept::Window(&mut self.windows.entries[3]),
+            b"m1" => Kept::Schedule(&mut self.cell.messages.entries[0]),
+            b"m2" => Kept::Schedule(&mut self.cell.messages.entries[1]),
+            b"m3" => Kept::Schedule(&mut self.cell.messages.entries[2]),
+            b"m4" => Kept::Schedule(&mut self.cell.messages.entries[3]),
             _ => Kept::Number(self.number(name)?),
         })
     }
@@ -243,6 +249,9 @@ impl Values {
             b"control" => &mut self.cell.control,
             b"sib1" => &mut self.cell.sib1,
             b"bits" => &mut self.cell.bits,
+            b"siwindow" => &mut self.cell.messages.window,
+            b"sioffset" => &mut self.cell.messages.offset,
+            b"messages" => &mut self.cell.messages.count,
             b"n" => &mut self.n,
             b"delay" => &mut self.delay,
             b"rmax" => &mut self.rmax,
@@ -359,6 +368,7 @@ enum Read {
     Buffer(Vec<u8>),
     Level(u32),
     Window(Window),
+    Schedule(Schedule),
 }
 
 fn read_buffer(text: &[u8], longest: usize) -> Result<Read, Fault> {
@@ -383,18 +393,29 @@ fn read_number(name: &[u8], text: &[u8]) -> Result<Read, Fault> {
     Ok(Read::Number(number))
 }
 
-/// Four decimal numbers with commas between them: period, start, length, tone.
-fn read_window(text: &[u8]) -> Result<Read, Fault> {
+/// So many decimal numbers with commas between them.
+fn parts<const COUNT: usize>(text: &[u8]) -> Result<[u64; COUNT], Fault> {
     let parts = text.split(|&b| b == b',');
     let numbers: Result<Vec<u64>, Fault> = parts.map(decimal).collect();
-    let [period, start, length, tone] = numbers?[..] else {
-        return Err(Fault::Number);
-    };
+    numbers?.try_into().map_err(|_| Fault::Number)
+}
+
+fn read_window(text: &[u8]) -> Result<Read, Fault> {
+    let [period, start, length, tone] = parts(text)?;
     Ok(Read::Window(Window {
         period,
         start,
         length,
         tone,
+    }))
+}
+
+fn read_schedule(text: &[u8]) -> Result<Read, Fault> {
+    let [period, every, size] = parts(text)?;
+    Ok(Read::Schedule(Schedule {
+        period,
+        every,
+        size,
     }))
 }
 
@@ -411,6 +432,7 @@ fn read_word<'a>(values: &mut Values, word: &'a [u8]) -> Result<(&'a [u8], Read)
         Kept::Buffer(_, longest) => read_buffer(text, longest)?,
         Kept::Level(_) => read_level(text)?,
         Kept::Window(_) => read_window(text)?,
+        Kept::Schedule(_) => read_schedule(text)?,
     };
     Ok((name, read))
 }
@@ -421,6 +443,7 @@ fn keep(values: &mut Values, name: &[u8], read: Read) {
         (Some(Kept::Buffer(kept, _)), Read::Buffer(x)) => *kept = x,
         (Some(Kept::Level(kept)), Read::Level(x)) => *kept = x,
         (Some(Kept::Window(kept)), Read::Window(x)) => *kept = x,
+        (Some(Kept::Schedule(kept)), Read::Schedule(x)) => *kept = x,
         _ => unreachable!("a value is read as its name keeps it"),
     }
 }

@@ -119,6 +119,7 @@ impl Npusch {
         let g = slots::group(self.spacing);
         let m = self.repeats_in_pass(copies);
         Ok(Listing {
+            cell: None,
             copies,
             codeword_units: slots,
             sent: slots::sent_slots(self.spacing, self.start(), self.slot_count(), &free),

@@ -179,14 +179,20 @@ fn write_picture(
     Ok(())
 }
 
-/// `24 sib1, 25 npss`, or `none`. A sent subframe is followed by at most 199
-/// skipped ones, so the line stays under 4,096 bytes.
+/// How many skipped subframes a picture lists: with ten digits each the line
+/// stays under 4,096 bytes.
+pub const LISTED: usize = 200;
+
+/// `24 sib1, 25 npss`, or `none`; past the 200th ` and N more`.
 fn skipped_text(skipped: &[(u64, Cause)]) -> String {
     if skipped.is_empty() {
         return "none".to_string();
     }
-    let each = skipped
-        .iter()
-        .map(|(t, cause)| format!("{t} {}", cause.word()));
-    each.collect::<Vec<String>>().join(", ")
+    let listed = skipped.iter().take(LISTED);
+    let each = listed.map(|(t, cause)| format!("{t} {}", cause.word()));
+    let text = each.collect::<Vec<String>>().join(", ");
+    match skipped.len() {
+        0..=LISTED => text,
+        all => format!("{text} and {} more", all - LISTED),
+    }
 }

@@ -72,6 +72,7 @@ fn repeats_after_the_period() {
         anchor: vec![0xF7, 0x3E, 0x9A, 0x55, 0xE1],
         ..Cell::default()
     };
+    let cell = cell.lay().expect("accepted");
     for t in 0..PERIOD {
         assert_eq!(cell.cause(t), cell.cause(t + 4 * PERIOD));
         assert_eq!(cell.cause(t).is_none(), cell.usable(t));
@@ -153,7 +154,8 @@ fn pictures_say_what_was_skipped() {
     );
 }
 
-/// The longest line: one bit of forty that SIB1 takes four times in a row.
+/// The longest line without messages: one bit of forty that SIB1 takes four
+/// times in a row.
 #[test]
 fn the_longest_picture_line() {
     let bitmap = "bits=40 anchor=0800000000 sib1=0 n=1073741823 r=64";

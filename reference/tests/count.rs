@@ -45,7 +45,7 @@ fn every_accepted_combination_is_listed() {
                             control,
                             ..Cell::default()
                         };
-                        if cell.judge().is_ok() {
+                        if cell.lay().is_ok() {
                             accepted.insert(combination(&cell));
                         }
                     }

@@ -6,6 +6,8 @@ use reference::cell::Cell;
 use reference::downlink::{self, Npdcch, Npdsch};
 use reference::elements::Element;
 use reference::grant::{step, Grant, Step};
+use reference::laid::Cells;
+use reference::messages::{Messages, Schedule};
 use reference::places::{copy_order, Listing, Place};
 use reference::uplink::{self, Npusch};
 use reference::windows::{Window, Windows};
@@ -44,6 +46,28 @@ fn non_anchor() -> Cell {
         bits: 10,
         other: vec![0x91, 0x40, 0xFF],
         ..Cell::default()
+    }
+}
+
+/// The in-band cell with windows that meet, the first from before t = 0.
+fn broadcasting() -> Cell {
+    let schedule = |period, every, size| Schedule {
+        period,
+        every,
+        size,
+    };
+    let mut messages = Messages {
+        window: 480,
+        offset: 15,
+        count: 3,
+        ..Messages::default()
+    };
+    messages.entries[0] = schedule(64, 4, 8);
+    messages.entries[1] = schedule(64, 2, 2);
+    messages.entries[2] = schedule(128, 2, 8);
+    Cell {
+        messages,
+        ..in_band()
     }
 }
 
@@ -119,7 +143,7 @@ fn pushed(grant: Grant) -> Grant {
 
 fn grants() -> Vec<(Cell, Grant)> {
     let mut list = Vec::new();
-    for cell in [standalone(), in_band(), non_anchor()] {
+    for cell in [standalone(), in_band(), non_anchor(), broadcasting()] {
         list.push((cell.clone(), npdsch(0, 1, 0, 0)));
         list.push((cell.clone(), npdsch(3, 64, 2, 3)));
         list.push((cell.clone(), npdsch(1, 128, 6, 1)));
@@ -148,7 +172,8 @@ fn grants() -> Vec<(Cell, Grant)> {
 }
 
 fn listing(cell: &Cell, grant: &Grant) -> Listing {
-    grant.list(cell).expect("an accepted grant")
+    let listed = grant.list(cell, &mut Cells::default());
+    listed.expect("an accepted grant")
 }
 
 #[test]
@@ -217,7 +242,8 @@ fn backward_undoes_forward() {
                 assert!(found.kind == 0 || (sent && !found.ours));
                 let between = listing.first() < unit && unit < listing.last();
                 let skipped = between && !sent && !grant.is_uplink();
-                assert_eq!(found.cause, cell.cause(unit).filter(|_| skipped));
+                let why = listing.cell.as_ref().and_then(|cell| cell.cause(unit));
+                assert_eq!(found.cause, why.filter(|_| skipped));
                 assert_eq!(found.cause.is_some(), skipped);
             }
         }
@@ -256,6 +282,7 @@ fn every_usable_subframe_within_the_span_is_sent() {
             continue;
         }
         let listing = listing(&cell, &grant);
+        let cell = cell.lay().expect("accepted");
         for t in listing.first()..=listing.last() {
             assert_eq!(listing.sent.contains(&t), cell.usable(t));
         }

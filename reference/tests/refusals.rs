@@ -1,9 +1,9 @@
-//! Every number 1 to 20, the bounds of the fields, and the generator's shares.
+//! Every number 1 to 21, the bounds of the fields, and the generator's shares.
 
 mod common;
 use common::{ask, value};
 use reference::cell::Cause;
-use reference::generate::generate;
+use reference::generate::{generate, Wanted};
 use reference::table::table_of;
 use reference::text::{Kind, Question};
 
@@ -37,6 +37,7 @@ fn cell_numbers() {
     assert_eq!(no("cell bits=40 anchor=ffffffff"), 7);
     assert_eq!(no("cell bits=40 anchor=0000000000ff"), 8);
     assert_eq!(no("cell bits=40 anchor=8000000000"), 18);
+    assert_eq!(no("cell siwindow=161"), 21);
 }
 
 #[test]
@@ -101,13 +102,13 @@ fn kinds_of_places() {
 #[test]
 fn generated_questions_have_their_shares() {
     let mut file = Vec::new();
-    generate(7, 20_000, None, &mut file).expect("memory takes all");
+    generate(Wanted::new(7, 20_000), &mut file).expect("memory takes all");
     let table = table_of(&mut &file[..]).expect("memory gives all");
     let all = table.total();
     let faults: u64 = table.faults.iter().sum();
     assert_eq!(all.asked + faults, 20_000);
     assert!(all.accepted >= 10_000);
-    for no in 1..21 {
+    for no in 1..22 {
         assert!(all.refused[no] >= 20, "number {no}");
     }
     assert!(table.rows.iter().all(|(_, row)| row.asked > 0));
@@ -117,7 +118,7 @@ fn generated_questions_have_their_shares() {
 #[test]
 fn generated_acknowledgements() {
     let mut file = Vec::new();
-    generate(8, 20_000, None, &mut file).expect("memory takes all");
+    generate(Wanted::new(8, 20_000), &mut file).expect("memory takes all");
     let table = table_of(&mut &file[..]).expect("memory gives all");
     let of_ack = |question: &Question| question.kind() == Some(Kind::Ack);
     let rows: Vec<_> = table.rows.iter().filter(|(q, _)| of_ack(q)).collect();
@@ -132,7 +133,7 @@ fn generated_acknowledgements() {
 #[test]
 fn generated_causes() {
     let mut file = Vec::new();
-    generate(9, 20_000, None, &mut file).expect("memory takes all");
+    generate(Wanted::new(9, 20_000), &mut file).expect("memory takes all");
     let table = table_of(&mut &file[..]).expect("memory gives all");
     let row = table.row(Question::Cause);
     assert!(row.asked >= 2000, "at least 10 of a hundred");
@@ -149,7 +150,7 @@ fn generated_causes() {
 #[test]
 fn generated_windows() {
     let mut file = Vec::new();
-    generate(10, 20_000, None, &mut file).expect("memory takes all");
+    generate(Wanted::new(10, 20_000), &mut file).expect("memory takes all");
     let table = table_of(&mut &file[..]).expect("memory gives all");
     assert!(table.windowed >= 3000, "at least 15 of a hundred");
     let all = table.total();
@@ -157,10 +158,30 @@ fn generated_windows() {
 }
 
 #[test]
+fn generated_messages() {
+    let mut file = Vec::new();
+    generate(Wanted::new(11, 20_000), &mut file).expect("memory takes all");
+    let table = table_of(&mut &file[..]).expect("memory gives all");
+    let messages = &table.messages;
+    assert!(messages.laid >= 2000, "at least 10 of a hundred");
+    assert!(messages.meeting >= 200 && messages.filling >= 200);
+    assert!(messages.over_zero >= 200 && messages.sparse >= 100);
+    assert!(messages.off_anchor >= 200);
+    assert!(messages.all_taken >= 20 && messages.long_pictures > 0);
+    let all = table.total();
+    assert!(all.causes[Cause::Message as usize] >= 100);
+    assert!(all.refused[21] >= 100 && all.refused[18] >= 100);
+}
+
+#[test]
 fn generated_questions_of_one_kind() {
     let only = Question::Forward(Kind::Up);
     let mut file = Vec::new();
-    generate(1, 1000, Some(only), &mut file).expect("memory takes all");
+    let wanted = Wanted {
+        only: Some(only),
+        ..Wanted::new(1, 1000)
+    };
+    generate(wanted, &mut file).expect("memory takes all");
     let table = table_of(&mut &file[..]).expect("memory gives all");
     assert_eq!(table.total().asked, 1000);
     assert_eq!(table.row(only).asked, 1000);

@@ -104,6 +104,9 @@ fn error_name() {
         "cell q=x",
         "cell w0=1",
         "cell w5=1,2,3,4",
+        "cell m0=64,2,8",
+        "cell m5=64,2,8",
+        "cell message=1",
     ] {
         fault(line.as_bytes(), "name");
     }
@@ -137,6 +140,24 @@ fn error_number() {
         fault(format!("cell w1={window}").as_bytes(), "number");
         fault(format!("cell w4={window}").as_bytes(), "number");
     }
+    for schedule in [
+        "",
+        "64",
+        "64,2",
+        "64,2,8,0",
+        "64,2,8,",
+        ",64,2,8",
+        "64,,8",
+        "64;2;8",
+        "64,2,-8",
+        "64,2,18446744073709551616",
+        "-",
+    ] {
+        fault(format!("cell m1={schedule}").as_bytes(), "number");
+        fault(format!("cell m4={schedule}").as_bytes(), "number");
+    }
+    fault(b"cell siwindow=160ms", "number");
+    fault(b"cell messages=-", "number");
     fault(b"set w1=40, 8,172032,0", "number");
     let largest = "step up p=18446744073709551615";
     let answer = "no=14 finished=0 slot=0 l=0 k=0 symbol=0 p=18446744073709551615";
@@ -212,6 +233,42 @@ plan up");
     let numbers: Vec<&str> = answers.iter().map(|a| &a[..a.len().min(5)]).collect();
     let expected = ["no=20", "no=0 ", "no=20", "no=0 ", "error", "no=0 "];
     assert_eq!(numbers, expected);
+}
+
+/// The window's length starts at 160, the rest at 0.
+#[test]
+fn messages_are_kept() {
+    let answers = ask("set mode=3 nports=1
+cell
+set messages=1 m1=64,2,8
+cause t=1
+cause t=161
+cause messages=0 t=1
+cause messages=1
+cause sioffset=1
+cause m1=128,16,2 sioffset=0
+cause t=3
+cause m1=64,2
+cause siwindow=320 m1=64,2,8 t=161
+cause messages=2
+cause m2=64,2,8 t=321");
+    assert_eq!(
+        answers,
+        [
+            "no=0",
+            "no=0 cause=message",
+            "no=0 cause=none",
+            "no=0 cause=none",
+            "no=0 cause=message",
+            "no=0 cause=none",
+            "no=0 cause=message",
+            "no=0 cause=none",
+            "error=number",
+            "no=0 cause=message",
+            "no=21 cause=none",
+            "no=0 cause=message",
+        ]
+    );
 }
 
 #[test]

@@ -1,5 +1,7 @@
 //! A cell: its refusals, its usable subframes as spans of forty, and why another is not usable.
 
+use super::left::{among_messages, Left};
+use super::messages::{are_listed, parts, sent, Messages};
 use super::Cell;
 
 const ALL: u64 = 0xff_ffff_ffff;
@@ -73,9 +75,9 @@ fn bitmap(bits: u64, own: &[u8]) -> Option<u64> {
     }
 }
 
-/// A cell's refusal, or the bitmap's mask and the pattern without counts.
+/// A cell's refusal but for what messages take, or the bitmap's mask and the pattern without counts.
 #[inline(always)]
-fn masks(cell: &Cell, anchor: &[u8], others: &[u8]) -> Result<Pattern, u64> {
+pub fn masks(cell: &Cell, messages: Option<&Messages>, anchor: &[u8], others: &[u8]) -> Result<Pattern, u64> {
     let no = numbers(cell);
     if no != 0 {
         return Err(no);
@@ -83,6 +85,9 @@ fn masks(cell: &Cell, anchor: &[u8], others: &[u8]) -> Result<Pattern, u64> {
     let &[_, carrier, identity, _, _, _, schedule, bits] = cell;
     let own = if carrier == 0 { anchor } else { others };
     let m = bitmap(bits, own).ok_or(7u64)?;
+    if messages.is_some_and(|ms| !are_listed(ms)) {
+        return Err(21);
+    }
     if m == 0 {
         return Err(8);
     }
@@ -105,15 +110,25 @@ fn masks(cell: &Cell, anchor: &[u8], others: &[u8]) -> Result<Pattern, u64> {
 }
 
 #[inline(always)]
-pub fn judged_number(cell: &Cell, anchor: &[u8], others: &[u8]) -> u64 {
-    match masks(cell, anchor, others) {
+pub fn judged_number<const N: usize>(cell: &Cell<N>, anchor: &[u8], others: &[u8]) -> u64 {
+    let (cell, messages) = parts(cell);
+    if let Some(ms) = sent(cell, messages) {
+        return among_messages(cell, ms, anchor, others, |left| number(left));
+    }
+    number(masks(cell, messages, anchor, others))
+}
+
+/// The refusal, or 0.
+#[inline(always)]
+fn number<T>(judged: Result<T, u64>) -> u64 {
+    match judged {
         Ok(_) => 0,
         Err(no) => no,
     }
 }
 
 #[inline(never)]
-pub fn judge(cell: &Cell, anchor: &[u8], others: &[u8]) -> u64 {
+pub fn judge<const N: usize>(cell: &Cell<N>, anchor: &[u8], others: &[u8]) -> u64 {
     judged_number(cell, anchor, others)
 }
 
@@ -143,21 +158,50 @@ pub fn why_not(cell: &Cell, t: u64) -> u64 {
 }
 
 #[inline(never)]
-pub fn cause(cell: &Cell, anchor: &[u8], others: &[u8], t: u64) -> [u64; 2] {
-    match masks(cell, anchor, others) {
+pub fn cause<const N: usize>(cell: &Cell<N>, anchor: &[u8], others: &[u8], t: u64) -> [u64; 2] {
+    let (cell, messages) = parts(cell);
+    if let Some(ms) = sent(cell, messages) {
+        let ask = |left: Result<&mut Left, u64>| left.map_or_else(|no| [no, 0], |left| [0, left.cause(cell, t)]);
+        return among_messages(cell, ms, anchor, others, ask);
+    }
+    match masks(cell, messages, anchor, others) {
         Ok(p) if p.allows(t) => [0, 0],
         Ok(_) => [0, why_not(cell, t)],
         Err(no) => [no, 0],
     }
 }
 
-/// A cell's refusal, or its pattern.
+/// A cell's refusal, or its pattern; no messages are sent.
 #[inline(always)]
-pub fn judged(cell: &Cell, anchor: &[u8], others: &[u8]) -> Result<Pattern, u64> {
-    let mut p = masks(cell, anchor, others)?;
+pub fn judged(cell: &Cell, messages: Option<&Messages>, anchor: &[u8], others: &[u8]) -> Result<Pattern, u64> {
+    let mut p = masks(cell, messages, anchor, others)?;
     p.in_plain = p.plain.count_ones();
     p.in_sib1 = p.sib1.count_ones();
     Ok(p)
+}
+
+/// What a grant's search finds of subframe t.
+pub enum Spot {
+    /// Before the first that is sent, or after the last.
+    Outside,
+    /// Between them and not usable.
+    Skipped,
+    /// The i-th that is sent.
+    Sent(u64),
+}
+
+/// The subframes that a grant may be sent in.
+pub trait Subframes {
+    /// The j-th from a given one on, and the last of `many` from that on.
+    fn ends(&mut self, from: u64, j: u64, many: u64) -> (u64, u64);
+
+    fn nth(&mut self, from: u64, j: u64) -> u64;
+
+    /// Where t lies among `many` from the j-th on.
+    fn locate(&mut self, from: u64, j: u64, many: u64, t: u64) -> Spot;
+
+    /// The number of the cause of a subframe that is not usable.
+    fn why_not(&self, cell: &Cell, t: u64) -> u64;
 }
 
 /// The ones of each byte of a mask.
@@ -216,7 +260,7 @@ impl Pattern {
 
     /// How many usable subframes lie before subframe t.
     #[inline(always)]
-    fn rank(&self, t: u64) -> u64 {
+    pub fn rank(&self, t: u64) -> u64 {
         let (s, i) = (t / 40, t % 40);
         let x = s as u32 & ((1 << self.shift) - 1);
         let h = (s >> self.shift) * 4 + x.saturating_sub(self.first).min(4) as u64;
@@ -241,22 +285,10 @@ impl Pattern {
 
     /// The usable subframe before which k usable ones lie.
     #[inline(always)]
-    fn at(&self, k: u64) -> u64 {
+    pub fn at(&self, k: u64) -> u64 {
         let per = 4 * self.in_sib1 + ((1 << self.shift) - 4) * self.in_plain;
         let k = k as u32;
         ((k / per) as u64) * (40 << self.shift) + self.pick(k % per) as u64
-    }
-
-    /// The j-th usable subframe from a given one on, and the last of `many` from that on.
-    #[inline(always)]
-    pub fn ends(&self, from: u64, j: u64, many: u64) -> (u64, u64) {
-        let k = self.rank(from) + j;
-        (self.at(k), self.at(k + many - 1))
-    }
-
-    #[inline(always)]
-    pub fn nth(&self, from: u64, j: u64) -> u64 {
-        self.at(self.rank(from) + j)
     }
 
     #[inline(always)]
@@ -266,7 +298,98 @@ impl Pattern {
 
     /// How many usable subframes lie between a given one and t, t aside; none where t lies before.
     #[inline(always)]
-    pub fn index(&self, from: u64, t: u64) -> Option<u64> {
+    fn index(&self, from: u64, t: u64) -> Option<u64> {
         (t >= from).then(|| self.rank(t) - self.rank(from))
+    }
+
+    /// Counts what the masks allow, in whole and by frames.
+    #[inline(always)]
+    pub fn count_frames(&mut self) -> Frames {
+        let (plain, sib1);
+        (plain, self.in_plain) = quarters(self.plain);
+        (sib1, self.in_sib1) = quarters(self.sib1);
+        let which = ([6, 4, 0][self.shift as usize - 2] + self.first / 4) as usize;
+        let (every, fewer) = (self.in_plain as u16, (self.in_plain - self.in_sib1) as u16);
+        let before = std::array::from_fn(|span| span as u16 * every - SIB1_BEFORE[which][span] * fewer);
+        let all = 16 * self.in_plain - SIB1_SPANS[which].count_ones() * (self.in_plain - self.in_sib1);
+        Frames { with_sib1: SIB1_SPANS[which], before, all, quarters: [plain, sib1] }
+    }
+}
+
+/// Which of 16 spans have SIB1: four of 16 from each fourth one on, four of 8 from either, or all.
+const SIB1_SPANS: [u32; 7] = [0x000f, 0x00f0, 0x0f00, 0xf000, 0x0f0f, 0xf0f0, 0xffff];
+
+/// How many of them lie before each span.
+const SIB1_BEFORE: [[u16; 16]; 7] = {
+    let mut table = [[0; 16]; 7];
+    let mut i = 0;
+    while i < 7 * 16 {
+        let (which, span) = (i / 16, i % 16);
+        table[which][span] = (SIB1_SPANS[which] & ((1 << span) - 1)).count_ones() as u16;
+        i += 1;
+    }
+    table
+};
+
+impl Subframes for Pattern {
+    #[inline(always)]
+    fn ends(&mut self, from: u64, j: u64, many: u64) -> (u64, u64) {
+        let k = self.rank(from) + j;
+        (self.at(k), self.at(k + many - 1))
+    }
+
+    #[inline(always)]
+    fn nth(&mut self, from: u64, j: u64) -> u64 {
+        self.at(self.rank(from) + j)
+    }
+
+    #[inline(always)]
+    fn locate(&mut self, from: u64, j: u64, many: u64, t: u64) -> Spot {
+        let Some(i) = self.index(from, t) else {
+            return Spot::Outside;
+        };
+        let i = i.wrapping_sub(j);
+        if i >= many {
+            return Spot::Outside;
+        }
+        if !self.allows(t) {
+            return if i == 0 { Spot::Outside } else { Spot::Skipped };
+        }
+        Spot::Sent(i)
+    }
+
+    #[inline(always)]
+    fn why_not(&self, cell: &Cell, t: u64) -> u64 {
+        why_not(cell, t)
+    }
+}
+
+/// The allowed subframes by frames: which of 16 spans have SIB1, how many are allowed before each of them and in all of them, and of both
+/// masks how many lie in a span before each of its four frames, by sixteen digits.
+pub struct Frames {
+    with_sib1: u32,
+    before: [u16; 16],
+    all: u32,
+    quarters: [u64; 2],
+}
+
+/// A mask's ones before each of the four frames of a span, by sixteen digits, and all of them.
+#[inline(always)]
+fn quarters(m: u64) -> (u64, u32) {
+    const FRAME: u64 = 0x3ff;
+    const FOURTHS: u64 = 0x0001_0001_0001_0001;
+    let apart = m & FRAME | (m & FRAME << 10) << 6 | (m & FRAME << 20) << 12 | (m & FRAME << 30) << 18;
+    let bytes = byte_counts(apart);
+    let sums = ((bytes + (bytes >> 8)) & 0xff * FOURTHS).wrapping_mul(FOURTHS);
+    (sums << 16, (sums >> 48) as u32)
+}
+
+impl Frames {
+    /// How many allowed subframes lie before a frame.
+    #[inline(always)]
+    pub fn before(&self, frame: u32) -> u32 {
+        let span = (frame / 4 % 16) as usize;
+        let quarters = self.quarters[(self.with_sib1 >> span & 1) as usize];
+        frame / 64 * self.all + self.before[span] as u32 + (quarters >> (16 * (frame % 4)) & 0xffff) as u32
     }
 }

@@ -1,15 +1,16 @@
 //! NPDSCH and NPDCCH.
 
-use super::cell::{judged, why_not, Pattern};
+use super::cell::{Spot, Subframes};
 use super::elements::Layout;
+use super::messages::parts;
 use super::{other, ours, refused, stepped, Cell, ControlGrant, ControlWalk, DownGrant, DownWalk, LAST_SUBFRAME, LENGTHS};
 
 const COPIES: [u32; 16] = [1, 2, 4, 8, 16, 32, 64, 128, 192, 256, 384, 512, 768, 1024, 1536, 2048];
 const DELAYS: [[u32; 8]; 2] = [[0, 4, 8, 12, 16, 32, 64, 128], [0, 16, 32, 64, 128, 256, 512, 1024]];
 
 /// An accepted question.
-pub struct Burst {
-    pub pattern: Pattern,
+pub struct Burst<S> {
+    subframes: S,
     pub layout: Layout,
     from: u64,
     skip: u64,
@@ -25,8 +26,8 @@ fn is_repetition(x: u64) -> bool {
 }
 
 #[inline(always)]
-pub fn down(cell: &Cell, anchor: &[u8], others: &[u8], grant: &DownGrant) -> Result<Burst, u64> {
-    let pattern = judged(cell, anchor, others)?;
+pub fn down<S>(judged: Result<S, u64>, cell: &Cell, grant: &DownGrant) -> Result<Burst<S>, u64> {
+    let subframes = judged?;
     let &[n, delay, rmax, length, copies] = grant;
     if n > LAST_SUBFRAME {
         return Err(9);
@@ -41,12 +42,12 @@ pub fn down(cell: &Cell, anchor: &[u8], others: &[u8], grant: &DownGrant) -> Res
     let skip = DELAYS[(rmax >= 128) as usize][delay as usize] as u64;
     let (length, row) = (LENGTHS[length as usize], (copies as u32).min(2));
     let copies = COPIES[copies as usize];
-    Ok(Burst { pattern, layout, from: n + 5, skip, length, copies, row })
+    Ok(Burst { subframes, layout, from: n + 5, skip, length, copies, row })
 }
 
 #[inline(always)]
-fn control(cell: &Cell, anchor: &[u8], others: &[u8], grant: &ControlGrant) -> Result<Burst, u64> {
-    let pattern = judged(cell, anchor, others)?;
+fn control<S>(judged: Result<S, u64>, cell: &Cell, grant: &ControlGrant) -> Result<Burst<S>, u64> {
+    let subframes = judged?;
     let &[n, r, format, ncce] = grant;
     if n > LAST_SUBFRAME {
         return Err(9);
@@ -58,10 +59,10 @@ fn control(cell: &Cell, anchor: &[u8], others: &[u8], grant: &ControlGrant) -> R
         return Err(12);
     }
     let layout = Layout::new(cell, 6 * ncce, 6 + 6 * format);
-    Ok(Burst { pattern, layout, from: n, skip: 0, length: 1, copies: r as u32, row: 0 })
+    Ok(Burst { subframes, layout, from: n, skip: 0, length: 1, copies: r as u32, row: 0 })
 }
 
-impl Burst {
+impl<S> Burst<S> {
     #[inline(always)]
     pub fn sent(&self) -> u64 {
         (self.copies * self.length) as u64
@@ -73,46 +74,44 @@ impl Burst {
         ((i as u32 >> self.row) % self.length) as u64
     }
 
+}
+
+impl<S: Subframes> Burst<S> {
     #[inline(always)]
-    fn plan(&self) -> [u64; 5] {
+    fn plan(&mut self) -> [u64; 5] {
         let sent = self.sent();
-        let (first, last) = self.pattern.ends(self.from, self.skip, sent);
+        let (first, last) = self.subframes.ends(self.from, self.skip, sent);
         [0, first, last, self.copies as u64, sent * self.layout.count()]
     }
 
     #[inline(always)]
-    fn forward(&self, p: u64) -> [u64; 6] {
+    fn forward(&mut self, p: u64) -> [u64; 6] {
         let w = self.layout.count();
         if p >= self.sent() * w {
             return refused(14);
         }
         let (i, e) = ((p as u32 / w as u32) as u64, (p as u32 % w as u32) as u64);
-        let t = self.pattern.nth(self.from, self.skip + i);
+        let t = self.subframes.nth(self.from, self.skip + i);
         let (slot, l, k) = self.layout.element(e);
         [0, t, slot, l, k, self.carried(i) * w + e]
     }
 
     #[inline(always)]
-    fn step(&self, p: &mut u64) -> [u64; 7] {
+    fn step(&mut self, p: &mut u64) -> [u64; 7] {
         let [no, t, slot, l, k, symbol] = self.forward(*p);
         stepped(p, no, self.sent() * self.layout.count(), [t, slot, l, k, symbol])
     }
 
     #[inline(always)]
-    fn backward(&self, cell: &Cell, t: u64, slot: u64, l: u64, k: u64) -> [u64; 6] {
+    fn backward(&mut self, cell: &Cell, t: u64, slot: u64, l: u64, k: u64) -> [u64; 6] {
         if slot > 1 || l > 6 || k > 11 {
             return refused(14);
         }
-        let Some(i) = self.pattern.index(self.from, t) else {
-            return beside(other(0), 0);
+        let i = match self.subframes.locate(self.from, self.skip, self.sent(), t) {
+            Spot::Outside => return beside(other(0), 0),
+            Spot::Skipped => return beside(other(0), self.subframes.why_not(cell, t)),
+            Spot::Sent(i) => i,
         };
-        let i = i.wrapping_sub(self.skip);
-        if i >= self.sent() {
-            return beside(other(0), 0);
-        }
-        if !self.pattern.allows(t) {
-            return beside(other(0), if i == 0 { 0 } else { why_not(cell, t) });
-        }
         if !self.layout.is_used(slot, l, k) {
             return beside(other(self.layout.kind(l, k)), 0);
         }
@@ -128,48 +127,89 @@ fn beside([no, ours, symbol, position, kind]: [u64; 5], cause: u64) -> [u64; 6] 
     [no, ours, symbol, position, kind, cause]
 }
 
+/// What is asked of a judged cell: of its pattern, or of what messages leave if some are sent.
+macro_rules! asked {
+    (($cell:ident, $messages:ident), $anchor:expr, $others:expr, |$judged:ident| $answer:expr) => {
+        match $crate::fast::messages::sent($cell, $messages) {
+            Some(ms) => $crate::fast::left::among_messages($cell, ms, $anchor, $others, |$judged| $answer),
+            None => {
+                let $judged = $crate::fast::cell::judged($cell, $messages, $anchor, $others);
+                $answer
+            }
+        }
+    };
+}
+pub(crate) use asked;
+
 #[inline(never)]
-pub fn plan_down(cell: &Cell, anchor: &[u8], others: &[u8], grant: &DownGrant) -> [u64; 5] {
-    down(cell, anchor, others, grant).map_or_else(refused, |b| b.plan())
+pub fn plan_down<const N: usize>(cell: &Cell<N>, anchor: &[u8], others: &[u8], grant: &DownGrant) -> [u64; 5] {
+    let (cell, messages) = parts(cell);
+    asked!((cell, messages), anchor, others, |judged| down(judged, cell, grant).map_or_else(refused, |mut b| b.plan()))
 }
 
 #[inline(never)]
-pub fn forward_down(cell: &Cell, anchor: &[u8], others: &[u8], grant: &DownGrant, p: u64) -> [u64; 6] {
-    down(cell, anchor, others, grant).map_or_else(refused, |b| b.forward(p))
+pub fn forward_down<const N: usize>(cell: &Cell<N>, anchor: &[u8], others: &[u8], grant: &DownGrant, p: u64) -> [u64; 6] {
+    let (cell, messages) = parts(cell);
+    asked!((cell, messages), anchor, others, |judged| down(judged, cell, grant).map_or_else(refused, |mut b| b.forward(p)))
 }
 
 #[inline(never)]
-pub fn backward_down(cell: &Cell, anchor: &[u8], others: &[u8], grant: &DownGrant, at: [u64; 4]) -> [u64; 6] {
+pub fn backward_down<const N: usize>(
+    cell: &Cell<N>, anchor: &[u8], others: &[u8], grant: &DownGrant, at: [u64; 4],
+) -> [u64; 6] {
+    let (cell, messages) = parts(cell);
     let [t, slot, l, k] = at;
-    down(cell, anchor, others, grant).map_or_else(refused, |b| b.backward(cell, t, slot, l, k))
+    asked!((cell, messages), anchor, others, |judged| {
+        down(judged, cell, grant).map_or_else(refused, |mut b| b.backward(cell, t, slot, l, k))
+    })
 }
 
 #[inline(never)]
-pub fn plan_control(cell: &Cell, anchor: &[u8], others: &[u8], grant: &ControlGrant) -> [u64; 5] {
-    control(cell, anchor, others, grant).map_or_else(refused, |b| b.plan())
+pub fn plan_control<const N: usize>(cell: &Cell<N>, anchor: &[u8], others: &[u8], grant: &ControlGrant) -> [u64; 5] {
+    let (cell, messages) = parts(cell);
+    asked!((cell, messages), anchor, others, |judged| control(judged, cell, grant).map_or_else(refused, |mut b| b.plan()))
 }
 
 #[inline(never)]
-pub fn forward_control(cell: &Cell, anchor: &[u8], others: &[u8], grant: &ControlGrant, p: u64) -> [u64; 6] {
-    control(cell, anchor, others, grant).map_or_else(refused, |b| b.forward(p))
+pub fn forward_control<const N: usize>(
+    cell: &Cell<N>, anchor: &[u8], others: &[u8], grant: &ControlGrant, p: u64,
+) -> [u64; 6] {
+    let (cell, messages) = parts(cell);
+    asked!((cell, messages), anchor, others, |judged| control(judged, cell, grant).map_or_else(refused, |mut b| b.forward(p)))
 }
 
 #[inline(never)]
-pub fn backward_control(cell: &Cell, anchor: &[u8], others: &[u8], grant: &ControlGrant, at: [u64; 4]) -> [u64; 6] {
+pub fn backward_control<const N: usize>(
+    cell: &Cell<N>, anchor: &[u8], others: &[u8], grant: &ControlGrant, at: [u64; 4],
+) -> [u64; 6] {
+    let (cell, messages) = parts(cell);
     let [t, slot, l, k] = at;
-    control(cell, anchor, others, grant).map_or_else(refused, |b| b.backward(cell, t, slot, l, k))
+    asked!((cell, messages), anchor, others, |judged| {
+        control(judged, cell, grant).map_or_else(refused, |mut b| b.backward(cell, t, slot, l, k))
+    })
+}
+
+/// A walk's record: the position, the cell's eight numbers, the grant's, and the rest.
+type Record<'a, const G: usize> = (&'a mut u64, &'a Cell, &'a [u64; G], &'a [u64]);
+
+#[inline(always)]
+fn record<const G: usize>(walk: &mut [u64]) -> Record<'_, G> {
+    let (p, rest) = walk.split_first_mut().expect("the position");
+    let (cell, rest) = rest.split_first_chunk().expect("8 numbers");
+    let (grant, rest) = rest.split_first_chunk().expect("the grant");
+    (p, cell, grant, rest)
 }
 
 #[inline(never)]
-pub fn step_down(walk: &mut DownWalk, anchor: &[u8], others: &[u8]) -> [u64; 7] {
-    let (p, rest) = walk.split_first_mut().expect("14 numbers");
-    let (cell, grant) = rest.split_first_chunk().expect("13 numbers");
-    down(cell, anchor, others, grant.first_chunk().expect("5 numbers")).map_or_else(refused, |b| b.step(p))
+pub fn step_down<const N: usize>(walk: &mut DownWalk<N>, anchor: &[u8], others: &[u8]) -> [u64; 7] {
+    let (p, cell, grant, rest) = record(walk);
+    let messages = rest.first_chunk();
+    asked!((cell, messages), anchor, others, |judged| down(judged, cell, grant).map_or_else(refused, |mut b| b.step(p)))
 }
 
 #[inline(never)]
-pub fn step_control(walk: &mut ControlWalk, anchor: &[u8], others: &[u8]) -> [u64; 7] {
-    let (p, rest) = walk.split_first_mut().expect("13 numbers");
-    let (cell, grant) = rest.split_first_chunk().expect("12 numbers");
-    control(cell, anchor, others, grant.first_chunk().expect("4 numbers")).map_or_else(refused, |b| b.step(p))
+pub fn step_control<const N: usize>(walk: &mut ControlWalk<N>, anchor: &[u8], others: &[u8]) -> [u64; 7] {
+    let (p, cell, grant, rest) = record(walk);
+    let messages = rest.first_chunk();
+    asked!((cell, messages), anchor, others, |judged| control(judged, cell, grant).map_or_else(refused, |mut b| b.step(p)))
 }

@@ -169,7 +169,7 @@ const E: [[[u8; 4]; 5]; 2] = {
 };
 
 #[inline(never)]
-pub fn count(cell: &Cell, anchor: &[u8], others: &[u8]) -> [u64; 2] {
+pub fn count<const N: usize>(cell: &Cell<N>, anchor: &[u8], others: &[u8]) -> [u64; 2] {
     let no = super::cell::judged_number(cell, anchor, others);
     if no != 0 {
         return [no, 0];

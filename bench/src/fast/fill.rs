@@ -1,13 +1,14 @@
 //! The fill of a transmitted subframe of an NPDSCH on one port, and one element of it.
 
-use super::downlink::{down, Burst};
+use super::downlink::{asked, down, Burst};
+use super::messages::parts;
 use super::{Cell, DownGrant};
 
 const ROOT_HALF: f32 = f32::from_bits(0x3f35_04f3);
 
 /// Refusals 14 to 17.
 #[inline(always)]
-fn late(b: &Burst, cell: &Cell, i: u64, inside: bool, bits: &[u8], fits: bool, level: f32) -> u64 {
+fn late<S>(b: &Burst<S>, cell: &Cell, i: u64, inside: bool, bits: &[u8], fits: bool, level: f32) -> u64 {
     if i >= b.sent() || !inside {
         return 14;
     }
@@ -36,12 +37,9 @@ fn symbols(level: f32) -> [[f32; 2]; 4] {
     [[x, x], [x, -x], [-x, x], [-x, -x]]
 }
 
-#[inline(never)]
-pub fn fill(cell: &Cell, lent: [&[u8]; 2], grant: &DownGrant, i: u64, bits: &[u8], level: f32, out: &mut [f32]) -> u64 {
-    let b = match down(cell, lent[0], lent[1], grant) {
-        Ok(b) => b,
-        Err(no) => return no,
-    };
+/// Fills the output, or refuses.
+#[inline(always)]
+fn filled<S>(b: Burst<S>, cell: &Cell, i: u64, bits: &[u8], level: f32, out: &mut [f32]) -> u64 {
     let no = late(&b, cell, i, true, bits, out.len() == 336, level);
     if no != 0 {
         return no;
@@ -61,13 +59,19 @@ pub fn fill(cell: &Cell, lent: [&[u8]; 2], grant: &DownGrant, i: u64, bits: &[u8
     0
 }
 
-/// The refusal, the state, and the patterns of the symbol's two numbers.
 #[inline(never)]
-pub fn element(cell: &Cell, lent: [&[u8]; 2], grant: &DownGrant, at: [u64; 4], bits: &[u8], level: f32) -> (u64, u64, [f32; 2]) {
-    let b = match down(cell, lent[0], lent[1], grant) {
-        Ok(b) => b,
-        Err(no) => return (no, 0, [0.0; 2]),
-    };
+pub fn fill<const N: usize>(
+    cell: &Cell<N>, lent: [&[u8]; 2], grant: &DownGrant, i: u64, bits: &[u8], level: f32, out: &mut [f32],
+) -> u64 {
+    let (cell, messages) = parts(cell);
+    asked!((cell, messages), lent[0], lent[1], |judged| {
+        down(judged, cell, grant).map_or_else(|no| no, |b| filled(b, cell, i, bits, level, out))
+    })
+}
+
+/// The refusal, the state, and the symbol's two numbers.
+#[inline(always)]
+fn found<S>(b: Burst<S>, cell: &Cell, at: [u64; 4], bits: &[u8], level: f32) -> (u64, u64, [f32; 2]) {
     let [i, slot, l, k] = at;
     let inside = slot < 2 && l < 7 && k < 12;
     let no = late(&b, cell, i, inside, bits, true, level);
@@ -79,4 +83,14 @@ pub fn element(cell: &Cell, lent: [&[u8]; 2], grant: &DownGrant, at: [u64; 4], b
     }
     let c = b.carried(i) * b.layout.count() + b.layout.number(slot, l, k);
     (0, 4, symbols(level)[pair(bits, c as usize)])
+}
+
+#[inline(never)]
+pub fn element<const N: usize>(
+    cell: &Cell<N>, lent: [&[u8]; 2], grant: &DownGrant, at: [u64; 4], bits: &[u8], level: f32,
+) -> (u64, u64, [f32; 2]) {
+    let (cell, messages) = parts(cell);
+    asked!((cell, messages), lent[0], lent[1], |judged| {
+        down(judged, cell, grant).map_or_else(|no| (no, 0, [0.0; 2]), |b| found(b, cell, at, bits, level))
+    })
 }

@@ -121,8 +121,8 @@ pub fn put_uplink_place(x: UplinkPlace, out: &mut Page, at: usize) -> usize
 
 // A cause's word.
 fn put_word_of(cause: Cause, out: &mut Page, at: usize) -> usize
-    requires { ⌜ at + 6 ≤ 65536 ⌝ }
-    ensures { λ r. ⌜ r ≤ at + 6 ⌝ }
+    requires { ⌜ at + 7 ≤ 65536 ⌝ }
+    ensures { λ r. ⌜ r ≤ at + 7 ⌝ }
 {
     match cause {
         Cause::None => put(out, at, b"none"),
@@ -130,14 +130,15 @@ fn put_word_of(cause: Cause, out: &mut Page, at: usize) -> usize
         Cause::Npss => put(out, at, b"npss"),
         Cause::Nsss => put(out, at, b"nsss"),
         Cause::Sib1 => put(out, at, b"sib1"),
+        Cause::Message => put(out, at, b"message"),
         Cause::Bitmap => put(out, at, b"bitmap"),
     }
 }
 
 // The last value of a line, and the line's end.
 fn put_last(cause: Cause, out: &mut Page, at: usize) -> usize
-    requires { ⌜ at + 14 ≤ 65536 ⌝ }
-    ensures { λ r. ⌜ r ≤ at + 14 ⌝ }
+    requires { ⌜ at + 15 ≤ 65536 ⌝ }
+    ensures { λ r. ⌜ r ≤ at + 15 ⌝ }
 {
     let a = put(out, at, b" cause=");
     let b = put_word_of(cause, out, a);
@@ -211,6 +212,15 @@ pub fn put_skipped(is_first: bool, t: u64, cause: Cause, out: &mut Page, at: usi
     let c = put_decimal(out, b, t);
     let d = put(out, c, b" ");
     put_word_of(cause, out, d)
+}
+
+// How many more were skipped than are listed.
+pub fn put_unlisted(n: u64, out: &mut Page, at: usize) -> usize
+    requires { ⌜ at + 64 ≤ 65536 ⌝ }
+    ensures { λ r. ⌜ r ≤ at + 64 ⌝ }
+{
+    let a = put_value(out, at, b" and ", n);
+    put(out, a, b" more\n")
 }
 
 pub fn put_uplink_step(x: WalkPlace, p: u64, out: &mut Page, at: usize) -> usize

@@ -6,6 +6,10 @@ use Prim.Native.Nat.{ℕ, _+_, _≤_}
 use lib.Dec.{eqb, ltb}
 use lib.Ieee.{Float}
 use lib.ListN.{length, getD, drop}
+use Rattle.messages.specs.declared.Schedule.{Schedule}
+use Rattle.messages.specs.declared.Messages.{Messages}
+use Rattle.messages.specs.Messages.{noMessages}
+use Rattle.cell.specs.declared.CellConfig.{CellConfig}
 use Rattle.cell.specs.declared.Cell.{Cell}
 use Rattle.cell.specs.declared.CauseAnswer.{CauseAnswer}
 use Rattle.cell.specs.Usable.{causeNumber}
@@ -33,8 +37,8 @@ use Rattle.symbol.specs.declared.ElementNumbers.{ElementNumbers}
 
 -- ---- what is asked: records whose numbers stand from a place of a buffer on
 
-abbrev pub cellAt : List ℕ → ℕ → Cell
-cellAt s i = record {
+abbrev pub configAt : List ℕ → ℕ → CellConfig
+configAt s i = record {
   mode = getD s i 0;
   carrier = getD s (i + 1) 0;
   identity = getD s (i + 2) 0;
@@ -44,6 +48,29 @@ cellAt s i = record {
   sib1 = getD s (i + 6) 0;
   bits = getD s (i + 7) 0;
 }
+
+abbrev pub scheduleAt : List ℕ → ℕ → Schedule
+scheduleAt s i = record { period = getD s i 0; every = getD s (i + 1) 0; size = getD s (i + 2) 0 }
+
+-- messages: window, offset, count and four schedules, 15 numbers
+abbrev pub messagesAt : List ℕ → ℕ → Messages
+messagesAt s j = record {
+  window = getD s j 0;
+  offset = getD s (j + 1) 0;
+  count = getD s (j + 2) 0;
+  s1 = scheduleAt s (j + 3);
+  s2 = scheduleAt s (j + 6);
+  s3 = scheduleAt s (j + 9);
+  s4 = scheduleAt s (j + 12);
+}
+
+-- a buffer that ends before has none
+unfoldable pub messagesFrom : List ℕ → ℕ → Messages
+messagesFrom s j = cond (ltb (length s) (j + 15)) noMessages (messagesAt s j)
+
+-- a cell, its eight numbers from one place on and its messages from another
+abbrev pub cellIn : List ℕ → ℕ → ℕ → Cell
+cellIn s i j = record { config = configAt s i; messages = messagesFrom s j }
 
 abbrev pub windowAt : List ℕ → ℕ → Window
 windowAt s i = record { period = getD s i 0; start = getD s (i + 1) 0; length = getD s (i + 2) 0; tone = getD s (i + 3) 0 }
@@ -90,21 +117,22 @@ npdschAt s i = record {
 abbrev pub npdcchAt : List ℕ → ℕ → NpdcchGrant
 npdcchAt s i = record { n = getD s i 0; r = getD s (i + 1) 0; format = getD s (i + 2) 0; ncce = getD s (i + 3) 0 }
 
--- a walk's record: the position, the cell of a downlink grant, and the grant. An uplink walk has a cell of zeros, which is not looked at.
+-- a walk's record: the position, the eight numbers of a downlink grant's cell, the grant, and the cell's messages. An uplink walk has a cell
+-- of zeros, which is not looked at.
 abbrev pub walkOf : Cell → Grant → ℕ → Walk
 walkOf c g p = record { cell = c; grant = g; p = p }
 
 abbrev pub npuschWalk : List ℕ → List ℕ → Walk
-npuschWalk s windows = walkOf (cellAt [] 0) (Npusch (npuschAt s 1) (windowsOf windows)) (getD s 0 0)
+npuschWalk s windows = walkOf (cellIn [] 0 8) (Npusch (npuschAt s 1) (windowsOf windows)) (getD s 0 0)
 
 abbrev pub harqAckWalk : List ℕ → List ℕ → Walk
-harqAckWalk s windows = walkOf (cellAt [] 0) (HarqAck (harqAckAt s 1) (windowsOf windows)) (getD s 0 0)
+harqAckWalk s windows = walkOf (cellIn [] 0 8) (HarqAck (harqAckAt s 1) (windowsOf windows)) (getD s 0 0)
 
 abbrev pub npdschWalk : List ℕ → Walk
-npdschWalk s = walkOf (cellAt s 1) (Npdsch (npdschAt s 9)) (getD s 0 0)
+npdschWalk s = walkOf (cellIn s 1 14) (Npdsch (npdschAt s 9)) (getD s 0 0)
 
 abbrev pub npdcchWalk : List ℕ → Walk
-npdcchWalk s = walkOf (cellAt s 1) (Npdcch (npdcchAt s 9)) (getD s 0 0)
+npdcchWalk s = walkOf (cellIn s 1 13) (Npdcch (npdcchAt s 9)) (getD s 0 0)
 
 -- ---- what is answered
 

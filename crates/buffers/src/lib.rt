@@ -5,7 +5,9 @@ ghost use Prim.Native.Nat.{_+_, _^_, _≤_, _<_};
 ghost use lib.ListN.{length, getD};
 ghost use Rattle.nprach.specs.Windows.{none};
 ghost use Rattle.symbol.specs.Outgoing.{numbersOf};
-ghost use Rattle.buffers.specs.Buffers.{cellAt, windowAt, windowsOf, npuschAt, harqAckAt, npdschAt, npdcchAt};
+ghost use Rattle.buffers.specs.Buffers.{configAt, scheduleAt, messagesAt, messagesFrom, cellIn};
+ghost use Rattle.buffers.specs.Buffers.{windowAt, windowsOf};
+ghost use Rattle.buffers.specs.Buffers.{npuschAt, harqAckAt, npdschAt, npdcchAt};
 ghost use Rattle.buffers.specs.Buffers.{causeNumbers, countNumbers, uplinkPlanNumbers, downlinkPlanNumbers};
 ghost use Rattle.buffers.specs.Buffers.{uplinkPlaceNumbers, downlinkPlaceNumbers, backNumbers};
 ghost use Rattle.buffers.specs.Buffers.{downlinkBackNumbers};
@@ -13,11 +15,14 @@ ghost use Rattle.buffers.specs.Buffers.{Short2, Short3, ShortBeside, put
 ghost use Rattle.buffers.specs.Buffers.{movedBy, endOf};
 use cell::CauseAnswer;
 use cell::Cell;
+use cell::CellConfig;
 use cell::ElementCount;
 use downlink::DownlinkBack;
 use downlink::DownlinkPlace;
 use downlink::DownlinkPlan;
 use harq_ack::HarqAckGrant;
+use messages::Messages;
+use messages::Schedule;
 use npdcch::NpdcchGrant;
 use npdsch::NpdschGrant;
 use nprach::Window;
@@ -30,6 +35,9 @@ use uplink::UplinkPlan;
 
 // The numbers of windows: the count, and four of four.
 const WINDOWS: usize = 17;
+
+// The numbers of messages: window, offset, count, and four of three.
+const MESSAGES: usize = 15;
 
 // ---- buffers too short
 
@@ -64,11 +72,11 @@ pub fn short_beside(windows: &[u64], m: usize, n: usize, s: usize, t: usize) -> 
 
 // ---- what is asked: records whose numbers stand from a place of a buffer on
 
-pub fn cell_at(s: &[u64], i: usize) -> Cell
+fn config_at(s: &[u64], i: usize) -> CellConfig
     requires { ⌜ i + 8 ≤ length (now s) ⌝ }
-    ensures { λ r. ⌜ r ≡ cellAt (now (s .entry)) i ⌝ }
+    ensures { λ r. ⌜ r ≡ configAt (now (s .entry)) i ⌝ }
 {
-    Cell {
+    CellConfig {
         mode: s[i],
         carrier: s[i + 1],
         identity: s[i + 2],
@@ -78,6 +86,60 @@ pub fn cell_at(s: &[u64], i: usize) -> Cell
         sib1: s[i + 6],
         bits: s[i + 7],
     }
+}
+
+fn schedule_at(s: &[u64], i: usize) -> Schedule
+    requires { ⌜ i + 3 ≤ length (now s) ⌝ }
+    ensures { λ r. ⌜ r ≡ scheduleAt (now (s .entry)) i ⌝ }
+{
+    Schedule {
+        period: s[i],
+        every: s[i + 1],
+        size: s[i + 2],
+    }
+}
+
+fn messages_at(s: &[u64], j: usize) -> Messages
+    requires { ⌜ j + 15 ≤ length (now s) ⌝ }
+    ensures { λ r. ⌜ r ≡ messagesAt (now (s .entry)) j ⌝ }
+{
+    let s1 = schedule_at(s, j + 3);
+    let s2 = schedule_at(s, j + 6);
+    let s3 = schedule_at(s, j + 9);
+    let s4 = schedule_at(s, j + 12);
+    Messages {
+        window: s[j],
+        offset: s[j + 1],
+        count: s[j + 2],
+        s1,
+        s2,
+        s3,
+        s4,
+    }
+}
+
+// Messages whose numbers stand from a place on; a buffer that ends before has none.
+fn messages_from(s: &[u64], j: usize) -> Messages
+    ensures { λ r. ⌜ r ≡ messagesFrom (now (s .entry)) j ⌝ }
+{
+    let n = s.len();
+    if n < MESSAGES {
+        return messages::none();
+    }
+    if n - MESSAGES < j {
+        return messages::none();
+    }
+    messages_at(s, j)
+}
+
+// A cell, its eight numbers from one place on and its messages from another.
+pub fn cell_in(s: &[u64], i: usize, j: usize) -> Cell
+    requires { ⌜ i + 8 ≤ length (now s) ⌝ }
+    ensures { λ r. ⌜ r ≡ cellIn (now (s .entry)) i j ⌝ }
+{
+    let config = config_at(s, i);
+    let messages = messages_from(s, j);
+    Cell { config, messages }
 }
 
 fn window_at(s: &[u64], i: usize) -> Window

@@ -3,7 +3,7 @@ use mathlib.Core.Bool.{Bool, true, false, cond, not, _&&_, _||_}
 use mathlib.Core.List.{List, []}
 use mathlib.Core.Path.{_≡_, refl, sym, ap, ap₂, _∙_}
 use mathlib.Core.Logic.{_⊎_, inl, inr, ⊎-elim}
-use Prim.Native.Nat.{ℕ, _+_, _-_, _≤_, _<_}
+use Prim.Native.Nat.{ℕ, zero, suc, _+_, _-_, _≤_, _<_}
 use native.Mathlib.Omega.{arith}
 use lib.Dec.{eqb, ltb, leb}
 use lib.ListN.{length, take}
@@ -11,19 +11,14 @@ use borrow.Author.Tests.{ltb-false, eqb-true, leb-true, not-false, eq-eqb, ne-eq
 use Rattle.counting.proofs.Facts.{passed, chained, both-parts, either-parts, either-case}
 use Rattle.bitmap.specs.Bitmap.{bytesOf, listedLength, spareSet, badBitmap}
 use Rattle.bitmap.specs.Quick.{BitmapFits}
+use Rattle.messages.specs.Messages.{areListed}
+use Rattle.cell.specs.declared.CellConfig.{CellConfig}
 use Rattle.cell.specs.declared.Cell.{Cell}
 use Rattle.cell.specs.Bitmap.{ownBuffer, bitmapIn}
-use Rattle.cell.specs.Judge.{inBand, cellPortsListed, controlListed, numbersRefusal, formRefusal, noneAllowed, noneUsable, useRefusal, cellRefusal, judgeOf, inForceOf}
+use Rattle.cell.specs.Judge.{inBand, cellPortsListed, controlListed, numbersRefusal, configRefusal, formRefusal, noneAllowed, noneUsable, useRefusal, cellRefusal, judgeOf, inForceOf}
 use Rattle.cell.specs.Layout.{layoutOf}
+use Rattle.cell.specs.Quick.{WellFormed}
 use Rattle.elements.specs.Elements.{Valid}
-
-pub record WellFormed (c : Cell) : Type 0 where
-  pub carrier : c .carrier ≤ 1
-  pub identity : c .identity < 504
-  pub nports : (c .nports ≡ 1) ⊎ (c .nports ≡ 2)
-  pub cports : (c .cports ≡ 0) ⊎ ((c .cports ≡ 1) ⊎ ((c .cports ≡ 2) ⊎ (c .cports ≡ 4)))
-  pub control : c .control ≤ 3
-  pub sib1 : c .sib1 ≤ 11
 
 ports-by : (b : Bool) (p : ℕ) → cond b (eqb p 1 || (eqb p 2 || eqb p 4)) (eqb p 0) ≡ true → (p ≡ 0) ⊎ ((p ≡ 1) ⊎ ((p ≡ 2) ⊎ (p ≡ 4)))
 ports-by true p h =
@@ -36,7 +31,7 @@ control-by : (b : Bool) (r : ℕ) → cond b (leb 1 r && leb r 3) (eqb r 0) ≡ 
 control-by true r h = leb-true r 3 (both-parts (leb 1 r) (leb r 3) h .1)
 control-by false r h = omega (arith, eqb-true r 0 h)
 
-pub numbers-good : (c : Cell) → numbersRefusal c ≡ 0 → WellFormed c
+pub numbers-good : (c : CellConfig) → numbersRefusal c ≡ 0 → WellFormed c
 unfolding numbersRefusal
 numbers-good c e =
     let p1 = passed (ltb 3 (c .mode) || ltb 1 (c .carrier)) 1 _ (omega arith) e in
@@ -62,18 +57,38 @@ bitmap-good bits own h =
     let b = either-parts (ltb (length own) (bytesOf bits)) (spareSet bits own) (a .1) in
     record { listed = not-false (listedLength bits) (a .0); long = ltb-false (length own) (bytesOf bits) (b .0) }
 
+pub config-bitmap : (c : CellConfig) (own : List ℕ) → configRefusal c own ≡ 0 → BitmapFits (c .bits) own
+unfolding configRefusal
+config-bitmap c own e =
+    bitmap-good (c .bits) own
+    (passed (badBitmap (c .bits) own) 7 0 (omega arith) (chained (numbersRefusal c) (cond (badBitmap (c .bits) own) 7 0) e .1) .0)
+
 module _ (c : Cell) (own : List ℕ) where
-  form-parts : formRefusal c own ≡ 0 → (numbersRefusal c ≡ 0) × (badBitmap (c .bits) own ≡ false)
-  unfolding formRefusal
+  form-parts : formRefusal c own ≡ 0
+      → (numbersRefusal (c .config) ≡ 0) × (badBitmap (c .config .bits) own ≡ false) × (not (areListed (c .messages)) ≡ false)
+  unfolding formRefusal configRefusal
   form-parts e =
-      let a = chained (numbersRefusal c) (cond (badBitmap (c .bits) own) 7 0) e in
-      (a .0, passed (badBitmap (c .bits) own) 7 0 (omega arith) (a .1) .0)
+      let a = chained (configRefusal (c .config) own) (cond (not (areListed (c .messages))) 21 0) e in
+      let b = chained (numbersRefusal (c .config)) (cond (badBitmap (c .config .bits) own) 7 0) (a .0) in
+      (b .0, passed (badBitmap (c .config .bits) own) 7 0 (omega arith) (b .1) .0, passed (not (areListed (c .messages))) 21 0 (omega arith) (a .1) .0)
 
-  pub form-numbers : formRefusal c own ≡ 0 → WellFormed c
-  form-numbers e = numbers-good c (form-parts e .0)
+  -- listed messages do not matter there
+  pub form-config : areListed (c .messages) ≡ true → formRefusal c own ≡ configRefusal (c .config) own
+  unfolding formRefusal
+  form-config l = rw l (by (configRefusal (c .config) own))
+    where
+      by : (n : ℕ) → cond (eqb n 0) 0 n ≡ n
+      by zero = refl
+      by (suc n) = ap (λ (x : Bool). cond x 0 (suc n)) (ne-eqb (suc n) 0 (λ z. omega arith))
 
-  pub form-bitmap : formRefusal c own ≡ 0 → BitmapFits (c .bits) own
-  form-bitmap e = bitmap-good (c .bits) own (form-parts e .1)
+  pub form-numbers : formRefusal c own ≡ 0 → WellFormed (c .config)
+  form-numbers e = numbers-good (c .config) (form-parts e .0)
+
+  pub form-bitmap : formRefusal c own ≡ 0 → BitmapFits (c .config .bits) own
+  form-bitmap e = bitmap-good (c .config .bits) own (form-parts e .1)
+
+  pub form-messages : formRefusal c own ≡ 0 → areListed (c .messages) ≡ true
+  form-messages e = not-false (areListed (c .messages)) (form-parts e .2)
 
   -- an accepted cell is well-formed
   pub accepted-form : cellRefusal c own ≡ 0 → formRefusal c own ≡ 0
@@ -91,23 +106,31 @@ module _ (c : Cell) (own : List ℕ) where
 -- ---- the bitmap in force
 
 module _ (c : Cell) (anchor other : List ℕ) where
-  pub accepted-bitmap : judgeOf c anchor other ≡ 0 → BitmapFits (c .bits) (ownBuffer c anchor other)
+  pub accepted-bitmap : judgeOf c anchor other ≡ 0 → BitmapFits (c .config .bits) (ownBuffer (c .config) anchor other)
   unfolding judgeOf
-  accepted-bitmap e = form-bitmap c (ownBuffer c anchor other) (accepted-form c (ownBuffer c anchor other) e)
+  accepted-bitmap e = form-bitmap c (ownBuffer (c .config) anchor other) (accepted-form c (ownBuffer (c .config) anchor other) e)
 
-  pub in-force : (n : ℕ) (own : List ℕ) → judgeOf c anchor other ≡ 0 → n ≡ bytesOf (c .bits) → own ≡ ownBuffer c anchor other
+  pub accepted-numbers : judgeOf c anchor other ≡ 0 → WellFormed (c .config)
+  unfolding judgeOf
+  accepted-numbers e = form-numbers c (ownBuffer (c .config) anchor other) (accepted-form c (ownBuffer (c .config) anchor other) e)
+
+  pub accepted-messages : judgeOf c anchor other ≡ 0 → areListed (c .messages) ≡ true
+  unfolding judgeOf
+  accepted-messages e = form-messages c (ownBuffer (c .config) anchor other) (accepted-form c (ownBuffer (c .config) anchor other) e)
+
+  pub in-force : (n : ℕ) (own : List ℕ) → judgeOf c anchor other ≡ 0 → n ≡ bytesOf (c .config .bits) → own ≡ ownBuffer (c .config) anchor other
       → take (n - 0) own ≡ inForceOf c anchor other
   unfolding inForceOf
   in-force n own j hn ho =
-      let z : n - 0 ≡ bytesOf (c .bits) = omega arith in
-      ap₂ take z ho ∙ sym (ap (λ (b : Bool). cond b (bitmapIn c (ownBuffer c anchor other)) []) (eq-eqb (judgeOf c anchor other) 0 j))
+      let z : n - 0 ≡ bytesOf (c .config .bits) = omega arith in
+      ap₂ take z ho ∙ sym (ap (λ (b : Bool). cond b (bitmapIn (c .config) (ownBuffer (c .config) anchor other)) []) (eq-eqb (judgeOf c anchor other) 0 j))
 
   pub none-in-force : (judgeOf c anchor other ≡ 0 → ⊥) → [] ≡ inForceOf c anchor other
   unfolding inForceOf
-  none-in-force n = sym (ap (λ (b : Bool). cond b (bitmapIn c (ownBuffer c anchor other)) []) (ne-eqb (judgeOf c anchor other) 0 n))
+  none-in-force n = sym (ap (λ (b : Bool). cond b (bitmapIn (c .config) (ownBuffer (c .config) anchor other)) []) (ne-eqb (judgeOf c anchor other) 0 n))
 
 -- its layout
-pub layout-valid : (c : Cell) → WellFormed c → Valid (layoutOf c)
+pub layout-valid : (c : CellConfig) → WellFormed c → Valid (layoutOf c)
 layout-valid c w = record {
   shift = omega arith;
   narrowband = ⊎-elim (λ e. (omega arith, omega arith)) (λ e. (omega arith, omega arith)) (w .nports);

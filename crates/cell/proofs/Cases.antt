@@ -1,6 +1,6 @@
--- P10 and P11 of 01, as 02 L2 has them, and cells with no bitmap: for every cell whose numbers are listed. Of the two buffers only the
+-- P10 and P11 of 01, as 02 L2 has them, and cells with no bitmap: for every cell whose numbers and messages are listed. Of the two buffers only the
 -- carrier's own is read, and it is the one given here.
-use mathlib.Core.Bool.{Bool, true, false, not, _&&_, _||_}
+use mathlib.Core.Bool.{Bool, true, false, cond, not, _&&_, _||_}
 use mathlib.Core.List.{List, [], _∷_}
 use mathlib.Core.Path.{_≡_, refl, sym, _∙_}
 use Prim.Native.Nat.{ℕ, _%_, _<_}
@@ -15,11 +15,15 @@ use Rattle.counting.proofs.Rank.{rank-zero, rank-strict, rank-none, rank-same}
 use Rattle.counting.specs.Bits.{bitOf}
 use Rattle.bitmap.specs.Bitmap.{bytesOf, listedLength, badBitmap, allowed}
 use Rattle.sync.proofs.Taken.{taken}
+use Rattle.messages.specs.Messages.{areListed}
+use Rattle.messages.proofs.Repeating.{remaining-within}
 use Rattle.cell.specs.declared.Cell.{Cell}
 use Rattle.cell.specs.Bitmap.{bitmapIn}
-use Rattle.cell.specs.Usable.{period, why, isAnchor, usable}
-use Rattle.cell.specs.Judge.{numbersRefusal, formRefusal, noneAllowed, noneUsable, useRefusal, cellRefusal}
-use Rattle.cell.proofs.Taken.{usable-is}
+use Rattle.cell.specs.Usable.{period, isAnchor, anchorCause, free, usable}
+use Rattle.cell.specs.Judge.{numbersRefusal, configRefusal, formRefusal, noneAllowed, noneUsable, useRefusal, cellRefusal}
+use Rattle.cell.specs.Quick.{laysMessages}
+use Rattle.cell.proofs.Taken.{free-is, usable-is, unlaid}
+use Rattle.cell.proofs.Repeating.{short, none-free}
 
 -- ten bits with only 0 and 5 set
 abbrev zeroAndFive : List ℕ
@@ -41,31 +45,43 @@ some-pass u t h e = ne-eqb (rank u period) 0 (λ z. omega (arith, rank-strict u 
 none-pass : (u : ℕ → Bool) → ((t : ℕ) → u t ≡ false) → eqb (rank u period) 0 ≡ true
 none-pass u h = eq-eqb (rank u period) 0 (rank-none u 0 period (λ t a b. h t) ∙ rank-zero u)
 
--- ---- a cell whose numbers and bitmap are listed
+-- ---- a cell whose numbers, bitmap and messages are listed
 
-module _ (c : Cell) (own : List ℕ) (numbers : numbersRefusal c ≡ 0) (bitmap : badBitmap (c .bits) own ≡ false) where
+module _ (c : Cell) (own : List ℕ) (numbers : numbersRefusal (c .config) ≡ 0) (bitmap : badBitmap (c .config .bits) own ≡ false)
+    (messages : areListed (c .messages) ≡ true) where
   no-subframe : noneAllowed c own ≡ true → cellRefusal c own ≡ 8
-  unfolding cellRefusal formRefusal useRefusal
-  no-subframe a = rw (numbers, bitmap, a) refl
+  unfolding cellRefusal formRefusal configRefusal useRefusal
+  no-subframe a = rw (numbers, bitmap, messages, a) refl
 
   all-taken : noneAllowed c own ≡ false → noneUsable c own ≡ true → cellRefusal c own ≡ 18
-  unfolding cellRefusal formRefusal useRefusal
-  all-taken a u = rw (numbers, bitmap, a, u) refl
+  unfolding cellRefusal formRefusal configRefusal useRefusal
+  all-taken a u = rw (numbers, bitmap, messages, a, u) refl
 
-  some-usable : (t : ℕ) → t < period → usable c (bitmapIn c own) t ≡ true → cellRefusal c own ≡ 0
-  unfolding cellRefusal formRefusal useRefusal
-  some-usable t h e =
-      let a : noneAllowed c own ≡ false = some-pass _ t h (both-parts _ _ (sym (usable-is c (bitmapIn c own) t) ∙ e) .0) in
-      let u : noneUsable c own ≡ false = some-pass (usable c (bitmapIn c own)) t h e in
-      rw (numbers, bitmap, a, u) refl
+  -- with no schedule what is free is usable
+  some-free : c .messages .count ≡ 0 → (t : ℕ) → t < period → free (c .config) (bitmapIn (c .config) own) t ≡ true → cellRefusal c own ≡ 0
+  unfolding cellRefusal formRefusal configRefusal useRefusal
+  some-free z t h e =
+      let a : noneAllowed c own ≡ false = some-pass _ t h (both-parts _ _ (sym (free-is (c .config) (bitmapIn (c .config) own) t) ∙ e) .0) in
+      let u : noneUsable c own ≡ false = some-pass (usable c (bitmapIn (c .config) own)) t h (unlaid c (bitmapIn (c .config) own) t z ∙ e) in
+      rw (numbers, bitmap, messages, a, u) refl
 
--- ---- no bitmap: subframe 1 is always usable
+-- what is not free is not usable
+not-free : (c : Cell) (b : List ℕ) (t : ℕ) → free (c .config) b t ≡ false → usable c b t ≡ false
+not-free c b t h =
+    usable-is c b t ∙ rw (h, remaining-within (c .messages) (free (c .config) b) t h) (by (laysMessages c))
+  where
+    by : (x : Bool) → cond x false false ≡ false
+    by true = refl
+    by false = refl
 
-pub unmapped : (c : Cell) (own : List ℕ) → numbersRefusal c ≡ 0 → c .bits ≡ 0 → cellRefusal c own ≡ 0
+-- ---- no bitmap: subframe 1 is always free
+
+pub unmapped : (c : Cell) (own : List ℕ) → numbersRefusal (c .config) ≡ 0 → areListed (c .messages) ≡ true → c .messages .count ≡ 0
+    → c .config .bits ≡ 0 → cellRefusal c own ≡ 0
 unfolding badBitmap listedLength bytesOf allowed
-unmapped c own numbers b =
-    some-usable c own numbers (rw (b, le-ltb (length own) 0 (omega arith)) refl) 1 (omega arith)
-    (usable-is c (bitmapIn c own) 1 ∙ rw (b, and-none (isAnchor c)) refl)
+unmapped c own numbers messages z b =
+    some-free c own numbers (rw (b, le-ltb (length own) 0 (omega arith)) refl) messages z 1 (omega arith)
+    (free-is (c .config) (bitmapIn (c .config) own) 1 ∙ rw (b, and-none (isAnchor (c .config))) refl)
 
 -- ---- P10: the anchor takes subframes 0 and 5
 
@@ -76,53 +92,60 @@ shut true true second rest t = refl
 shut true false true rest t = refl
 shut true false false rest t = absurd t
 
-module _ (c : Cell) (numbers : numbersRefusal c ≡ 0) (b : c .bits ≡ 10) where
-  fits : badBitmap (c .bits) zeroAndFive ≡ false
+module _ (c : Cell) (numbers : numbersRefusal (c .config) ≡ 0) (messages : areListed (c .messages) ≡ true) (b : c .config .bits ≡ 10) where
+  fits : badBitmap (c .config .bits) zeroAndFive ≡ false
   unfolding badBitmap listedLength bytesOf
   fits = rw b refl
 
-  pub ten-anchor : c .carrier ≡ 0 → cellRefusal c zeroAndFive ≡ 18
+  pub ten-anchor : c .config .carrier ≡ 0 → cellRefusal c zeroAndFive ≡ 18
   unfolding bytesOf allowed
-  ten-anchor a = all-taken c zeroAndFive numbers fits (some-pass _ 0 (omega arith) (rw b refl)) (none-pass _ never)
+  ten-anchor a = all-taken c zeroAndFive numbers fits messages (some-pass _ 0 (omega arith) (rw b refl)) (none-pass _ never)
     where
-      never : (t : ℕ) → usable c (bitmapIn c zeroAndFive) t ≡ false
+      never : (t : ℕ) → usable c (bitmapIn (c .config) zeroAndFive) t ≡ false
       never t =
-          usable-is c (bitmapIn c zeroAndFive) t
+          not-free c (bitmapIn (c .config) zeroAndFive) t (free-is (c .config) (bitmapIn (c .config) zeroAndFive) t
           ∙ rw (b, a)
           (shut (bitOf zeroAndFive (t % 10)) (eqb (t % 10) 0) (eqb (t % 10) 5) _
-          (each-at 10 (λ r. not (bitOf zeroAndFive r) || (eqb r 0 || eqb r 5)) tt (t % 10) (omega arith)))
+          (each-at 10 (λ r. not (bitOf zeroAndFive r) || (eqb r 0 || eqb r 5)) tt (t % 10) (omega arith))))
 
-  pub ten-other : c .carrier ≡ 1 → cellRefusal c zeroAndFive ≡ 0
+  pub ten-other : c .messages .count ≡ 0 → c .config .carrier ≡ 1 → cellRefusal c zeroAndFive ≡ 0
   unfolding bytesOf allowed
-  ten-other a =
-      some-usable c zeroAndFive numbers fits 0 (omega arith)
-      (usable-is c (bitmapIn c zeroAndFive) 0 ∙ rw (b, ne-eqb (c .carrier) 0 (λ z. omega arith)) refl)
+  ten-other z a =
+      some-free c zeroAndFive numbers fits messages z 0 (omega arith)
+      (free-is (c .config) (bitmapIn (c .config) zeroAndFive) 0 ∙ rw (b, ne-eqb (c .config .carrier) 0 (λ y. omega arith)) refl)
 
   -- a bitmap that allows nothing, on either carrier
   pub ten-nothing : cellRefusal c nothing ≡ 8
   unfolding badBitmap listedLength bytesOf allowed
   ten-nothing =
-      no-subframe c nothing numbers (rw b refl)
+      no-subframe c nothing numbers (rw b refl) messages
       (none-pass _ (λ t. rw b (alike-eq (bitOf nothing (t % 10)) false (each-at 10 (λ r. alike (bitOf nothing r) false) tt (t % 10) (omega arith)))))
 
 -- ---- P11: SIB1 with 16 copies takes subframe 4 of every even frame, with 8 copies not of frame 16
 
 -- every fourth frame is even
-all-sixteen : rank (λ t. allowed onlyFour 40 t && not (taken 0 2 t)) period ≡ 0
+all-sixteen : rank (λ t. allowed onlyFour 40 t && not (taken 0 2 t)) short ≡ 0
 unfolding rank allowed
 all-sixteen = refl
 
-module _ (c : Cell) (numbers : numbersRefusal c ≡ 0) (a : c .carrier ≡ 0) (i : c .identity ≡ 0) (b : c .bits ≡ 40) where
-  four-fits : badBitmap (c .bits) onlyFour ≡ false
+module _ (c : Cell) (numbers : numbersRefusal (c .config) ≡ 0) (messages : areListed (c .messages) ≡ true) (a : c .config .carrier ≡ 0)
+    (i : c .config .identity ≡ 0) (b : c .config .bits ≡ 40) where
+  four-fits : badBitmap (c .config .bits) onlyFour ≡ false
   unfolding badBitmap listedLength bytesOf
   four-fits = rw b refl
 
-  pub forty-16 : c .sib1 ≡ 2 → cellRefusal c onlyFour ≡ 18
+  four-listed : listedLength (c .config .bits) ≡ true
+  unfolding listedLength
+  four-listed = rw b refl
+
+  pub forty-16 : c .config .sib1 ≡ 2 → cellRefusal c onlyFour ≡ 18
   unfolding bytesOf allowed
   forty-16 s =
-      all-taken c onlyFour numbers four-fits (some-pass _ 4 (omega arith) (rw b refl))
-      (eq-eqb _ 0 (rank-same _ _ period (λ t h. usable-is c (bitmapIn c onlyFour) t ∙ rw (a, i, b, s) refl) ∙ all-sixteen))
+      all-taken c onlyFour numbers four-fits messages (some-pass _ 4 (omega arith) (rw b refl))
+      (none-pass _ (λ t. not-free c (bitmapIn (c .config) onlyFour) t
+      (none-free (c .config) (bitmapIn (c .config) onlyFour) four-listed
+      (rank-same _ _ short (λ x h. free-is (c .config) (bitmapIn (c .config) onlyFour) x ∙ rw (a, i, b, s) refl) ∙ all-sixteen) t)))
 
-  pub forty-8 : c .sib1 ≡ 1 → cellRefusal c onlyFour ≡ 0
-  unfolding bytesOf allowed why
-  forty-8 s = some-usable c onlyFour numbers four-fits 164 (omega arith) (rw (a, i, b, s) refl)
+  pub forty-8 : c .messages .count ≡ 0 → c .config .sib1 ≡ 1 → cellRefusal c onlyFour ≡ 0
+  unfolding bytesOf allowed free anchorCause
+  forty-8 z s = some-free c onlyFour numbers four-fits messages z 164 (omega arith) (rw (a, i, b, s) refl)

@@ -1,4 +1,4 @@
--- The masks of a well-formed cell say of each subframe whether a cause stands against it, and what is said of the pattern holds of the cell.
+-- The masks of a well-formed cell say of each subframe whether it is free, and what is left in the pattern is what is usable.
 use mathlib.Core.Bool.{Bool, true, false, cond, not, _&&_}
 use mathlib.Core.List.{List}
 use mathlib.Core.Path.{_≡_, refl, sym, ap, ap₂, _∙_, subst, fun-ext}
@@ -24,20 +24,20 @@ use Rattle.bitmap.specs.Quick.{Loaded, BitmapFits}
 use Rattle.bitmap.proofs.Forty.{allowed-forty, allowed-front}
 use Rattle.sync.specs.Quick.{anchorPattern}
 use Rattle.sync.proofs.Taken.{taken, anchor-regular, anchor-allows}
+use Rattle.messages.specs.Messages.{remaining}
+use Rattle.subframes.specs.Subframes.{leftIn}
+use Rattle.cell.specs.declared.CellConfig.{CellConfig}
 use Rattle.cell.specs.declared.Cell.{Cell}
-use Rattle.cell.specs.declared.Cause.{Cause}
-use Rattle.cell.specs.declared.Cause.the-variants.{None}
 use Rattle.cell.specs.Bitmap.{bitmapIn}
-use Rattle.cell.specs.Usable.{period, isAnchor, why, none, usable}
-use Rattle.cell.specs.Judge.{formRefusal, cellRefusal}
-use Rattle.cell.specs.Quick.{Shows, whyNot, seen}
-use Rattle.cell.proofs.Taken.{usable-is, why-by, anchorTurns, anchor-whole}
+use Rattle.cell.specs.Usable.{period, isAnchor, free, why, usable}
+use Rattle.cell.specs.Quick.{Shows, laysMessages, whyNot, seen}
+use Rattle.cell.proofs.Taken.{free-is, usable-is, why-is}
 
 and-true : (b : Bool) → (b && true) ≡ b
 and-true true = refl
 and-true false = refl
 
-module _ (c : Cell) (own : List ℕ) (m : ℕ) (fits : BitmapFits (c .bits) own) (l : Loaded own (c .bits) m) where
+module _ (c : CellConfig) (own : List ℕ) (m : ℕ) (fits : BitmapFits (c .bits) own) (l : Loaded own (c .bits) m) where
   -- a digit of the bitmap allows its subframe
   digit-allows : (t : ℕ) → maskBit m (t % span) ≡ allowed (bitmapIn c own) (c .bits) t
   digit-allows t =
@@ -54,11 +54,11 @@ module _ (c : Cell) (own : List ℕ) (m : ℕ) (fits : BitmapFits (c .bits) own)
   digit-of-span : (i : ℕ) → i < span → maskBit m i ≡ allowed (bitmapIn c own) (c .bits) (0 + i)
   digit-of-span i h = l .digits i h ∙ sym (allowed-front own (c .bits) i (fits .listed)) ∙ ap (allowed (bitmapIn c own) (c .bits)) (sym (zero-add i))
 
-  allowed-rank : rank (allowed (bitmapIn c own) (c .bits)) period ≡ 64 * ones m
+  allowed-rank : rank (allowed (bitmapIn c own) (c .bits)) period ≡ 1024 * ones m
   allowed-rank =
       let u : ℕ → Bool = allowed (bitmapIn c own) (c .bits) in
       let e : rank u span ≡ ones m = omega (arith, span-all u m 0 span (l .small) digit-of-span, rank-zero u, ap (rank u) (zero-add span)) in
-      rank-whole u span allowed-again 64 ∙ ap (λ (x : ℕ). 64 * x) e
+      rank-whole u span allowed-again 1024 ∙ ap (λ (x : ℕ). 1024 * x) e
 
   pub none-allowed : m ≡ 0 → rank (allowed (bitmapIn c own) (c .bits)) period ≡ 0
   none-allowed e = omega (arith, allowed-rank, ap ones e, ones-none)
@@ -69,12 +69,12 @@ module _ (c : Cell) (own : List ℕ) (m : ℕ) (fits : BitmapFits (c .bits) own)
   -- ---- refusal 18 and the pattern
 
   -- from each subframe to the bits of the masks
-  bits-of : (p : Pattern) → ((t : ℕ) → allows p t ≡ usable c (bitmapIn c own) t) → (s i : ℕ) → i < span
-      → maskBit (maskAt p s) i ≡ none (why c (bitmapIn c own) (span * s + i))
+  bits-of : (p : Pattern) → ((t : ℕ) → allows p t ≡ free c (bitmapIn c own) t) → (s i : ℕ) → i < span
+      → maskBit (maskAt p s) i ≡ free c (bitmapIn c own) (span * s + i)
   bits-of p same s i h = mask-bits p s i h ∙ same (span * s + i)
 
-  usable-by : (t : ℕ) (b : Bool) → isAnchor c ≡ b → usable c (bitmapIn c own) t ≡ (allowed (bitmapIn c own) (c .bits) t && not (b && taken (c .identity) (c .sib1) t))
-  usable-by t b e = usable-is c (bitmapIn c own) t ∙ ap (λ (x : Bool). allowed (bitmapIn c own) (c .bits) t && not (x && taken (c .identity) (c .sib1) t)) e
+  free-by : (t : ℕ) (b : Bool) → isAnchor c ≡ b → free c (bitmapIn c own) t ≡ (allowed (bitmapIn c own) (c .bits) t && not (b && taken (c .identity) (c .sib1) t))
+  free-by t b e = free-is c (bitmapIn c own) t ∙ ap (λ (x : Bool). allowed (bitmapIn c own) (c .bits) t && not (x && taken (c .identity) (c .sib1) t)) e
 
   -- ---- on the anchor: what both the bitmap and the anchor leave
 
@@ -107,10 +107,8 @@ module _ (c : Cell) (own : List ℕ) (m : ℕ) (fits : BitmapFits (c .bits) own)
           usual-small = omega (arith, and-le-l m (p .usual), l .small);
           sib1-small = omega (arith, and-le-l m (p .sib1), l .small);
         };
-        times = anchorTurns (c .sib1);
-        whole = anchor-whole (c .identity) (c .sib1);
         bits = bits-of left λ t.
-            left-allows t ∙ ap₂ (λ (x y : Bool). x && y) (digit-allows t) (anchor-allows (c .identity) (c .sib1) t) ∙ sym (usable-by t true e);
+            left-allows t ∙ ap₂ (λ (x y : Bool). x && y) (digit-allows t) (anchor-allows (c .identity) (c .sib1) t) ∙ sym (free-by t true e);
       }
 
   -- ---- on a non-anchor the bitmap alone decides
@@ -129,57 +127,35 @@ module _ (c : Cell) (own : List ℕ) (m : ℕ) (fits : BitmapFits (c .bits) own)
   pub shows-other : isAnchor c ≡ false → Shows c (bitmapIn c own) alone
   shows-other e = record {
     regular = record { fits = omega arith; few = omega arith; usual-small = l .small; sib1-small = l .small };
-    times = 16;
-    whole = refl;
-    bits = bits-of alone λ t. alone-allows t ∙ digit-allows t ∙ sym (and-true (allowed (bitmapIn c own) (c .bits) t)) ∙ sym (usable-by t false e);
+    bits = bits-of alone λ t. alone-allows t ∙ digit-allows t ∙ sym (and-true (allowed (bitmapIn c own) (c .bits) t)) ∙ sym (free-by t false e);
   }
 
 -- ---- from the pattern to the usable subframes
 
-module _ (c : Cell) (b : List ℕ) (p : Pattern) (s : Shows c b p) where
-  pub same : (t : ℕ) → allows p t ≡ usable c b t
+module _ (c : Cell) (b : List ℕ) (p : Pattern) (laid : Bool) (s : Shows (c .config) b p) (l : laid ≡ laysMessages c) where
+  free-at : (t : ℕ) → allows p t ≡ free (c .config) b t
   unfolding allows
-  same t =
+  free-at t =
       let e : span * (t / span) + t % span ≡ t = omega arith in
-      s .bits (t / span) (t % span) (omega arith) ∙ ap (usable c b) e
+      s .bits (t / span) (t % span) (omega arith) ∙ ap (free (c .config) b) e
 
-  pub same-test : allows p ≡ usable c b
+  free-test : allows p ≡ free (c .config) b
+  free-test = fun-ext free-at
+
+  -- what is left in the pattern is usable
+  pub same : (t : ℕ) → leftIn p laid (c .messages) t ≡ usable c b t
+  unfolding leftIn
+  same t =
+      rw (l, free-test) (at (laysMessages c) (remaining (c .messages) (free (c .config) b)) (free (c .config) b)) ∙ sym (usable-is c b t)
+    where
+      at : (b : Bool) (x y : ℕ → Bool) → cond b x y t ≡ cond b (x t) (y t)
+      at true x y = refl
+      at false x y = refl
+
+  pub same-test : leftIn p laid (c .messages) ≡ usable c b
   same-test = fun-ext same
 
   -- the cause by the pattern is the cause
-  pub seen-is : (t : ℕ) → seen c p t ≡ why c b t
-  unfolding seen
-  seen-is t = ap (λ (u : Bool). cond u None (whyNot c t)) (same t) ∙ why-by c b t
-
-  period-rank : rank (usable c b) period ≡ s .times * rank (allows p) (periodOf p)
-  period-rank =
-      ap (λ (u : ℕ → Bool). rank u period) (sym same-test) ∙ ap (rank (allows p)) (sym (s .whole))
-      ∙ rank-whole (allows p) (periodOf p) (repeats p (s .regular)) (s .times)
-
-  some-turns : 0 < s .times
-  some-turns = ⊎-elim (λ h. h) (λ h. absurd (none h)) (order 0 (s .times))
-    where
-      none : s .times ≤ 0 → ⊥
-      none h =
-          let z : s .times ≡ 0 = omega arith in
-          omega (arith, sym (s .whole) ∙ ap (λ (x : ℕ). x * periodOf p) z ∙ zero-mul (periodOf p))
-
-  -- refusal 18, either way
-  pub some-usable : 0 < rank (allows p) (periodOf p) → 0 < rank (usable c b) period
-  some-usable h = omega (arith, period-rank, mul-pos some-turns h)
-
-  pub none-usable : rank (allows p) (periodOf p) ≡ 0 → rank (usable c b) period ≡ 0
-  none-usable h = period-rank ∙ ap (λ (x : ℕ). s .times * x) h ∙ mul-zero (s .times)
-
-  pub usable-repeats : (t : ℕ) → usable c b (t + period) ≡ usable c b t
-  usable-repeats t =
-      sym (same (t + period)) ∙ ap (λ (x : ℕ). allows p (t + x)) (sym (s .whole))
-      ∙ repeats-times (allows p) (periodOf p) (repeats p (s .regular)) (s .times) t ∙ same t
-
-  pub select-usable : 0 < rank (allows p) (periodOf p) → (f j : ℕ) → select (allows p) (periodOf p) f j ≡ select (usable c b) period f j
-  select-usable some f j =
-      let again : (t : ℕ) → allows p (t + period) ≡ allows p t =
-      λ t. same (t + period) ∙ usable-repeats t ∙ sym (same t) in
-      let positive : 0 < rank (allows p) period = subst (λ (u : ℕ → Bool). 0 < rank u period) (sym same-test) (some-usable some) in
-      select-same (allows p) (periodOf p) period (repeats p (s .regular)) again some positive f j
-      ∙ ap (λ (u : ℕ → Bool). select u period f j) same-test
+  pub seen-is : (t : ℕ) → seen c p laid t ≡ why c b t
+  unfolding seen whyNot
+  seen-is t = rw (same t, l, free-at t) (why-is c b t)

@@ -5,12 +5,12 @@ use Prim.Native.Nat.{ℕ}
 use lib.Dec.{eqb}
 use lib.ListN.{take}
 use Rattle.bitmap.specs.Bitmap.{bytesOf}
-use Rattle.cell.specs.declared.Cell.{Cell}
+use Rattle.cell.specs.declared.CellConfig.{CellConfig}
 
 -- the carrier's own buffer, of the anchor's and the non-anchor's
-abbrev pub ownBuffer : Cell → List ℕ → List ℕ → List ℕ
+abbrev pub ownBuffer : CellConfig → List ℕ → List ℕ → List ℕ
 ownBuffer c anchor other = cond (eqb (c .carrier) 0) anchor other
 
 -- the bitmap: the first bytes of the carrier's own buffer
-abbrev pub bitmapIn : Cell → List ℕ → List ℕ
+abbrev pub bitmapIn : CellConfig → List ℕ → List ℕ
 bitmapIn c own = take (bytesOf (c .bits)) own

@@ -1,62 +1,87 @@
--- What the quick code chooses: the cell's masks, and the cause read off a mask. No definition of 01 cites this file.
-use mathlib.Core.Bool.{cond, _&&_}
+-- What the quick code chooses: the cell's masks, and the cause read off a mask. No definition of 01 or 02 cites this file.
+use mathlib.Core.Bool.{Bool, true, cond, _&&_}
 use mathlib.Core.List.{List}
 use mathlib.Core.Path.{_≡_}
-use Prim.Native.Nat.{ℕ, _+_, _*_, _<_}
-use lib.Dec.{eqb}
+use mathlib.Core.Logic.{_⊎_}
+use Prim.Native.Nat.{ℕ, _+_, _*_, _≤_, _<_}
+use lib.Dec.{eqb, ltb}
 use Rattle.counting.specs.Counting.{rank}
 use Rattle.spans.specs.declared.Pattern.{Pattern}
-use Rattle.spans.specs.Pattern.{span, maskBit, maskAt, allows, periodOf, Regular}
+use Rattle.spans.specs.Pattern.{span, maskBit, maskAt, allows, Regular}
 use Rattle.bitmap.specs.Quick.{BitmapFits, Loaded}
-use Rattle.sync.specs.Sync.{npbch, npss, nsss, sib1}
+use Rattle.messages.specs.declared.Messages.{Messages}
+use Rattle.messages.specs.Quick.{isSilent}
+use Rattle.subframes.specs.Subframes.{leftIn, Searchable}
+use Rattle.cell.specs.declared.CellConfig.{CellConfig}
 use Rattle.cell.specs.declared.Cell.{Cell}
 use Rattle.cell.specs.declared.Cause.{Cause}
-use Rattle.cell.specs.declared.Cause.the-variants.{None, Npbch, Npss, Nsss, Sib1, Bitmap}
+use Rattle.cell.specs.declared.Cause.the-variants.{None, Message, Bitmap}
 use Rattle.cell.specs.declared.CauseAnswer.{CauseAnswer}
 use Rattle.cell.specs.declared.Verdict.{Verdict}
 use Rattle.cell.specs.Bitmap.{bitmapIn}
-use Rattle.cell.specs.Usable.{period, isAnchor, why, none}
+use Rattle.cell.specs.Usable.{isAnchor, none, anchorCause, free, why}
 use Rattle.grid.specs.Grid.{elements}
 use Rattle.elements.specs.Elements.{eligible}
 use Rattle.cell.specs.declared.ElementCount.{ElementCount}
 use Rattle.cell.specs.Layout.{layoutOf}
 use Rattle.cell.specs.Judge.{cellRefusal}
 
--- bit i of a span's mask says that no cause stands against subframe i of the span; and a period has the pattern a whole number of times
-pub record Shows (c : Cell) (b : List ℕ) (p : Pattern) : Type 0 where
+-- bit i of a span's mask says whether subframe i of the span is free
+pub record Shows (c : CellConfig) (b : List ℕ) (p : Pattern) : Type 0 where
   pub regular : Regular p
-  pub times : ℕ
-  pub whole : times * periodOf p ≡ period
-  pub bits : (s i : ℕ) → i < span → maskBit (maskAt p s) i ≡ none (why c b (span * s + i))
+  pub bits : (s i : ℕ) → i < span → maskBit (maskAt p s) i ≡ free c b (span * s + i)
 
 -- p shows the cell with whichever bitmap m was loaded from
-pub record ShowsLoaded (c : Cell) (m : ℕ) (p : Pattern) : Type 0 where
+pub record ShowsLoaded (c : CellConfig) (m : ℕ) (p : Pattern) : Type 0 where
   pub shows : (own : List ℕ) → BitmapFits (c .bits) own → Loaded own (c .bits) m → Shows c (bitmapIn c own) p
 
--- the cause of a subframe that is not usable: what the anchor takes it for, else the bitmap
-unfoldable pub whyNot : Cell → ℕ → Cause
-whyNot c t =
-    cond (isAnchor c && npbch t) Npbch
-    (cond (isAnchor c && npss t) Npss
-    (cond (isAnchor c && nsss t) Nsss
-    (cond (isAnchor c && sib1 (c .identity) (c .sib1) t) Sib1 Bitmap)))
+-- a cell of these eight numbers
+abbrev pub withMessages : CellConfig → Messages → Cell
+withMessages c ms = record { config = c; messages = ms }
 
--- the cause, by a pattern of the usable subframes
-unfoldable pub seen : Cell → Pattern → ℕ → Cause
-seen c p t = cond (allows p t) None (whyNot c t)
+-- messages are laid on an anchor that has some
+abbrev pub laysMessages : Cell → Bool
+laysMessages c = isAnchor (c .config) && ltb 0 (c .messages .count)
 
--- a cell judged by its own buffer: the number, and for an accepted cell its pattern
+-- the cause of a subframe that is not free: what the anchor takes it for, else the bitmap
+unfoldable pub whyNotFree : CellConfig → ℕ → Cause
+whyNotFree c t = cond (none (anchorCause c t)) Bitmap (anchorCause c t)
+
+-- the cause of a subframe that is not usable: a free one is a message's
+unfoldable pub whyNot : CellConfig → Pattern → Bool → ℕ → Cause
+whyNot c p laid t = cond (laid && allows p t) Message (whyNotFree c t)
+
+-- the cause, by a pattern of the free subframes and the messages laid over them
+unfoldable pub seen : Cell → Pattern → Bool → ℕ → Cause
+seen c p laid t = cond (leftIn p laid (c .messages) t) None (whyNot (c .config) p laid t)
+
+-- a cell judged by its own buffer: the number, and for an accepted cell where to search
 pub record VerdictOn (c : Cell) (own : List ℕ) (r : Verdict) : Type 0 where
   pub number : r .no ≡ cellRefusal c own
-  pub shows : r .no ≡ 0 → Shows c (bitmapIn c own) (r .pattern)
-  pub some : r .no ≡ 0 → 0 < rank (allows (r .pattern)) (periodOf (r .pattern))
+  pub laid : r .no ≡ 0 → r .laid ≡ laysMessages c
+  pub shows : r .no ≡ 0 → Shows (c .config) (bitmapIn (c .config) own) (r .pattern)
+  pub searchable : r .no ≡ 0 → Searchable (r .pattern) (r .laid) (c .messages)
+
+-- the same of eight numbers, whatever messages stand beside them that change nothing
+abbrev pub VerdictAlone : CellConfig → List ℕ → Verdict → Type 0
+VerdictAlone c own r = (ms : Messages) → isSilent ms ≡ true → VerdictOn (withMessages c ms) own r
 
 -- the question of the cause, on the cell's own buffer
 abbrev pub causeOn : Cell → List ℕ → ℕ → CauseAnswer
 causeOn c own t =
-    cond (eqb (cellRefusal c own) 0) (record { no = 0; cause = why c (bitmapIn c own) t }) (record { no = cellRefusal c own; cause = None })
+    cond (eqb (cellRefusal c own) 0) (record { no = 0; cause = why c (bitmapIn (c .config) own) t })
+    (record { no = cellRefusal c own; cause = None })
 
--- E on the cell's own buffer
-abbrev pub countOn : Cell → List ℕ → ElementCount
-countOn c own =
-    cond (eqb (cellRefusal c own) 0) (record { no = 0; e = rank (eligible (layoutOf c)) elements }) (record { no = cellRefusal c own; e = 0 })
+-- E after the cell's refusal number
+unfoldable pub countAfter : ℕ → CellConfig → ElementCount
+countAfter refusal c =
+    cond (eqb refusal 0) (record { no = 0; e = rank (eligible (layoutOf c)) elements }) (record { no = refusal; e = 0 })
+
+-- what acceptance says of the numbers
+pub record WellFormed (c : CellConfig) : Type 0 where
+  pub carrier : c .carrier ≤ 1
+  pub identity : c .identity < 504
+  pub nports : (c .nports ≡ 1) ⊎ (c .nports ≡ 2)
+  pub cports : (c .cports ≡ 0) ⊎ ((c .cports ≡ 1) ⊎ ((c .cports ≡ 2) ⊎ (c .cports ≡ 4)))
+  pub control : c .control ≤ 3
+  pub sib1 : c .sib1 ≤ 11

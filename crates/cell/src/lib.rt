@@ -1,20 +1,27 @@
-// A cell: its refusals, its bitmap in force, its usable subframes as a pattern of spans, and why another is not usable.
+// A cell: its refusals, its bitmap in force, its free subframes as a pattern of spans, and why another is not usable.
 ghost use mathlib.Core.Path.{_≡_};
-ghost use mathlib.Core.Bool.{cond, _&&_, _||_};
+ghost use mathlib.Core.Bool.{true, cond, _&&_, _||_};
 ghost use lib.Bits.{bitAnd};
 ghost use lib.Dec.{eqb, leb};
 ghost use Rattle.spans.specs.Pattern.{Regular};
+ghost use Rattle.messages.specs.declared.Messages.{Messages};
+ghost use Rattle.messages.specs.Quick.{isSilent};
+ghost use Rattle.subframes.specs.Subframes.{Laid};
 ghost use Rattle.cell.specs.Bitmap.{ownBuffer};
-ghost use Rattle.cell.specs.Judge.{numbersRefusal, formRefusal, cellRefusal, judgeOf, inForceOf, causeOf};
-ghost use Rattle.cell.specs.Quick.{whyNot, seen, ShowsLoaded, VerdictOn, causeOn, countOn};
+ghost use Rattle.cell.specs.Judge.{numbersRefusal, configRefusal, formRefusal, cellRefusal, judgeOf, inForceOf};
+ghost use Rattle.cell.specs.Judge.{causeOf};
+ghost use Rattle.cell.specs.Quick.{whyNotFree, whyNot, seen, ShowsLoaded};
+ghost use Rattle.cell.specs.Quick.{withMessages, VerdictOn, VerdictAlone, causeOn, countAfter, WellFormed};
 ghost use Rattle.cell.specs.Usable.{causeNumber};
 ghost use Rattle.cell.specs.Layout.{layoutOf, elementCountOf};
 pub use bitmap::bytes as bitmap_bytes;
 use elements::Layout;
 use grid::Grid;
+use messages::Messages;
 use spans::Pattern;
 
-pub struct Cell {
+// The eight numbers of a cell.
+pub struct CellConfig {
     pub mode: u64,
     pub carrier: u64,
     pub identity: u64,
@@ -25,6 +32,12 @@ pub struct Cell {
     pub bits: u64,
 }
 
+// A cell: its numbers, and its system information messages.
+pub struct Cell {
+    pub config: CellConfig,
+    pub messages: Messages,
+}
+
 // Why a subframe is not usable.
 pub enum Cause {
     None,
@@ -32,6 +45,7 @@ pub enum Cause {
     Npss,
     Nsss,
     Sib1,
+    Message,
     Bitmap,
 }
 
@@ -41,14 +55,15 @@ pub struct CauseAnswer {
     pub cause: Cause,
 }
 
-// The refusal number, and for an accepted cell the pattern of its usable subframes.
+// The refusal number, and for an accepted cell the pattern of its free subframes and whether messages are laid.
 pub struct Verdict {
     pub no: u64,
+    pub laid: bool,
     pub pattern: Pattern,
 }
 
 // Refusals 1 to 6.
-fn numbers_refusal(c: Cell) -> u64
+fn numbers_refusal(c: CellConfig) -> u64
     ensures { λ r. ⌜ r ≡ numbersRefusal c ⌝ }
 {
     let in_band = c.mode < 2;
@@ -94,8 +109,8 @@ fn listed_control(in_band: bool, control: u64) -> bool
 }
 
 // Refusals 1 to 7.
-pub fn form_refusal(c: Cell, own: &[u8]) -> u64
-    ensures { λ r. ⌜ r ≡ formRefusal c (now (own .entry)) ⌝ }
+fn config_refusal(c: CellConfig, own: &[u8]) -> u64
+    ensures { λ r. ⌜ r ≡ configRefusal c (now (own .entry)) ⌝ }
 {
     let no = numbers_refusal(c);
     if no != 0 {
@@ -103,6 +118,20 @@ pub fn form_refusal(c: Cell, own: &[u8]) -> u64
     }
     if bitmap::is_bad(c.bits, own) {
         return 7;
+    }
+    0
+}
+
+// Refusals 1 to 7 and 21.
+fn form_refusal(c: Cell, own: &[u8]) -> u64
+    ensures { λ r. ⌜ r ≡ formRefusal c (now (own .entry)) ⌝ }
+{
+    let no = config_refusal(c.config, own);
+    if no != 0 {
+        return no;
+    }
+    if !messages::are_listed(c.messages) {
+        return 21;
     }
     0
 }
@@ -120,8 +149,8 @@ fn withheld(p: Pattern, m: u64) -> Pattern
     }
 }
 
-// The usable subframes of a well-formed cell, m its bitmap as a number.
-fn pattern(c: Cell, m: u64) -> Pattern
+// The free subframes of a well-formed cell, m its bitmap as a number.
+fn pattern(c: CellConfig, m: u64) -> Pattern
     ensures { λ r. ⌜ ShowsLoaded c m r ⌝ }
 {
     if c.carrier == 0 {
@@ -140,6 +169,7 @@ fn refused(no: u64) -> Verdict
 {
     Verdict {
         no,
+        laid: false,
         pattern: Pattern {
             log: 2,
             first: 0,
@@ -149,11 +179,11 @@ fn refused(no: u64) -> Verdict
     }
 }
 
-// 8, 18 or the pattern, of a cell with none of the refusals 1 to 7. Some questions ask for both in turn: one function
-// of them is too long for the compiler to put into each.
-pub fn formed(c: Cell, own: &[u8]) -> Verdict
-    requires { ⌜ formRefusal c (now own) ≡ 0 ⌝ }
-    ensures { λ r. ⌜ VerdictOn c (now (own .entry)) r ⌝ }
+// 8, 18 or the pattern, of eight numbers with none of the refusals 1 to 7, beside which no message stands. Some
+// questions ask for both in turn: one function of them is too long for the compiler to put into each.
+fn formed_alone(c: CellConfig, own: &[u8]) -> Verdict
+    requires { ⌜ configRefusal c (now own) ≡ 0 ⌝ }
+    ensures { λ r. ⌜ VerdictAlone c (now (own .entry)) r ⌝ }
 {
     let m = bitmap::load(c.bits, own);
     if m == 0 {
@@ -163,10 +193,47 @@ pub fn formed(c: Cell, own: &[u8]) -> Verdict
     if spans::is_empty(p) {
         return refused(18);
     }
-    Verdict { no: 0, pattern: p }
+    Verdict {
+        no: 0,
+        laid: false,
+        pattern: p,
+    }
 }
 
-fn judged_own(c: Cell, own: &[u8]) -> Verdict
+// 8, 18 or the pattern, of a cell with none of the refusals 1 to 7 and 21.
+fn formed(c: Cell, own: &[u8]) -> Verdict
+    requires { ⌜ formRefusal c (now own) ≡ 0 ⌝ }
+    ensures { λ r. ⌜ VerdictOn c (now (own .entry)) r ⌝ }
+{
+    let m = bitmap::load(c.config.bits, own);
+    if m == 0 {
+        return refused(8);
+    }
+    let p = pattern(c.config, m);
+    let laid = (c.config.carrier == 0) & (0 < c.messages.count);
+    if subframes::is_empty(p, laid, c.messages) {
+        return refused(18);
+    }
+    Verdict {
+        no: 0,
+        laid,
+        pattern: p,
+    }
+}
+
+// Eight numbers judged by their own buffer.
+fn judged_alone(c: CellConfig, own: &[u8]) -> Verdict
+    ensures { λ r. ⌜ VerdictAlone c (now (own .entry)) r ⌝ }
+{
+    let no = config_refusal(c, own);
+    if no != 0 {
+        return refused(no);
+    }
+    formed_alone(c, own)
+}
+
+// A cell judged by its own buffer.
+fn judged_beside(c: Cell, own: &[u8]) -> Verdict
     ensures { λ r. ⌜ VerdictOn c (now (own .entry)) r ⌝ }
 {
     let no = form_refusal(c, own);
@@ -176,52 +243,65 @@ fn judged_own(c: Cell, own: &[u8]) -> Verdict
     formed(c, own)
 }
 
-// A cell's refusal number, and the pattern of an accepted one.
+// A cell's refusal number, and the pattern of an accepted one. With no message the eight numbers are asked by
+// themselves, here and below: the messages are then not passed on.
 pub fn judged(c: Cell, anchor: &[u8], other: &[u8]) -> Verdict
-    ensures { λ r. ⌜ VerdictOn c (ownBuffer c (now (anchor .entry)) (now (other .entry))) r ⌝ }
+    ensures { λ r. ⌜ VerdictOn c (ownBuffer (c .config) (now (anchor .entry)) (now (other .entry))) r ⌝ }
 {
-    if c.carrier == 0 {
-        return judged_own(c, anchor);
+    if messages::is_silent(c.messages) {
+        if c.config.carrier == 0 {
+            return judged_alone(c.config, anchor);
+        }
+        return judged_alone(c.config, other);
     }
-    judged_own(c, other)
+    if c.config.carrier == 0 {
+        return judged_beside(c, anchor);
+    }
+    judged_beside(c, other)
 }
 
-// A cell's refusal number, by its own buffer.
-fn judge_own(c: Cell, own: &[u8]) -> u64
-    ensures { λ r. ⌜ r ≡ cellRefusal c (now (own .entry)) ⌝ }
+// The refusal number of eight numbers, by their own buffer.
+fn judge_alone(c: CellConfig, own: &[u8]) -> u64
+    ensures { λ r. ⌜ ((ms : Messages) → isSilent ms ≡ true → r ≡ cellRefusal (withMessages c ms) (now (own .entry))) ⌝ }
 {
-    let no = form_refusal(c, own);
+    let no = config_refusal(c, own);
     if no != 0 {
         return no;
     }
-    formed(c, own).no
+    formed_alone(c, own).no
 }
 
 // Judge a cell: its refusal number, or 0.
 pub fn judge(c: Cell, anchor: &[u8], other: &[u8]) -> u64
     ensures { λ r. ⌜ r ≡ judgeOf c (now (anchor .entry)) (now (other .entry)) ⌝ }
 {
-    if c.carrier == 0 {
-        return judge_own(c, anchor);
+    if messages::is_silent(c.messages) {
+        if c.config.carrier == 0 {
+            return judge_alone(c.config, anchor);
+        }
+        return judge_alone(c.config, other);
     }
-    judge_own(c, other)
+    if c.config.carrier == 0 {
+        return judged_beside(c, anchor).no;
+    }
+    judged_beside(c, other).no
 }
 
 // The bitmap in force: the first 0, 2 or 5 bytes of the carrier's own buffer; an empty part for a refused cell.
 pub fn in_force<'a>(c: Cell, anchor: &'a [u8], other: &'a [u8]) -> &'a [u8]
     ensures { λ r. ⌜ now r ≡ inForceOf c (now (anchor .entry)) (now (other .entry)) ⌝ }
 {
-    let own = bitmap::own(c.carrier, anchor, other);
+    let own = bitmap::own(c.config.carrier, anchor, other);
     if judge(c, anchor, other) == 0 {
-        let n = bitmap::bytes(c.bits);
+        let n = bitmap::bytes(c.config.bits);
         return &own[0..n];
     }
     &own[0..0]
 }
 
-// Why subframe t, which is not usable, is not: the first of NPBCH, NPSS, NSSS and SIB1 that takes it, else the bitmap.
-pub fn why_not(c: Cell, t: u64) -> Cause
-    ensures { λ r. ⌜ r ≡ whyNot c t ⌝ }
+// Why subframe t, which is not free, is not: the first of NPBCH, NPSS, NSSS and SIB1 that takes it, else the bitmap.
+fn why_not_free(c: CellConfig, t: u64) -> Cause
+    ensures { λ r. ⌜ r ≡ whyNotFree c t ⌝ }
 {
     if c.carrier != 0 {
         return Cause::Bitmap;
@@ -241,29 +321,65 @@ pub fn why_not(c: Cell, t: u64) -> Cause
     Cause::Bitmap
 }
 
-// Why subframe t is not usable, p the pattern of the usable ones.
-pub fn why(c: Cell, p: Pattern, t: u64) -> Cause
+// Why subframe t, which is not usable, is not, p the pattern of the free ones: a free one is a message's.
+pub fn why_not(c: CellConfig, p: Pattern, laid: bool, t: u64) -> Cause
     requires { ⌜ Regular p ⌝ }
-    ensures { λ r. ⌜ r ≡ seen c p t ⌝ }
+    ensures { λ r. ⌜ r ≡ whyNot c p laid t ⌝ }
 {
-    if spans::is_allowed(p, t) {
-        return Cause::None;
+    if laid {
+        if spans::is_allowed(p, t) {
+            return Cause::Message;
+        }
     }
-    why_not(c, t)
+    why_not_free(c, t)
 }
 
-// Why subframe t is not usable, by the cell's own buffer.
-fn cause_own(c: Cell, own: &[u8], t: u64) -> CauseAnswer
-    ensures { λ r. ⌜ r ≡ causeOn c (now (own .entry)) t ⌝ }
+// Why subframe t is not usable, p the pattern of the free ones.
+pub fn why(c: Cell, p: Pattern, laid: bool, t: u64) -> Cause
+    requires { ⌜ Laid p laid (c .messages) ⌝ }
+    ensures { λ r. ⌜ r ≡ seen c p laid t ⌝ }
 {
-    let no = form_refusal(c, own);
+    if subframes::is_left(p, laid, c.messages, t) {
+        return Cause::None;
+    }
+    why_not(c.config, p, laid, t)
+}
+
+// Why subframe t is not usable to eight numbers, by their own buffer.
+fn cause_alone(c: CellConfig, own: &[u8], t: u64) -> CauseAnswer
+    ensures { λ r. ⌜ ((ms : Messages) → isSilent ms ≡ true → r ≡ causeOn (withMessages c ms) (now (own .entry)) t) ⌝ }
+{
+    let no = config_refusal(c, own);
     if no != 0 {
         return CauseAnswer {
             no,
             cause: Cause::None,
         };
     }
-    let v = formed(c, own);
+    let v = formed_alone(c, own);
+    if v.no != 0 {
+        return CauseAnswer {
+            no: v.no,
+            cause: Cause::None,
+        };
+    }
+    if spans::is_allowed(v.pattern, t) {
+        return CauseAnswer {
+            no: 0,
+            cause: Cause::None,
+        };
+    }
+    CauseAnswer {
+        no: 0,
+        cause: why_not_free(c, t),
+    }
+}
+
+// Why subframe t is not usable, by the cell's own buffer.
+fn cause_beside(c: Cell, own: &[u8], t: u64) -> CauseAnswer
+    ensures { λ r. ⌜ r ≡ causeOn c (now (own .entry)) t ⌝ }
+{
+    let v = judged_beside(c, own);
     if v.no != 0 {
         return CauseAnswer {
             no: v.no,
@@ -272,7 +388,7 @@ fn cause_own(c: Cell, own: &[u8], t: u64) -> CauseAnswer
     }
     CauseAnswer {
         no: 0,
-        cause: why(c, v.pattern, t),
+        cause: why(c, v.pattern, v.laid, t),
     }
 }
 
@@ -280,10 +396,16 @@ fn cause_own(c: Cell, own: &[u8], t: u64) -> CauseAnswer
 pub fn cause_at(c: Cell, anchor: &[u8], other: &[u8], t: u64) -> CauseAnswer
     ensures { λ r. ⌜ r ≡ causeOf c (now (anchor .entry)) (now (other .entry)) t ⌝ }
 {
-    if c.carrier == 0 {
-        return cause_own(c, anchor, t);
+    if messages::is_silent(c.messages) {
+        if c.config.carrier == 0 {
+            return cause_alone(c.config, anchor, t);
+        }
+        return cause_alone(c.config, other, t);
     }
-    cause_own(c, other, t)
+    if c.config.carrier == 0 {
+        return cause_beside(c, anchor, t);
+    }
+    cause_beside(c, other, t)
 }
 
 // The number of a cause.
@@ -296,12 +418,13 @@ pub fn cause_number(cause: Cause) -> u64
         Cause::Npss => 2,
         Cause::Nsss => 3,
         Cause::Sib1 => 4,
+        Cause::Message => 5,
         Cause::Bitmap => 6,
     }
 }
 
 // The layout of a subframe of a cell.
-pub fn layout(c: Cell) -> Layout
+pub fn layout(c: CellConfig) -> Layout
     ensures { λ r. ⌜ r ≡ layoutOf c ⌝ }
 {
     Layout {
@@ -318,15 +441,11 @@ pub struct ElementCount {
     pub e: u64,
 }
 
-// E of a cell, judged by its own buffer: the eligible elements of a subframe.
-fn count_own(c: Cell, own: &[u8]) -> ElementCount
-    ensures { λ r. ⌜ r ≡ countOn c (now (own .entry)) ⌝ }
+// E of an accepted cell, whose refusal number is 0.
+fn counted(c: CellConfig, no: u64) -> ElementCount
+    requires { ⌜ (no ≡ 0 → WellFormed c) ⌝ }
+    ensures { λ r. ⌜ r ≡ countAfter no c ⌝ }
 {
-    let form = form_refusal(c, own);
-    if form != 0 {
-        return ElementCount { no: form, e: 0 };
-    }
-    let no = formed(c, own).no;
     if no != 0 {
         return ElementCount { no, e: 0 };
     }
@@ -336,11 +455,9 @@ fn count_own(c: Cell, own: &[u8]) -> ElementCount
     }
 }
 
+// E of a cell: the eligible elements of a subframe.
 pub fn element_count(c: Cell, anchor: &[u8], other: &[u8]) -> ElementCount
     ensures { λ r. ⌜ r ≡ elementCountOf c (now (anchor .entry)) (now (other .entry)) ⌝ }
 {
-    if c.carrier == 0 {
-        return count_own(c, anchor);
-    }
-    count_own(c, other)
+    counted(c.config, judge(c, anchor, other))
 }

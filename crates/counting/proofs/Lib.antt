@@ -6,4 +6,5 @@ pub mod Select
 pub mod Period
 pub mod Ones
 pub mod Powers
+pub mod Listed
 mod Fours

@@ -13,7 +13,8 @@ use Rattle.cell.specs.declared.Verdict.{Verdict}
 use Rattle.cell.specs.Bitmap.{ownBuffer, bitmapIn}
 use Rattle.cell.specs.Judge.{judgeOf, cellRefusal}
 use Rattle.cell.specs.Quick.{VerdictOn}
-use Rattle.cell.proofs.Accepted.{WellFormed, accepted-form, form-numbers}
+use Rattle.cell.proofs.Accepted.{accepted-form, form-numbers}
+use Rattle.cell.specs.Quick.{WellFormed}
 use Rattle.downlink.specs.declared.Burst.{Burst}
 use Rattle.downlink.specs.declared.Ready.{Ready}
 use Rattle.downlink.specs.Fits.{Fits}
@@ -23,12 +24,12 @@ use Rattle.downlink.specs.Quick.{Judged, ReadyFor}
 
 module _ (c : Cell) (anchor other : List ℕ) where
   -- an accepted question has an accepted cell
-  pub accepted-cell : judgeOf c anchor other ≡ 0 → WellFormed c
+  pub accepted-cell : judgeOf c anchor other ≡ 0 → WellFormed (c .config)
   unfolding judgeOf
-  accepted-cell e = form-numbers c (ownBuffer c anchor other) (accepted-form c (ownBuffer c anchor other) e)
+  accepted-cell e = form-numbers c (ownBuffer (c .config) anchor other) (accepted-form c (ownBuffer (c .config) anchor other) e)
 
   -- the question on a cell with verdict v and a grant judged after it
-  module _ (grant : ℕ) (b : Burst) (v : Verdict) (h : VerdictOn c (ownBuffer c anchor other) v) (q : Ready) (j : Judged (v .no) grant b q) where
+  module _ (grant : ℕ) (b : Burst) (v : Verdict) (h : VerdictOn c (ownBuffer (c .config) anchor other) v) (q : Ready) (j : Judged (v .no) grant b q) where
     judged-as : v .no ≡ judgeOf c anchor other
     unfolding judgeOf
     judged-as = h .number
@@ -40,15 +41,16 @@ module _ (c : Cell) (anchor other : List ℕ) where
     both-accept : q .no ≡ 0 → (v .no ≡ 0) × (grant ≡ 0)
     both-accept z = chained (v .no) grant (sym (j .number) ∙ z)
 
-    pub question-ready : (WellFormed c → grant ≡ 0 → Fits b)
-        → ReadyFor c (bitmapIn c (ownBuffer c anchor other)) (questionRefusal c anchor other grant) b q (v .pattern)
+    pub question-ready : (WellFormed (c .config) → grant ≡ 0 → Fits b)
+        → ReadyFor c (bitmapIn (c .config) (ownBuffer (c .config) anchor other)) (questionRefusal c anchor other grant) b q (v .pattern) (v .laid)
     question-ready f = record {
       number = is-refusal;
       answerable = record {
-        going = λ z. let a = both-accept z in record { regular = h .shows (a .0) .regular; some = h .some (a .0) };
+        searchable = λ z. h .searchable (both-accept z .0);
         fits = λ z. let a = both-accept z in subst Fits (sym (j .burst z)) (f (accepted-cell (sym judged-as ∙ a .0)) (a .1));
       };
       shows = λ z. h .shows (both-accept z .0);
+      lays = λ z. h .laid (both-accept z .0);
       burst = j .burst;
     }
 

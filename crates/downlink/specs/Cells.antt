@@ -28,5 +28,5 @@ questionRefusal c anchor other grant = cond (eqb (judgeOf c anchor other) 0) gra
 abbrev pub questionOn : Cell → List ℕ → List ℕ → ℕ → Burst → Question
 questionOn c anchor other grant b = record {
   no = questionRefusal c anchor other grant;
-  sending = sendingOf (usable c (bitmapIn c (ownBuffer c anchor other))) period b;
+  sending = sendingOf (usable c (bitmapIn (c .config) (ownBuffer (c .config) anchor other))) period b;
 }

@@ -1,10 +1,7 @@
 -- The bounds that the questions on a burst require; whoever makes bursts shows them.
 use mathlib.Core.Path.{_≡_}
 use Prim.Native.Nat.{_%_, _^_, _≤_, _<_}
-use Rattle.counting.specs.Counting.{rank}
 use Rattle.elements.specs.Elements.{Valid, Part}
-use Rattle.spans.specs.declared.Pattern.{Pattern}
-use Rattle.spans.specs.Pattern.{allows, periodOf, Regular}
 use Rattle.downlink.specs.declared.Burst.{Burst}
 
 pub record Fits (b : Burst) : Type 0 where
@@ -21,8 +18,3 @@ pub record Fits (b : Burst) : Type 0 where
   pub codewordSmall : b .codeword ≤ 2 ^ 8
   pub copiesSmall : b .copies ≤ 2 ^ 12
   pub consecutiveSmall : b .consecutive < 2 ^ 16
-
--- a pattern that allows some subframe
-pub record Going (p : Pattern) : Type 0 where
-  pub regular : Regular p
-  pub some : 0 < rank (allows p) (periodOf p)

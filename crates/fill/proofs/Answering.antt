@@ -40,7 +40,7 @@ module _ (c : Cell) (anchor other : List ℕ) (g : NpdschGrant) (i : ℕ) (bits 
         (ne-eqb (fillRefusal c anchor other g i bits level out) 0 (λ z. n (j .number ∙ z))))
 
     -- both slots, one after the other; symbol n is the first of the second
-    pub both-slots : (h : Layout) (four : List Symbol) (n : ℕ) → h ≡ layoutOf c → four ≡ symbolsOf level
+    pub both-slots : (h : Layout) (four : List Symbol) (n : ℕ) → h ≡ layoutOf (c .config) → four ≡ symbolsOf level
         → n ≡ k .first + count (used h 0 subcarriers) (0 * slotElements) slotElements → k .no ≡ 0
         → laid (writtenIn h (k .first) bits four (0 * slotElements)) slotElements ++ laid (writtenIn h n bits four (1 * slotElements)) slotElements
         ≡ filledOf c anchor other g i bits level

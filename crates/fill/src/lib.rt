@@ -94,7 +94,7 @@ pub fn fill(
     if call.no != 0 {
         return call.no;
     }
-    let layout = transmitted::layout(c, call.v);
+    let layout = transmitted::layout(c.config, call.v);
     let four = symbol::symbols(level);
     let next = write_slot(&mut out[0..SLOT_NUMBERS], layout, 0, call.first, bits, four);
     write_slot(&mut out[SLOT_NUMBERS..], layout, 1, next, bits, four);

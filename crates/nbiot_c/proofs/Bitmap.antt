@@ -20,12 +20,12 @@ module _ (c : Cell) (anchor other : List ℕ) where
   refused-numbers {no} e h =
       rw (ne-eqb (judgeOf c anchor other) 0 (λ z. h (e ∙ z))) (ap (λ (n : ℕ). n ∷ 0 ∷ 0 ∷ []) e)
 
-  pub accepted-numbers : {no n : ℕ} → no ≡ judgeOf c anchor other → no ≡ 0 → n ≡ bytesOf (c .bits) → (0 ∷ c .carrier ∷ n ∷ []) ≡ bitmapNumbers c anchor other
+  pub accepted-numbers : {no n : ℕ} → no ≡ judgeOf c anchor other → no ≡ 0 → n ≡ bytesOf (c .config .bits) → (0 ∷ c .config .carrier ∷ n ∷ []) ≡ bitmapNumbers c anchor other
   unfolding inForceOf
   accepted-numbers {no} {n} e h f =
       let z : judgeOf c anchor other ≡ 0 = sym e ∙ h in
-      let long = length-take-le (bytesOf (c .bits)) (ownBuffer c anchor other) (accepted-bitmap c anchor other z .long) in
-      rw z (ap (λ (x : ℕ). 0 ∷ c .carrier ∷ x ∷ []) (f ∙ sym long))
+      let long = length-take-le (bytesOf (c .config .bits)) (ownBuffer (c .config) anchor other) (accepted-bitmap c anchor other z .long) in
+      rw z (ap (λ (x : ℕ). 0 ∷ c .config .carrier ∷ x ∷ []) (f ∙ sym long))
 
 part-taken : (n : ℕ) (l : List ℕ) → take (length (take n l)) l ≡ take n l
 part-taken n l = ap (take (length (take n l))) (sym (take-append-drop n l)) ∙ take-append-seam (take n l) (drop n l)
@@ -35,6 +35,6 @@ pub names-part : (c : Cell) (anchor other : List ℕ) → partNamed (bitmapNumbe
 unfolding inForceOf
 names-part c anchor other = by-verdict (eqb (judgeOf c anchor other) 0)
   where
-    by-verdict : (b : Bool) → take (length (cond b (bitmapIn c (ownBuffer c anchor other)) [])) (cond (eqb (cond b (c .carrier) 0) 0) anchor other) ≡ cond b (bitmapIn c (ownBuffer c anchor other)) []
-    by-verdict true = part-taken (bytesOf (c .bits)) (ownBuffer c anchor other)
+    by-verdict : (b : Bool) → take (length (cond b (bitmapIn (c .config) (ownBuffer (c .config) anchor other)) [])) (cond (eqb (cond b (c .config .carrier) 0) 0) anchor other) ≡ cond b (bitmapIn (c .config) (ownBuffer (c .config) anchor other)) []
+    by-verdict true = part-taken (bytesOf (c .config .bits)) (ownBuffer (c .config) anchor other)
     by-verdict false = refl

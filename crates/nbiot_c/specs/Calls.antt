@@ -17,7 +17,7 @@ use Rattle.symbol.specs.Outgoing.{numbersOf}
 use Rattle.fill.specs.Refusals.{fillRefusal}
 use Rattle.fill.specs.Fill.{outputOf}
 use Rattle.transmitted.specs.Element.{elementAnswer}
-use Rattle.buffers.specs.Buffers.{cellAt, windowsOf, npuschAt, harqAckAt, npdschAt, npdcchAt}
+use Rattle.buffers.specs.Buffers.{cellIn, windowsOf, npuschAt, harqAckAt, npdschAt, npdcchAt}
 use Rattle.buffers.specs.Buffers.{npuschWalk, harqAckWalk, npdschWalk, npdcchWalk}
 use Rattle.buffers.specs.Buffers.{uplinkPlanNumbers, downlinkPlanNumbers, uplinkPlaceNumbers, downlinkPlaceNumbers}
 use Rattle.buffers.specs.Buffers.{backNumbers, downlinkBackNumbers}
@@ -33,12 +33,12 @@ StepReply = ℕ × List ℕ × List ℕ
 -- ---- a cell
 
 unfoldable pub judge : List ℕ → List ℕ → List ℕ → ℕ
-judge cell anchor other = cond (lacks 8 cell) tooShort (judgeOf (cellAt cell 0) anchor other)
+judge cell anchor other = cond (lacks 8 cell) tooShort (judgeOf (cellIn cell 0 8) anchor other)
 
 -- the bitmap in force is the first bytes of one of the two buffers: 0 the anchor's, 1 the other; a refused cell has 0 and 0
 abbrev pub bitmapNumbers : Cell → List ℕ → List ℕ → List ℕ
 bitmapNumbers c anchor other =
-    judgeOf c anchor other ∷ cond (eqb (judgeOf c anchor other) 0) (c .carrier) 0 ∷ length (inForceOf c anchor other) ∷ []
+    judgeOf c anchor other ∷ cond (eqb (judgeOf c anchor other) 0) (c .config .carrier) 0 ∷ length (inForceOf c anchor other) ∷ []
 
 -- the part that an answer names
 abbrev pub partNamed : List ℕ → List ℕ → List ℕ → List ℕ
@@ -46,17 +46,17 @@ partNamed numbers anchor other = take (getD numbers 2 0) (cond (eqb (getD number
 
 unfoldable pub bitmap : List ℕ → List ℕ → List ℕ → List ℕ → Reply
 bitmap cell anchor other answer =
-    cond (lacks 8 cell || lacks 3 answer) (tooShort, answer) (put (bitmapNumbers (cellAt cell 0) anchor other) answer)
+    cond (lacks 8 cell || lacks 3 answer) (tooShort, answer) (put (bitmapNumbers (cellIn cell 0 8) anchor other) answer)
 
 unfoldable pub cause : List ℕ → List ℕ → List ℕ → ℕ → List ℕ → Reply
 cause cell anchor other t answer =
     cond (lacks 8 cell || lacks 2 answer) (tooShort, answer)
-    (put (causeNumbers (causeOf (cellAt cell 0) anchor other t)) answer)
+    (put (causeNumbers (causeOf (cellIn cell 0 8) anchor other t)) answer)
 
 unfoldable pub count : List ℕ → List ℕ → List ℕ → List ℕ → Reply
 count cell anchor other answer =
     cond (lacks 8 cell || lacks 2 answer) (tooShort, answer)
-    (put (countNumbers (elementCountOf (cellAt cell 0) anchor other)) answer)
+    (put (countNumbers (elementCountOf (cellIn cell 0 8) anchor other)) answer)
 
 -- ---- NPUSCH format 1
 
@@ -107,17 +107,17 @@ stepAck walk windows answer =
 unfoldable pub planDown : List ℕ → List ℕ → List ℕ → List ℕ → List ℕ → Reply
 planDown cell anchor other grant answer =
     cond (lacks 8 cell || (lacks 5 grant || lacks 5 answer)) (tooShort, answer)
-    (put (downlinkPlanNumbers (down.planOf (cellAt cell 0) anchor other (npdschAt grant 0))) answer)
+    (put (downlinkPlanNumbers (down.planOf (cellIn cell 0 8) anchor other (npdschAt grant 0))) answer)
 
 unfoldable pub forwardDown : List ℕ → List ℕ → List ℕ → List ℕ → ℕ → List ℕ → Reply
 forwardDown cell anchor other grant p answer =
     cond (lacks 8 cell || (lacks 5 grant || lacks 6 answer)) (tooShort, answer)
-    (put (downlinkPlaceNumbers (down.forwardOf (cellAt cell 0) anchor other (npdschAt grant 0) p)) answer)
+    (put (downlinkPlaceNumbers (down.forwardOf (cellIn cell 0 8) anchor other (npdschAt grant 0) p)) answer)
 
 unfoldable pub backwardDown : List ℕ → List ℕ → List ℕ → List ℕ → ℕ → ℕ → ℕ → ℕ → List ℕ → Reply
 backwardDown cell anchor other grant t slot l k answer =
     cond (lacks 8 cell || (lacks 5 grant || lacks 6 answer)) (tooShort, answer)
-    (put (downlinkBackNumbers (down.backwardOf (cellAt cell 0) anchor other (npdschAt grant 0) t slot l k)) answer)
+    (put (downlinkBackNumbers (down.backwardOf (cellIn cell 0 8) anchor other (npdschAt grant 0) t slot l k)) answer)
 
 unfoldable pub stepDown : List ℕ → List ℕ → List ℕ → List ℕ → StepReply
 stepDown walk anchor other answer =
@@ -128,17 +128,17 @@ stepDown walk anchor other answer =
 unfoldable pub planControl : List ℕ → List ℕ → List ℕ → List ℕ → List ℕ → Reply
 planControl cell anchor other grant answer =
     cond (lacks 8 cell || (lacks 4 grant || lacks 5 answer)) (tooShort, answer)
-    (put (downlinkPlanNumbers (control.planOf (cellAt cell 0) anchor other (npdcchAt grant 0))) answer)
+    (put (downlinkPlanNumbers (control.planOf (cellIn cell 0 8) anchor other (npdcchAt grant 0))) answer)
 
 unfoldable pub forwardControl : List ℕ → List ℕ → List ℕ → List ℕ → ℕ → List ℕ → Reply
 forwardControl cell anchor other grant p answer =
     cond (lacks 8 cell || (lacks 4 grant || lacks 6 answer)) (tooShort, answer)
-    (put (downlinkPlaceNumbers (control.forwardOf (cellAt cell 0) anchor other (npdcchAt grant 0) p)) answer)
+    (put (downlinkPlaceNumbers (control.forwardOf (cellIn cell 0 8) anchor other (npdcchAt grant 0) p)) answer)
 
 unfoldable pub backwardControl : List ℕ → List ℕ → List ℕ → List ℕ → ℕ → ℕ → ℕ → ℕ → List ℕ → Reply
 backwardControl cell anchor other grant t slot l k answer =
     cond (lacks 8 cell || (lacks 4 grant || lacks 6 answer)) (tooShort, answer)
-    (put (downlinkBackNumbers (control.backwardOf (cellAt cell 0) anchor other (npdcchAt grant 0) t slot l k)) answer)
+    (put (downlinkBackNumbers (control.backwardOf (cellIn cell 0 8) anchor other (npdcchAt grant 0) t slot l k)) answer)
 
 unfoldable pub stepControl : List ℕ → List ℕ → List ℕ → List ℕ → StepReply
 stepControl walk anchor other answer =
@@ -149,12 +149,12 @@ stepControl walk anchor other answer =
 unfoldable pub fill : List ℕ → List ℕ → List ℕ → List ℕ → ℕ → List ℕ → Float → List Float → ℕ × List Float
 fill cell anchor other grant i bits level output =
     cond (lacks 8 cell || lacks 5 grant) (tooShort, output) (
-      fillRefusal (cellAt cell 0) anchor other (npdschAt grant 0) i bits level output,
-      outputOf (cellAt cell 0) anchor other (npdschAt grant 0) i bits level output,
+      fillRefusal (cellIn cell 0 8) anchor other (npdschAt grant 0) i bits level output,
+      outputOf (cellIn cell 0 8) anchor other (npdschAt grant 0) i bits level output,
     )
 
 -- one element: its state, and its two amplitudes
 unfoldable pub element : List ℕ → List ℕ → List ℕ → List ℕ → ℕ → ℕ → ℕ → ℕ → List ℕ → Float → List ℕ → List Float → ℕ × List ℕ × List Float
 element cell anchor other grant i slot l k bits level answer amplitudes =
     cond ((lacks 8 cell || lacks 5 grant) || (lacks 2 answer || lacks 2 amplitudes)) (tooShort, answer, amplitudes)
-    (putElement (numbersOf (elementAnswer (cellAt cell 0) anchor other (npdschAt grant 0) i slot l k bits level)) answer amplitudes)
+    (putElement (numbersOf (elementAnswer (cellIn cell 0 8) anchor other (npdschAt grant 0) i slot l k bits level)) answer amplitudes)

@@ -23,7 +23,7 @@ pub extern "C" fn nbiot_judge(cell: &[u64], anchor: &[u8], other: &[u8]) -> u64
     if cell.len() < 8 {
         return TOO_SHORT;
     }
-    nbiot::judge(buffers::cell_at(cell, 0), anchor, other)
+    nbiot::judge(buffers::cell_in(cell, 0, 8), anchor, other)
 }
 
 // The bitmap in force: the buffer that it is a part of, and its bytes, counted without a second verdict.
@@ -35,13 +35,13 @@ pub extern "C" fn nbiot_bitmap(cell: &[u64], anchor: &[u8], other: &[u8], answer
     if buffers::short2(8, 3, cell.len(), answer.len()) {
         return TOO_SHORT;
     }
-    let c = buffers::cell_at(cell, 0);
+    let c = buffers::cell_in(cell, 0, 8);
     let no = nbiot::judge(c, anchor, other);
     if no != 0 {
         return buffers::put3(answer, no, 0, 0);
     }
-    let n = cell::bitmap_bytes(c.bits);
-    buffers::put3(answer, 0, c.carrier, n as u64)
+    let n = cell::bitmap_bytes(c.config.bits);
+    buffers::put3(answer, 0, c.config.carrier, n as u64)
 }
 
 // Why subframe t is not usable.
@@ -59,7 +59,7 @@ pub extern "C" fn nbiot_cause(
     if buffers::short2(8, 2, cell.len(), answer.len()) {
         return TOO_SHORT;
     }
-    let a = nbiot::cause(buffers::cell_at(cell, 0), anchor, other, t);
+    let a = nbiot::cause(buffers::cell_in(cell, 0, 8), anchor, other, t);
     buffers::put_cause(answer, a)
 }
 
@@ -72,7 +72,7 @@ pub extern "C" fn nbiot_count(cell: &[u64], anchor: &[u8], other: &[u8], answer:
     if buffers::short2(8, 2, cell.len(), answer.len()) {
         return TOO_SHORT;
     }
-    let a = nbiot::count(buffers::cell_at(cell, 0), anchor, other);
+    let a = nbiot::count(buffers::cell_in(cell, 0, 8), anchor, other);
     buffers::put_count(answer, a)
 }
 
@@ -388,7 +388,7 @@ pub extern "C" fn nbiot_plan_down(
     if buffers::short3(8, 5, 5, cell.len(), grant.len(), answer.len()) {
         return TOO_SHORT;
     }
-    let c = buffers::cell_at(cell, 0);
+    let c = buffers::cell_in(cell, 0, 8);
     let g = buffers::npdsch_at(grant, 0);
     let a = nbiot::plan_down(c, anchor, other, g);
     buffers::put_downlink_plan(answer, a)
@@ -411,7 +411,7 @@ pub extern "C" fn nbiot_forward_down(
     if buffers::short3(8, 5, 6, cell.len(), grant.len(), answer.len()) {
         return TOO_SHORT;
     }
-    let c = buffers::cell_at(cell, 0);
+    let c = buffers::cell_in(cell, 0, 8);
     let g = buffers::npdsch_at(grant, 0);
     let a = nbiot::forward_down(c, anchor, other, g, p);
     buffers::put_downlink_place(answer, a)
@@ -437,7 +437,7 @@ pub extern "C" fn nbiot_backward_down(
     if buffers::short3(8, 5, 6, cell.len(), grant.len(), answer.len()) {
         return TOO_SHORT;
     }
-    let c = buffers::cell_at(cell, 0);
+    let c = buffers::cell_in(cell, 0, 8);
     let g = buffers::npdsch_at(grant, 0);
     let a = nbiot::backward_down(c, anchor, other, g, t, slot, l, k);
     buffers::put_downlink_back(answer, a)
@@ -458,7 +458,7 @@ pub extern "C" fn nbiot_step_down(
         return TOO_SHORT;
     }
     let p = walk[0];
-    let c = buffers::cell_at(walk, 1);
+    let c = buffers::cell_in(walk, 1, 14);
     let g = buffers::npdsch_at(walk, 9);
     let a = nbiot::forward_down(c, anchor, other, g, p);
     let end = a.no == 14 && buffers::downlink_end(nbiot::plan_down(c, anchor, other, g), p);
@@ -482,7 +482,7 @@ pub extern "C" fn nbiot_plan_control(
     if buffers::short3(8, 4, 5, cell.len(), grant.len(), answer.len()) {
         return TOO_SHORT;
     }
-    let c = buffers::cell_at(cell, 0);
+    let c = buffers::cell_in(cell, 0, 8);
     let g = buffers::npdcch_at(grant, 0);
     let a = nbiot::plan_control(c, anchor, other, g);
     buffers::put_downlink_plan(answer, a)
@@ -505,7 +505,7 @@ pub extern "C" fn nbiot_forward_control(
     if buffers::short3(8, 4, 6, cell.len(), grant.len(), answer.len()) {
         return TOO_SHORT;
     }
-    let c = buffers::cell_at(cell, 0);
+    let c = buffers::cell_in(cell, 0, 8);
     let g = buffers::npdcch_at(grant, 0);
     let a = nbiot::forward_control(c, anchor, other, g, p);
     buffers::put_downlink_place(answer, a)
@@ -531,7 +531,7 @@ pub extern "C" fn nbiot_backward_control(
     if buffers::short3(8, 4, 6, cell.len(), grant.len(), answer.len()) {
         return TOO_SHORT;
     }
-    let c = buffers::cell_at(cell, 0);
+    let c = buffers::cell_in(cell, 0, 8);
     let g = buffers::npdcch_at(grant, 0);
     let a = nbiot::backward_control(c, anchor, other, g, t, slot, l, k);
     buffers::put_downlink_back(answer, a)
@@ -552,7 +552,7 @@ pub extern "C" fn nbiot_step_control(
         return TOO_SHORT;
     }
     let p = walk[0];
-    let c = buffers::cell_at(walk, 1);
+    let c = buffers::cell_in(walk, 1, 13);
     let g = buffers::npdcch_at(walk, 9);
     let a = nbiot::forward_control(c, anchor, other, g, p);
     let end = a.no == 14 && buffers::downlink_end(nbiot::plan_control(c, anchor, other, g), p);
@@ -580,7 +580,7 @@ pub extern "C" fn nbiot_fill(
     if buffers::short2(8, 5, cell.len(), grant.len()) {
         return TOO_SHORT;
     }
-    let c = buffers::cell_at(cell, 0);
+    let c = buffers::cell_in(cell, 0, 8);
     let g = buffers::npdsch_at(grant, 0);
     nbiot::fill(c, anchor, other, g, i, bits, level, output)
 }
@@ -610,7 +610,7 @@ pub extern "C" fn nbiot_element(
     {
         return TOO_SHORT;
     }
-    let c = buffers::cell_at(cell, 0);
+    let c = buffers::cell_in(cell, 0, 8);
     let g = buffers::npdsch_at(grant, 0);
     let e = nbiot::element(c, anchor, other, g, i, slot, l, k, bits, level);
     buffers::put_element(answer, amplitudes, e)

@@ -1,6 +1,7 @@
 -- What the questions on an NPDCCH answer, on any numbers and buffers: 01 "Downlink grants" and "Questions", 02 L2; TS 36.211 clause 10.2.5.5.
 use mathlib.Core.List.{List}
 use Prim.Native.Nat.{ℕ}
+use Rattle.cell.specs.declared.CellConfig.{CellConfig}
 use Rattle.cell.specs.declared.Cell.{Cell}
 use Rattle.cell.specs.Bitmap.{ownBuffer, bitmapIn}
 use Rattle.cell.specs.Usable.{why}
@@ -17,7 +18,7 @@ use Rattle.npdcch.specs.declared.NpdcchGrant.{NpdcchGrant}
 use Rattle.npdcch.specs.Refusals.{grantRefusal}
 
 -- r copies in the first r usable subframes at or after n; each carries the whole codeword, on one NCCE or both
-abbrev pub burstOf : Cell → NpdcchGrant → Burst
+abbrev pub burstOf : CellConfig → NpdcchGrant → Burst
 burstOf c g = record {
   layout = layoutOf c;
   low = firstSubcarrier (g .format) (g .ncce);
@@ -31,7 +32,7 @@ burstOf c g = record {
 
 -- sent in the cell's usable subframes, refused by the cell and then by the grant
 abbrev pub questionOf : Cell → List ℕ → List ℕ → NpdcchGrant → Question
-questionOf c anchor other g = questionOn c anchor other (grantRefusal g) (burstOf c g)
+questionOf c anchor other g = questionOn c anchor other (grantRefusal g) (burstOf (c .config) g)
 
 unfoldable pub planOf : Cell → List ℕ → List ℕ → NpdcchGrant → DownlinkPlan
 planOf c anchor other g = planAnswer (questionOf c anchor other g)
@@ -41,4 +42,4 @@ forwardOf c anchor other g p = forwardAnswer (questionOf c anchor other g) p
 
 -- with the cause that makes a subframe between the first and the last one unusable
 unfoldable pub backwardOf : Cell → List ℕ → List ℕ → NpdcchGrant → ℕ → ℕ → ℕ → ℕ → DownlinkBack
-backwardOf c anchor other g t slot l k = backAnswer (questionOf c anchor other g) (why c (bitmapIn c (ownBuffer c anchor other))) t slot l k
+backwardOf c anchor other g t slot l k = backAnswer (questionOf c anchor other g) (why c (bitmapIn (c .config) (ownBuffer (c .config) anchor other))) t slot l k

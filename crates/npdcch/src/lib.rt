@@ -6,6 +6,7 @@ ghost use Rattle.npdcch.specs.Ncce.{firstSubcarrier, usedSubcarriers};
 ghost use Rattle.npdcch.specs.Refusals.{aboveLargest, grantRefusal};
 ghost use Rattle.npdcch.specs.Questions.{burstOf, planOf, forwardOf, backwardOf};
 use cell::Cell;
+use cell::CellConfig;
 use downlink::Burst;
 use downlink::DownlinkBack;
 use downlink::DownlinkPlace;
@@ -49,7 +50,7 @@ fn used_subcarriers(format: u64) -> u64
 }
 
 // The burst of an accepted grant.
-fn burst(c: Cell, g: NpdcchGrant) -> Burst
+fn burst(c: CellConfig, g: NpdcchGrant) -> Burst
     requires { ⌜ grantRefusal g ≡ 0 ⌝ }
     ensures { λ r. ⌜ r ≡ burstOf c g ⌝ }
 {
@@ -69,7 +70,7 @@ fn burst(c: Cell, g: NpdcchGrant) -> Burst
 }
 
 // The grant judged, after its cell's number.
-fn ready(cell: u64, c: Cell, g: NpdcchGrant) -> Ready
+fn ready(cell: u64, c: CellConfig, g: NpdcchGrant) -> Ready
     ensures { λ r. ⌜ Judged cell (grantRefusal g) (burstOf c g) r ⌝ }
 {
     if cell != 0 {
@@ -90,7 +91,7 @@ pub fn plan(c: Cell, anchor: &[u8], other: &[u8], g: NpdcchGrant) -> DownlinkPla
     ensures { λ r. ⌜ r ≡ planOf c (now (anchor .entry)) (now (other .entry)) g ⌝ }
 {
     let v = cell::judged(c, anchor, other);
-    downlink::plan(ready(v.no, c, g), v.pattern)
+    downlink::plan(ready(v.no, c.config, g), v.pattern, v.laid, c.messages)
 }
 
 // The place of position p, and the symbol there.
@@ -98,7 +99,7 @@ pub fn forward(c: Cell, anchor: &[u8], other: &[u8], g: NpdcchGrant, p: u64) -> 
     ensures { λ r. ⌜ r ≡ forwardOf c (now (anchor .entry)) (now (other .entry)) g p ⌝ }
 {
     let v = cell::judged(c, anchor, other);
-    downlink::forward(ready(v.no, c, g), v.pattern, p)
+    downlink::forward(ready(v.no, c.config, g), v.pattern, v.laid, c.messages, p)
 }
 
 // What stands at symbol l and subcarrier k of a slot of subframe t, and why the subframe was skipped.
@@ -115,5 +116,14 @@ pub fn backward(
     ensures { λ r. ⌜ r ≡ backwardOf c (now (anchor .entry)) (now (other .entry)) g t slot l k ⌝ }
 {
     let v = cell::judged(c, anchor, other);
-    downlink::backward(ready(v.no, c, g), c, v.pattern, t, slot, l, k)
+    downlink::backward(
+        ready(v.no, c.config, g),
+        c,
+        v.pattern,
+        v.laid,
+        t,
+        slot,
+        l,
+        k,
+    )
 }

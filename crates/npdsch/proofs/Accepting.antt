@@ -9,11 +9,12 @@ use borrow.Author.Tests.{ltb-false}
 use Rattle.counting.proofs.Facts.{either-parts}
 use Rattle.grid.specs.Tables.{entry, lengths, downlinkCopies}
 use Rattle.grid.proofs.Rules.{length-bounds, downlink-copies-bounds, downlink-delay-bound, downlink-consecutive-splits, consecutive-pos, consecutive-small}
+use Rattle.cell.specs.declared.CellConfig.{CellConfig}
 use Rattle.cell.specs.declared.Cell.{Cell}
 use Rattle.cell.specs.declared.Verdict.{Verdict}
 use Rattle.cell.specs.Bitmap.{ownBuffer, bitmapIn}
 use Rattle.cell.specs.Quick.{VerdictOn}
-use Rattle.cell.proofs.Accepted.{WellFormed}
+use Rattle.cell.specs.Quick.{WellFormed}
 use Rattle.elements.proofs.Laws.{whole-part}
 use Rattle.downlink.specs.declared.Ready.{Ready}
 use Rattle.downlink.specs.Fits.{Fits}
@@ -44,7 +45,7 @@ grant-accepted g e =
       copies = omega (arith, ltb-false 15 (g .copies) (b .1));
     }
 
-pub burst-fits : (c : Cell) (g : NpdschGrant) → WellFormed c → grantRefusal g ≡ 0 → Fits (burstOf c g)
+pub burst-fits : (c : CellConfig) (g : NpdschGrant) → WellFormed c → grantRefusal g ≡ 0 → Fits (burstOf c g)
 burst-fits c g w e =
     let a = grant-accepted g e in
     let R : ℕ = entry downlinkCopies (g .copies) in
@@ -65,7 +66,7 @@ burst-fits c g w e =
     }
 
 -- the question on a cell with verdict v, its grant judged after it
-pub question : (c : Cell) (anchor other : List ℕ) (g : NpdschGrant) (v : Verdict) → VerdictOn c (ownBuffer c anchor other) v
-    → (q : Ready) → Judged (v .no) (grantRefusal g) (burstOf c g) q
-    → ReadyFor c (bitmapIn c (ownBuffer c anchor other)) (refusalOf c anchor other g) (burstOf c g) q (v .pattern)
-question c anchor other g v h q j = question-ready c anchor other (grantRefusal g) (burstOf c g) v h q j (burst-fits c g)
+pub question : (c : Cell) (anchor other : List ℕ) (g : NpdschGrant) (v : Verdict) → VerdictOn c (ownBuffer (c .config) anchor other) v
+    → (q : Ready) → Judged (v .no) (grantRefusal g) (burstOf (c .config) g) q
+    → ReadyFor c (bitmapIn (c .config) (ownBuffer (c .config) anchor other)) (refusalOf c anchor other g) (burstOf (c .config) g) q (v .pattern) (v .laid)
+question c anchor other g v h q j = question-ready c anchor other (grantRefusal g) (burstOf (c .config) g) v h q j (burst-fits (c .config) g)

@@ -4,6 +4,7 @@ use mathlib.Core.List.{List}
 use Prim.Native.Nat.{ℕ, _+_}
 use Rattle.grid.specs.Grid.{subcarriers}
 use Rattle.grid.specs.Tables.{entry, lengths, downlinkCopies, downlinkDelay, upToFour}
+use Rattle.cell.specs.declared.CellConfig.{CellConfig}
 use Rattle.cell.specs.declared.Cell.{Cell}
 use Rattle.cell.specs.Bitmap.{ownBuffer, bitmapIn}
 use Rattle.cell.specs.Usable.{why}
@@ -19,7 +20,7 @@ use Rattle.npdsch.specs.declared.NpdschGrant.{NpdschGrant}
 use Rattle.npdsch.specs.Refusals.{grantRefusal}
 
 -- the first subframe sent is the usable one before which exactly (delay) usable ones lie, counting from n + 5; all subcarriers are used
-abbrev pub burstOf : Cell → NpdschGrant → Burst
+abbrev pub burstOf : CellConfig → NpdschGrant → Burst
 burstOf c g = record {
   layout = layoutOf c;
   low = 0;
@@ -33,7 +34,7 @@ burstOf c g = record {
 
 -- sent in the cell's usable subframes, refused by the cell and then by the grant
 abbrev pub questionOf : Cell → List ℕ → List ℕ → NpdschGrant → Question
-questionOf c anchor other g = questionOn c anchor other (grantRefusal g) (burstOf c g)
+questionOf c anchor other g = questionOn c anchor other (grantRefusal g) (burstOf (c .config) g)
 
 unfoldable pub planOf : Cell → List ℕ → List ℕ → NpdschGrant → DownlinkPlan
 planOf c anchor other g = planAnswer (questionOf c anchor other g)
@@ -43,4 +44,4 @@ forwardOf c anchor other g p = forwardAnswer (questionOf c anchor other g) p
 
 -- with the cause that makes a subframe between the first and the last one unusable
 unfoldable pub backwardOf : Cell → List ℕ → List ℕ → NpdschGrant → ℕ → ℕ → ℕ → ℕ → DownlinkBack
-backwardOf c anchor other g t slot l k = backAnswer (questionOf c anchor other g) (why c (bitmapIn c (ownBuffer c anchor other))) t slot l k
+backwardOf c anchor other g t slot l k = backAnswer (questionOf c anchor other g) (why c (bitmapIn (c .config) (ownBuffer (c .config) anchor other))) t slot l k

@@ -4,6 +4,7 @@ ghost use Rattle.downlink.specs.Quick.{Judged};
 ghost use Rattle.npdsch.specs.Refusals.{aboveLargest, grantRefusal};
 ghost use Rattle.npdsch.specs.Questions.{burstOf, planOf, forwardOf, backwardOf};
 use cell::Cell;
+use cell::CellConfig;
 use downlink::Burst;
 use downlink::DownlinkBack;
 use downlink::DownlinkPlace;
@@ -28,7 +29,7 @@ fn above_largest(g: NpdschGrant) -> bool
 }
 
 // The burst of an accepted grant.
-fn burst(c: Cell, g: NpdschGrant) -> Burst
+fn burst(c: CellConfig, g: NpdschGrant) -> Burst
     requires { ⌜ grantRefusal g ≡ 0 ⌝ }
     ensures { λ r. ⌜ r ≡ burstOf c g ⌝ }
 {
@@ -50,7 +51,7 @@ fn burst(c: Cell, g: NpdschGrant) -> Burst
 }
 
 // The grant judged, after its cell's number.
-pub fn ready(cell: u64, c: Cell, g: NpdschGrant) -> Ready
+pub fn ready(cell: u64, c: CellConfig, g: NpdschGrant) -> Ready
     ensures { λ r. ⌜ Judged cell (grantRefusal g) (burstOf c g) r ⌝ }
 {
     if cell != 0 {
@@ -71,7 +72,7 @@ pub fn plan(c: Cell, anchor: &[u8], other: &[u8], g: NpdschGrant) -> DownlinkPla
     ensures { λ r. ⌜ r ≡ planOf c (now (anchor .entry)) (now (other .entry)) g ⌝ }
 {
     let v = cell::judged(c, anchor, other);
-    downlink::plan(ready(v.no, c, g), v.pattern)
+    downlink::plan(ready(v.no, c.config, g), v.pattern, v.laid, c.messages)
 }
 
 // The place of position p, and the symbol there.
@@ -79,7 +80,7 @@ pub fn forward(c: Cell, anchor: &[u8], other: &[u8], g: NpdschGrant, p: u64) -> 
     ensures { λ r. ⌜ r ≡ forwardOf c (now (anchor .entry)) (now (other .entry)) g p ⌝ }
 {
     let v = cell::judged(c, anchor, other);
-    downlink::forward(ready(v.no, c, g), v.pattern, p)
+    downlink::forward(ready(v.no, c.config, g), v.pattern, v.laid, c.messages, p)
 }
 
 // What stands at symbol l and subcarrier k of a slot of subframe t, and why the subframe was skipped.
@@ -96,5 +97,14 @@ pub fn backward(
     ensures { λ r. ⌜ r ≡ backwardOf c (now (anchor .entry)) (now (other .entry)) g t slot l k ⌝ }
 {
     let v = cell::judged(c, anchor, other);
-    downlink::backward(ready(v.no, c, g), c, v.pattern, t, slot, l, k)
+    downlink::backward(
+        ready(v.no, c.config, g),
+        c,
+        v.pattern,
+        v.laid,
+        t,
+        slot,
+        l,
+        k,
+    )
 }

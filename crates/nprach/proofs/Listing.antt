@@ -10,31 +10,16 @@ use lib.Dec.{eqb, leb}
 use mir.Val.{boolByte}
 use borrow.Author.Tests.{eq-eqb, eqb-true, leb-true, le-leb, lt-leb}
 use Rattle.counting.proofs.Facts.{order, both-parts, either-case}
+pub use Rattle.counting.proofs.Listed.{allPass, of-list}
 use Rattle.nprach.specs.declared.Window.{Window}
 use Rattle.nprach.specs.declared.Windows.{Windows}
 use Rattle.nprach.specs.Quick.{doubles, scaled, steps}
 use Rattle.grid.specs.Grid.{uplinkSubcarriers}
 use Rattle.nprach.specs.Windows.{isOneOf, periods, starts, repetitions, lengths, windowTones, isListed, isRead, areListed}
 
-or-none : (b : Bool) → b ≡ (b || false)
-or-none true = refl
-or-none false = refl
-
 or-assoc : (a b c : Bool) → (a || b || c) ≡ (a || (b || c))
 or-assoc true b c = refl
 or-assoc false b c = refl
-
--- ---- the code's tests end with the last number, the list's with none
-
-module _ (x a b c d e f g : ℕ) where
-  abbrev in-seven : Bool → Bool
-  in-seven last = eqb x a || (eqb x b || (eqb x c || (eqb x d || (eqb x e || (eqb x f || last)))))
-
-  pub seven : in-seven (eqb x g) ≡ isOneOf (a ∷ b ∷ c ∷ d ∷ e ∷ f ∷ g ∷ []) x
-  seven = ap in-seven (or-none (eqb x g))
-
-  pub eight : (h : ℕ) → (eqb x h || in-seven (eqb x g)) ≡ isOneOf (h ∷ a ∷ b ∷ c ∷ d ∷ e ∷ f ∷ g ∷ []) x
-  eight h = ap (λ (t : Bool). eqb x h || t) seven
 
 append : (x : ℕ) (front back : List ℕ) → (isOneOf front x || isOneOf back x) ≡ isOneOf (front ++ back) x
 append x [] back = refl
@@ -47,18 +32,6 @@ pub tone-fits : (t : ℕ) → leb t 36 ≡ leb (t + windowTones) (uplinkSubcarri
 tone-fits t =
     ⊎-elim (λ h. lt-leb t 36 h ∙ sym (lt-leb (t + windowTones) (uplinkSubcarriers 0) (omega arith)))
     (λ h. le-leb t 36 h ∙ sym (le-leb (t + windowTones) (uplinkSubcarriers 0) (omega arith))) (order 36 t)
-
--- ---- a test that every number of a list passes
-
-abbrev pub allPass : (ℕ → Bool) → List ℕ → Bool
-allPass test [] = true
-allPass test (n ∷ list) = test n && allPass test list
-
-pub of-list : (test : ℕ → Bool) (list : List ℕ) → allPass test list ≡ true → (x : ℕ) → isOneOf list x ≡ true → test x ≡ true
-of-list test [] h x e = absurd (omega (arith, ap boolByte e))
-of-list test (n ∷ list) h x e =
-    let p = both-parts (test n) (allPass test list) h in
-    ⊎-elim (λ w. ap test (eqb-true x n w) ∙ p .0) (λ w. of-list test list (p .1) x w) (either-case (eqb x n) (isOneOf list x) e)
 
 -- ---- the periods in parts of 8 ms, and in groups: each divides the later ones
 

@@ -1,9 +1,10 @@
 -- Random access windows: 02 L4; TS 36.211 clauses 10.1.3.6 (uplink slots that overlap them are postponed) and 10.1.6 (the preamble).
-use mathlib.Core.Bool.{Bool, false, cond, not, _&&_, _||_}
+use mathlib.Core.Bool.{Bool, cond, not, _&&_, _||_}
 use mathlib.Core.List.{List, [], _∷_, _++_}
 use Prim.Native.Nat.{ℕ, _+_, _-_, _*_, _/_, _%_}
-use lib.Dec.{eqb, leb, ltb}
+use lib.Dec.{leb, ltb}
 use Rattle.counting.specs.Counting.{rank}
+pub use Rattle.counting.specs.Listed.{isOneOf}
 use Rattle.numerology.specs.Numerology.{groupMs, narrowTones}
 use Rattle.nprach.specs.declared.Window.{Window}
 use Rattle.grid.specs.Grid.{uplinkSubcarriers}
@@ -17,10 +18,6 @@ abbrev pub none : Windows
 none = record { count = 0; w1 = blank; w2 = blank; w3 = blank; w4 = blank }
 
 -- ---- the numbers that are listed
-
-abbrev pub isOneOf : List ℕ → ℕ → Bool
-isOneOf [] x = false
-isOneOf (n ∷ list) x = eqb x n || isOneOf list x
 
 -- ms
 abbrev pub periods : List ℕ

@@ -14,7 +14,7 @@ use Rattle.cell.specs.declared.Cell.{Cell}
 use Rattle.cell.specs.declared.Cause.{Cause}
 use Rattle.cell.specs.Usable.{period, why, usable}
 use Rattle.cell.specs.Judge.{judgeOf}
-use Rattle.cell.proofs.Accepted.{WellFormed}
+use Rattle.cell.specs.Quick.{WellFormed}
 use Rattle.elements.specs.declared.Layout.{Layout}
 use Rattle.elements.specs.Elements.{used, countOf}
 use Rattle.elements.proofs.Laws.{used-clear, element-below}
@@ -80,10 +80,10 @@ downlink-are q why = λ i. record {
 -- ---- a burst of a cell
 
 -- a used element of a usable subframe is clear
-used-place : (c : Cell) (bitmap : List ℕ) (from width t x : ℕ) → usable c bitmap t ≡ true → used (layoutOf c) from width x ≡ true
+used-place : (c : Cell) (bitmap : List ℕ) (from width t x : ℕ) → usable c bitmap t ≡ true → used (layoutOf (c .config)) from width x ≡ true
     → Clear c bitmap (downlinkGrid .at t x)
 used-place c bitmap from width t x u h =
-    let d = used-clear (layoutOf c) from width x h in
+    let d = used-clear (layoutOf (c .config)) from width x h in
     record {
       noReference = rw (d .noNrs, d .noCrs) refl;
       noControl = d .noControl;
@@ -91,8 +91,8 @@ used-place c bitmap from width t x u h =
       notWithheld = ap withholds (no-cause (why c bitmap t) u);
     }
 
-module _ (c : Cell) (anchor other : List ℕ) (grant : ℕ) (b : Burst) (fit : WellFormed c → grant ≡ 0 → Fits b)
-    (own : b .layout ≡ layoutOf c) where
+module _ (c : Cell) (anchor other : List ℕ) (grant : ℕ) (b : Burst) (fit : WellFormed (c .config) → grant ≡ 0 → Fits b)
+    (own : b .layout ≡ layoutOf (c .config)) where
   abbrev u : ℕ → Bool
   u = usable c (bitmapOf c anchor other)
 

@@ -1,4 +1,4 @@
--- What is promised beside demand 3 is kept: clear of the windows, the bitmap in force, the cause and one element by their numbers.
+-- What is promised beside demand 3 is kept: clear of the windows, the bitmap in force, messages, the cause and one element by their numbers.
 use mathlib.Core.Bool.{Bool, true, false, cond, not, _&&_, _||_}
 use mathlib.Core.List.{List}
 use mathlib.Core.Logic.{_⊎_, inl, inr, ⊎-elim, _↔_}
@@ -26,11 +26,14 @@ use Rattle.nprach.proofs.Spaced.{accepted-windows}
 use Rattle.bitmap.specs.Bitmap.{bytesOf}
 use Rattle.cell.specs.declared.Cell.{Cell}
 use Rattle.cell.specs.declared.Cause.{Cause}
-use Rattle.cell.specs.declared.Cause.the-variants.{None, Npbch, Npss, Nsss, Sib1, Bitmap}
+use Rattle.cell.specs.declared.Cause.the-variants.{None, Npbch, Npss, Nsss, Sib1, Message, Bitmap}
 use Rattle.cell.specs.Bitmap.{ownBuffer}
-use Rattle.cell.specs.Usable.{why, none, usable, causeNumber}
+use Rattle.cell.specs.Usable.{free, why, none, usable, causeNumber}
 use Rattle.cell.specs.Judge.{judgeOf, inForceOf, causeOf}
-use Rattle.cell.proofs.Accepted.{accepted-bitmap, none-in-force}
+use Rattle.messages.proofs.Meaning.{all-laid}
+use Rattle.cell.proofs.Accepted.{accepted-bitmap, accepted-messages, none-in-force}
+use Rattle.cell.proofs.Taken.{usable-anchor, usable-other}
+use Rattle.cell.proofs.Repeating.{free-again}
 use Rattle.sending.specs.Sending.{Sending, Content, ours, notOurs, contentAt}
 use Rattle.sending.specs.Answer.{backOf, backAt}
 use Rattle.sending.proofs.Answer.{accepted, inside-at}
@@ -53,7 +56,7 @@ use Rattle.symbol.specs.declared.ElementNumbers.{ElementNumbers}
 use Rattle.transmitted.specs.GoesOut.{sendingFor, goesOut, outgoingOf}
 use Rattle.transmitted.specs.Refusals.{lateRefusal, callRefusal, elementRefusal}
 use Rattle.transmitted.specs.Element.{elementAnswer}
-use Rattle.promises.specs.Further.{Reads, first, second, third, fourth, Shares, KeepsClear, Front, InForce, CauseTold, ElementTold}
+use Rattle.promises.specs.Further.{Reads, first, second, third, fourth, Shares, KeepsClear, Front, InForce, MessagesLaid, CauseTold, ElementTold}
 use Rattle.promises.specs.Promises.{bitmapOf, eligibleCount}
 use Rattle.promises.proofs.Bridge.{ours-back, not-ours-back}
 
@@ -86,35 +89,35 @@ module _ (spacing tone tones : ℕ) (ws : Windows) (accepted : refusalOn spacing
       let f : false ≡ true = rw (r, shares w s, meets-overlap (groupMs spacing) w u l m) at h in
       let z : _≡_ {A = ℕ} 0 1 = cc in omega arith
 
-  abbrev free : ℕ → Window → Bool
-  free j w = not (meets (groupMs spacing) a n (isRead ws j) w u)
+  abbrev isFree : ℕ → Window → Bool
+  isFree j w = not (meets (groupMs spacing) a n (isRead ws j) w u)
 
   listed : areListed ws ≡ true
   listed = accepted-windows (groupMs spacing) a n ws accepted .0
 
-  frees : (free 1 (ws .w1) ≡ true) × (free 2 (ws .w2) ≡ true) × (free 3 (ws .w3) ≡ true) × (free 4 (ws .w4) ≡ true)
+  allFree : (isFree 1 (ws .w1) ≡ true) × (isFree 2 (ws .w2) ≡ true) × (isFree 3 (ws .w3) ≡ true) × (isFree 4 (ws .w4) ≡ true)
   unfolding isClear
-  frees =
-      let x = both-parts (free 1 (ws .w1) && free 2 (ws .w2)) (free 3 (ws .w3) && free 4 (ws .w4)) isOpen in
-      let y = both-parts (free 1 (ws .w1)) (free 2 (ws .w2)) (x .0) in
-      let z = both-parts (free 3 (ws .w3)) (free 4 (ws .w4)) (x .1) in
+  allFree =
+      let x = both-parts (isFree 1 (ws .w1) && isFree 2 (ws .w2)) (isFree 3 (ws .w3) && isFree 4 (ws .w4)) isOpen in
+      let y = both-parts (isFree 1 (ws .w1)) (isFree 2 (ws .w2)) (x .0) in
+      let z = both-parts (isFree 3 (ws .w3)) (isFree 4 (ws .w4)) (x .1) in
       (y .0, y .1, z .0, z .1)
 
   -- an open group meets no window that is read and has one of the tones
   pub keeps-clear : KeepsClear spacing tone tones ws slot
-  keeps-clear w (first h) = let r = le-leb 1 (ws .count) h in never (isRead ws 1) (ws .w1) (frees .0) r (listed-1 ws listed r)
-  keeps-clear w (second h) = let r = le-leb 2 (ws .count) h in never (isRead ws 2) (ws .w2) (frees .1) r (listed-2 ws listed r)
-  keeps-clear w (third h) = let r = le-leb 3 (ws .count) h in never (isRead ws 3) (ws .w3) (frees .2) r (listed-3 ws listed r)
-  keeps-clear w (fourth h) = let r = le-leb 4 (ws .count) h in never (isRead ws 4) (ws .w4) (frees .3) r (listed-4 ws listed r)
+  keeps-clear w (first h) = let r = le-leb 1 (ws .count) h in never (isRead ws 1) (ws .w1) (allFree .0) r (listed-1 ws listed r)
+  keeps-clear w (second h) = let r = le-leb 2 (ws .count) h in never (isRead ws 2) (ws .w2) (allFree .1) r (listed-2 ws listed r)
+  keeps-clear w (third h) = let r = le-leb 3 (ws .count) h in never (isRead ws 3) (ws .w3) (allFree .2) r (listed-3 ws listed r)
+  keeps-clear w (fourth h) = let r = le-leb 4 (ws .count) h in never (isRead ws 4) (ws .w4) (allFree .3) r (listed-4 ws listed r)
 
 -- ---- the bitmap in force
 
 module _ (c : Cell) (anchor other : List ℕ) where
-  front : judgeOf c anchor other ≡ 0 → (own : List ℕ) → ownBuffer c anchor other ≡ own
-      → Front (bytesOf (c .bits)) own (inForceOf c anchor other)
+  front : judgeOf c anchor other ≡ 0 → (own : List ℕ) → ownBuffer (c .config) anchor other ≡ own
+      → Front (bytesOf (c .config .bits)) own (inForceOf c anchor other)
   unfolding inForceOf
   front e own o =
-      let n : ℕ = bytesOf (c .bits) in
+      let n : ℕ = bytesOf (c .config .bits) in
       rw (eq-eqb (judgeOf c anchor other) 0 e, o)
       (record {
         rest = drop n own;
@@ -124,9 +127,23 @@ module _ (c : Cell) (anchor other : List ℕ) where
 
   pub bitmap-in-force : InForce c (judgeOf c anchor other) anchor other (inForceOf c anchor other)
   bitmap-in-force = record {
-    onAnchor = λ e z. front e anchor (rw (eq-eqb (c .carrier) 0 z) refl);
-    onOther = λ e z. front e other (rw (ne-eqb (c .carrier) 0 (λ y. omega arith)) refl);
+    onAnchor = λ e z. front e anchor (rw (eq-eqb (c .config .carrier) 0 z) refl);
+    onOther = λ e z. front e other (rw (ne-eqb (c .config .carrier) 0 (λ y. omega arith)) refl);
     refused = λ h. sym (none-in-force c anchor other h);
+  }
+
+-- ---- messages
+
+module _ (c : Cell) (anchor other : List ℕ) (e : judgeOf c anchor other ≡ 0) where
+  abbrev b : List ℕ
+  b = bitmapOf c anchor other
+
+  pub messages-laid : MessagesLaid c b
+  messages-laid = record {
+    laid = all-laid (c .messages) (accepted-messages c anchor other e) (free (c .config) b)
+        (free-again (c .config) b (accepted-bitmap c anchor other e .listed));
+    onAnchor = λ z t. usable-anchor c b t z;
+    onOther = λ z t. usable-other c b t z;
   }
 
 -- ---- the cause
@@ -137,6 +154,7 @@ none-or-some Npbch = inr (refl, omega arith)
 none-or-some Npss = inr (refl, omega arith)
 none-or-some Nsss = inr (refl, omega arith)
 none-or-some Sib1 = inr (refl, omega arith)
+none-or-some Message = inr (refl, omega arith)
 none-or-some Bitmap = inr (refl, omega arith)
 
 pub no-cause : (x : Cause) → none x ≡ true → x ≡ None
@@ -167,15 +185,15 @@ some-eligible : (g : Layout) → 0 < countOf g 0 subcarriers
 some-eligible g = count-some g 0 subcarriers (record { starts = refl; whole = refl; some = omega arith; inside = omega arith })
 
 module _ (c : Cell) (anchor other : List ℕ) (g : NpdschGrant) (i : ℕ) where
-  pub goes-at : refusalOf c anchor other g ≡ 0 → i < sentSubframes (burstOf c g)
+  pub goes-at : refusalOf c anchor other g ≡ 0 → i < sentSubframes (burstOf (c .config) g)
       → forwardOf c anchor other g (i * eligibleCount c) .t ≡ sendingFor c anchor other g .time i
   unfolding forwardOf
   goes-at e h =
       let S : Sending = sendingFor c anchor other g in
-      rw (all-used (layoutOf c))
+      rw (all-used (layoutOf (c .config)))
       (ap (λ (r : DownlinkPlace). r .t)
-      (accepted refusedPlace _ _ e ∙ inside-at refusedPlace placeOf S (i * S .W) (omega (arith, digits-lt h (some-eligible (layoutOf c)))))
-      ∙ ap (S .time) (mul-div-cancel i (some-eligible (layoutOf c))))
+      (accepted refusedPlace _ _ e ∙ inside-at refusedPlace placeOf S (i * S .W) (omega (arith, digits-lt h (some-eligible (layoutOf (c .config))))))
+      ∙ ap (S .time) (mul-div-cancel i (some-eligible (layoutOf (c .config)))))
 
 -- ---- one element
 
@@ -205,11 +223,11 @@ module _ (c : Cell) (anchor other : List ℕ) (g : NpdschGrant) (i slot l k : �
 
   module _ (e : refusal ≡ 0) where
     -- the grant is accepted, the subframe is one of those sent, and the element inside the grid
-    parts : (refusalOf c anchor other g ≡ 0) × (i < sentSubframes (burstOf c g)) × (insideGrid slot l k ≡ true)
+    parts : (refusalOf c anchor other g ≡ 0) × (i < sentSubframes (burstOf (c .config) g)) × (insideGrid slot l k ≡ true)
     unfolding callRefusal lateRefusal
     parts =
         let a = chained (refusalOf c anchor other g) _ e in
-        let b = either-parts (leb (sentSubframes (burstOf c g)) i) (not (insideGrid slot l k)) (passed _ 14 _ (omega arith) (a .1) .0) in
+        let b = either-parts (leb (sentSubframes (burstOf (c .config) g)) i) (not (insideGrid slot l k)) (passed _ 14 _ (omega arith) (a .1) .0) in
         (a .0, leb-false _ _ (b .0), not-false _ (b .1))
 
     stands : backwardOf c anchor other g (forwardOf c anchor other g (i * eligibleCount c) .t) slot l k .back ≡ backOf here

@@ -1,7 +1,7 @@
--- P1 to P11 and the cases of L1 and L4 hold.
+-- P1 to P11 and the cases of L1, L4 and L5 hold.
 use mathlib.Core.Bool.{Bool, true, false, cond}
 use mathlib.Core.List.{List, [], _∷_, map}
-use mathlib.Core.Path.{_≡_, refl, ap, _∙_}
+use mathlib.Core.Path.{_≡_, refl, ap, _∙_, fun-ext}
 use mathlib.Core.Logic.{inl, inr, ⊎-elim}
 use Prim.Native.Nat.{ℕ, _*_, _%_, _≤_, _<_}
 use native.Mathlib.Omega.{arith}
@@ -13,14 +13,16 @@ use Rattle.grid.specs.Tables.{downlinkDelay, isRepetition}
 use Rattle.bitmap.specs.Bitmap.{bytesOf, allowed}
 use Rattle.cell.specs.declared.Cell.{Cell}
 use Rattle.cell.specs.Bitmap.{ownBuffer}
-use Rattle.cell.specs.Usable.{period, why, usable}
+use Rattle.messages.specs.Messages.{areListed, noMessages}
+use Rattle.cell.specs.Usable.{period, anchorCause, free, usable}
 use Rattle.cell.specs.Judge.{numbersRefusal, cellRefusal, judgeOf}
+use Rattle.cell.proofs.Taken.{unlaid}
 use Rattle.cell.proofs.Cases as cell
 use Rattle.elements.specs.Elements.{nrs, crs, eligible, used}
 use Rattle.elements.proofs.Laws.{all-used}
 use Rattle.elements.proofs.Cases as elements
 use Rattle.sending.specs.Sending.{Sending, spotAt}
-use Rattle.sending.specs.Answer.{extentOf}
+use Rattle.sending.specs.Answer.{extentOf, placeAt}
 use Rattle.sending.proofs.Answer.{accepted, inside-at}
 use Rattle.downlink.specs.declared.DownlinkPlan.{DownlinkPlan}
 use Rattle.cell.specs.declared.ElementCount.{ElementCount}
@@ -29,10 +31,11 @@ use Rattle.cell.specs.Layout.{layoutOf, elementCountOf}
 use Rattle.downlink.specs.Mapping.{sendingOf}
 use Rattle.downlink.specs.Answers.{refusedPlan, planShown, refusedPlace, placeOf}
 use Rattle.npdsch.specs.Refusals.{grantRefusal, refusalOf}
-use Rattle.npdsch.specs.Questions.{planOf, forwardOf}
+use Rattle.npdsch.specs.Questions.{burstOf, planOf, forwardOf}
 use Rattle.npusch.proofs.Cases as uplink
 use Rattle.npusch.proofs.WindowCases.{window-cases}
 use Rattle.harq_ack.proofs.Cases as ack
+use Rattle.messages.proofs.Cases as messages
 use Rattle.promises.specs.Promises.{eligibleCount}
 use Rattle.promises.specs.Cases.{Unmapped, OneOrTwo, anchorCell, eightSubframes, sentIn, zeroAndFive, onlyFour, nothing, Cases}
 use Rattle.promises.proofs.Further.{counted, goes-at}
@@ -42,16 +45,20 @@ use Rattle.promises.proofs.Further.{counted, goes-at}
 module _ (c : Cell) (anchor other : List ℕ) (u : Unmapped c) where
   judged : judgeOf c anchor other ≡ 0
   unfolding judgeOf
-  judged = cell.unmapped c (ownBuffer c anchor other) (u .numbers) (u .bits)
+  judged = cell.unmapped c (ownBuffer (c .config) anchor other) (u .numbers) (u .messages .listed) (u .messages .none) (u .bits)
 
   -- E by the ports and the control region, at any shift
-  count-is : (nports cports control n : ℕ) → ((v : ℕ) → v < 6 → elements.eligibleAt nports cports control v ≡ n) → c .cports ≡ cports
-      → c .control ≡ control
-      → c .nports ≡ nports → elementCountOf c anchor other ≡ record { no = 0; e = n }
+  count-is : (nports cports control n : ℕ) → ((v : ℕ) → v < 6 → elements.eligibleAt nports cports control v ≡ n) → c .config .cports ≡ cports
+      → c .config .control ≡ control
+      → c .config .nports ≡ nports → elementCountOf c anchor other ≡ record { no = 0; e = n }
   count-is nports cports control n e p l h =
-      counted c anchor other judged ∙ ap (λ (x : ℕ). record { no = 0; e = x }) (rw (h, p, l) (e (c .identity % 6) (omega arith)))
+      counted c anchor other judged ∙ ap (λ (x : ℕ). record { no = 0; e = x }) (rw (h, p, l) (e (c .config .identity % 6) (omega arith)))
 
 -- ---- P7 to P9
+
+listed : areListed noMessages ≡ true
+unfolding areListed
+listed = refl
 
 -- with delay field 0, Rmax does not matter
 no-delay : (rmax : ℕ) → downlinkDelay rmax 0 ≡ 0
@@ -65,9 +72,9 @@ no-delay rmax = by (ltb rmax 128)
 -- what is sent after so many usable subframes from subframe 20 on
 abbrev after : ℕ → ℕ → Sending
 after nports skip =
-    sendingOf (usable (anchorCell nports) []) period
+    sendingOf (free (anchorCell nports .config) []) period
     (record {
-      layout = layoutOf (anchorCell nports);
+      layout = layoutOf (anchorCell nports .config);
       low = 0;
       width = subcarriers;
       from = 20;
@@ -83,7 +90,15 @@ module _ (nports : ℕ) (anchor other : List ℕ) (ports : OneOrTwo nports) wher
 
   plain : Unmapped c
   unfolding numbersRefusal
-  plain = record { numbers = ⊎-elim (λ e. rw e refl) (λ e. rw e refl) ports; bits = refl }
+  plain = record {
+    numbers = ⊎-elim (λ e. rw e refl) (λ e. rw e refl) ports;
+    messages = record { listed = listed; none = refl };
+    bits = refl;
+  }
+
+  -- with no messages what is free is usable
+  same : usable c [] ≡ free (c .config) []
+  same = fun-ext (λ t. unlaid c [] t refl)
 
   module _ (delay rmax : ℕ) (d : delay ≤ 7) (r : isRepetition rmax ≡ true) where
     unrefused : refusalOf c anchor other (eightSubframes delay rmax) ≡ 0
@@ -92,13 +107,16 @@ module _ (nports : ℕ) (anchor other : List ℕ) (ports : OneOrTwo nports) wher
 
     planned : planOf c anchor other (eightSubframes delay rmax) ≡ planShown (extentOf (after nports (downlinkDelay rmax delay)))
     unfolding planOf bytesOf
-    planned = accepted refusedPlan _ _ unrefused
+    planned =
+        accepted refusedPlan _ _ unrefused
+        ∙ ap (λ (u : ℕ → Bool). planShown (extentOf (sendingOf u period (burstOf (c .config) (eightSubframes delay rmax))))) same
 
     placed : (p : ℕ) → p < 8 * eligibleCount c
         → forwardOf c anchor other (eightSubframes delay rmax) p ≡ placeOf (spotAt (after nports (downlinkDelay rmax delay)) p)
     unfolding forwardOf bytesOf
     placed p h =
         accepted refusedPlace _ _ unrefused
+        ∙ ap (λ (u : ℕ → Bool). placeAt refusedPlace placeOf (sendingOf u period (burstOf (c .config) (eightSubframes delay rmax))) p) same
         ∙ inside-at refusedPlace placeOf (after nports (downlinkDelay rmax delay)) p (rw all-used at h)
 
     sent : (i : ℕ) → i < 8 → sentIn c anchor other (eightSubframes delay rmax) i ≡ after nports (downlinkDelay rmax delay) .time i
@@ -107,6 +125,7 @@ module _ (nports : ℕ) (anchor other : List ℕ) (ports : OneOrTwo nports) wher
         ap (λ (x : ElementCount). forwardOf c anchor other (eightSubframes delay rmax) (i * x .e) .t)
         (counted c anchor other (judged c anchor other plain))
         ∙ goes-at c anchor other (eightSubframes delay rmax) i unrefused h
+        ∙ ap (λ (u : ℕ → Bool). sendingOf u period (burstOf (c .config) (eightSubframes delay rmax)) .time i) same
 
   -- the first usable ones from 20 on
   seventh : (rmax : ℕ) → isRepetition rmax ≡ true → (i : ℕ) → i < 8
@@ -115,11 +134,11 @@ module _ (nports : ℕ) (anchor other : List ℕ) (ports : OneOrTwo nports) wher
 
 -- computed, whatever the ports
 times : (nports : ℕ) → map (after nports 0 .time) (0 ∷ 1 ∷ 2 ∷ 3 ∷ 4 ∷ 5 ∷ 6 ∷ 7 ∷ []) ≡ 21 ∷ 22 ∷ 23 ∷ 26 ∷ 27 ∷ 28 ∷ 31 ∷ 32 ∷ []
-unfolding next select allowed why
+unfolding next select allowed free anchorCause
 times nports = refl
 
 delayed : (nports : ℕ) → (after nports (downlinkDelay 64 1) .time 0 ≡ 27) × (after nports (downlinkDelay 128 1) .time 0 ≡ 43)
-unfolding next select allowed why downlinkDelay
+unfolding next select allowed free anchorCause downlinkDelay
 delayed nports = (refl, refl)
 
 repetitions : (isRepetition 64 ≡ true) × (isRepetition 128 ≡ true)
@@ -129,12 +148,12 @@ repetitions = (refl, refl)
 -- with one port or two
 plans : (planShown (extentOf (after 1 0)) ≡ record { no = 0; first = 21; last = 32; copies = 1; places = 1280 })
     × (planShown (extentOf (after 2 0)) ≡ record { no = 0; first = 21; last = 32; copies = 1; places = 1216 })
-unfolding rank next select nrs crs eligible used allowed why
+unfolding rank next select nrs crs eligible used allowed free anchorCause
 plans = (refl, refl)
 
 ninth : (placeOf (spotAt (after 1 0) 60) ≡ record { no = 0; t = 21; slot = 0; l = 5; k = 1; symbol = 60 })
     × (placeOf (spotAt (after 1 0) 73) ≡ record { no = 0; t = 21; slot = 0; l = 6; k = 4; symbol = 73 })
-unfolding rank next select nrs crs eligible used allowed why
+unfolding rank next select nrs crs eligible used allowed free anchorCause
 ninth = (refl, refl)
 
 module _ (rmax : ℕ) (anchor other : List ℕ) (r : isRepetition rmax ≡ true) where
@@ -150,13 +169,13 @@ module _ (rmax : ℕ) (anchor other : List ℕ) (r : isRepetition rmax ≡ true)
 
 -- ---- P10 and P11: only the carrier's own buffer is read
 
-own-anchor : (c : Cell) (anchor other : List ℕ) → c .carrier ≡ 0 → judgeOf c anchor other ≡ cellRefusal c anchor
+own-anchor : (c : Cell) (anchor other : List ℕ) → c .config .carrier ≡ 0 → judgeOf c anchor other ≡ cellRefusal c anchor
 unfolding judgeOf
-own-anchor c anchor other e = rw (eq-eqb (c .carrier) 0 e) refl
+own-anchor c anchor other e = rw (eq-eqb (c .config .carrier) 0 e) refl
 
-own-other : (c : Cell) (anchor other : List ℕ) → c .carrier ≡ 1 → judgeOf c anchor other ≡ cellRefusal c other
+own-other : (c : Cell) (anchor other : List ℕ) → c .config .carrier ≡ 1 → judgeOf c anchor other ≡ cellRefusal c other
 unfolding judgeOf
-own-other c anchor other e = rw (ne-eqb (c .carrier) 0 (λ z. omega arith)) refl
+own-other c anchor other e = rw (ne-eqb (c .config .carrier) 0 (λ z. omega arith)) refl
 
 pub cases : Cases
 cases = record {
@@ -182,12 +201,13 @@ cases = record {
       ap (λ (x : DownlinkPlan). x .first) (planned nports anchor other h 1 128 (omega arith) (repetitions .1)) ∙ delayed nports .1;
   p9-60 = λ rmax anchor other r. place-at rmax anchor other r 60 (omega arith) ∙ ninth .0;
   p9-73 = λ rmax anchor other r. place-at rmax anchor other r 73 (omega arith) ∙ ninth .1;
-  p10-anchor = λ c other n a b. own-anchor c zeroAndFive other a ∙ cell.ten-anchor c n b a;
-  p10-other = λ c anchor n a b. own-other c anchor zeroAndFive a ∙ cell.ten-other c n b a;
-  p11-schedule-2 = λ c other n a i b s. own-anchor c onlyFour other a ∙ cell.forty-16 c n a i b s;
-  p11-schedule-1 = λ c other n a i b s. own-anchor c onlyFour other a ∙ cell.forty-8 c n a i b s;
-  nothing-anchor = λ c other n a b. own-anchor c nothing other a ∙ cell.ten-nothing c n b;
-  nothing-other = λ c anchor n a b. own-other c anchor nothing a ∙ cell.ten-nothing c n b;
+  p10-anchor = λ c other n m a b. own-anchor c zeroAndFive other a ∙ cell.ten-anchor c n m b a;
+  p10-other = λ c anchor n m a b. own-other c anchor zeroAndFive a ∙ cell.ten-other c n (m .listed) b (m .none) a;
+  p11-schedule-2 = λ c other n m a i b s. own-anchor c onlyFour other a ∙ cell.forty-16 c n m a i b s;
+  p11-schedule-1 = λ c other n m a i b s. own-anchor c onlyFour other a ∙ cell.forty-8 c n (m .listed) a i b (m .none) s;
+  nothing-anchor = λ c other n m a b. own-anchor c nothing other a ∙ cell.ten-nothing c n m b;
+  nothing-other = λ c anchor n m a b. own-other c anchor nothing a ∙ cell.ten-nothing c n m b;
   acknowledgements = ack.ack-cases;
   windows = window-cases;
+  messages = messages.cases;
 }

@@ -1,5 +1,5 @@
--- What is promised beside demand 3: places clear of the random access windows, 02 L4; the bitmap in force as a part, 01 "The cell"; and the
--- numbers of the answers that are enums, the cause of 02 L2 and one element of a fill, 01 "Questions".
+-- What is promised beside demand 3: places clear of the random access windows, 02 L4; the bitmap in force as a part, 01 "The cell"; messages
+-- laid as 02 L5 has them; and the numbers of the answers that are enums, the cause of 02 L2 and one element of a fill, 01 "Questions".
 use mathlib.Core.List.{List, [], _++_}
 use mathlib.Core.Logic.{_↔_}
 use mathlib.Core.Path.{_≡_}
@@ -11,10 +11,12 @@ use Rattle.nprach.specs.declared.Window.{Window}
 use Rattle.nprach.specs.declared.Windows.{Windows}
 use Rattle.nprach.specs.Windows.{windowTones}
 use Rattle.nprach.specs.Meaning.{Meeting}
-use Rattle.bitmap.specs.Bitmap.{bytesOf}
+use Rattle.bitmap.specs.Bitmap.{bytesOf, allowed}
+use Rattle.messages.specs.Messages.{remaining}
+use Rattle.messages.specs.Meaning.{AllLaid}
 use Rattle.cell.specs.declared.Cell.{Cell}
 use Rattle.cell.specs.declared.CauseAnswer.{CauseAnswer}
-use Rattle.cell.specs.Usable.{causeNumber}
+use Rattle.cell.specs.Usable.{free, causeNumber, usable}
 use Rattle.sending.specs.declared.Back.{Back}
 use Rattle.sending.specs.Sending.{ours, notOurs}
 use Rattle.sending.specs.Answer.{backOf}
@@ -52,8 +54,8 @@ pub record Front (n : ℕ) (buffer part : List ℕ) : Type 0 where
 
 -- of a cell with refusal number `no`: 0, 2 or 5 bytes of the carrier's own buffer; a refused one has an empty part
 pub record InForce (c : Cell) (no : ℕ) (anchor other part : List ℕ) : Type 0 where
-  pub onAnchor : no ≡ 0 → c .carrier ≡ 0 → Front (bytesOf (c .bits)) anchor part
-  pub onOther : no ≡ 0 → c .carrier ≡ 1 → Front (bytesOf (c .bits)) other part
+  pub onAnchor : no ≡ 0 → c .config .carrier ≡ 0 → Front (bytesOf (c .config .bits)) anchor part
+  pub onOther : no ≡ 0 → c .config .carrier ≡ 1 → Front (bytesOf (c .config .bits)) other part
   pub refused : (no ≡ 0 → ⊥) → part ≡ []
 
 -- ---- the cause by its number: 0 exactly where the subframe is usable, and where the cell is refused
@@ -62,6 +64,15 @@ pub record CauseTold (no : ℕ) (usable : Type 0) (a : CauseAnswer) : Type 0 whe
   pub number : a .no ≡ no
   pub told : no ≡ 0 → (causeNumber (a .cause) ≡ 0) ↔ usable
   pub refused : (no ≡ 0 → ⊥) → causeNumber (a .cause) ≡ 0
+
+-- ---- 02 L5: messages
+
+-- they are laid copy by copy over what the anchor and the bitmap allow, and on the anchor what they leave is usable; on a non-anchor none is
+-- laid, and what the bitmap allows is usable
+pub record MessagesLaid (c : Cell) (bitmap : List ℕ) : Type 0 where
+  pub laid : AllLaid (c .messages) (free (c .config) bitmap)
+  pub onAnchor : c .config .carrier ≡ 0 → (t : ℕ) → usable c bitmap t ≡ remaining (c .messages) (free (c .config) bitmap) t
+  pub onOther : c .config .carrier ≡ 1 → (t : ℕ) → usable c bitmap t ≡ allowed bitmap (c .config .bits) t
 
 -- ---- one element by its numbers, beside what backward answers at its place
 

@@ -10,7 +10,7 @@ use Rattle.grid.specs.Grid.{elements, uplinkSubcarriers}
 use Rattle.grid.specs.Tables.{entry, lengths, downlinkCopies, uplinkCopies}
 use Rattle.cell.specs.declared.Cell.{Cell}
 use Rattle.cell.specs.declared.Cause.{Cause}
-use Rattle.cell.specs.declared.Cause.the-variants.{None, Npbch, Npss, Nsss, Sib1, Bitmap}
+use Rattle.cell.specs.declared.Cause.the-variants.{None, Npbch, Npss, Nsss, Sib1, Message, Bitmap}
 use Rattle.cell.specs.Bitmap.{ownBuffer, bitmapIn}
 use Rattle.cell.specs.Usable.{period, why, usable, causeNumber}
 use Rattle.cell.specs.Judge.{judgeOf, inForceOf, causeOf}
@@ -47,11 +47,11 @@ use Rattle.walk.specs.Step.{askedOf}
 use Rattle.walk.specs.Course.{Course}
 use Rattle.promises.specs.Demand.{Answers, Granted, Demand}
 use Rattle.promises.specs.Grids.{SubframePlace, downlinkGrid, downlinkAnswers, uplinkGrid, uplinkAnswers}
-use Rattle.promises.specs.Further.{KeepsClear, InForce, CauseTold, ElementTold}
+use Rattle.promises.specs.Further.{KeepsClear, InForce, MessagesLaid, CauseTold, ElementTold}
 
 -- the bitmap in force, of an accepted cell
 abbrev pub bitmapOf : Cell → List ℕ → List ℕ → List ℕ
-bitmapOf c anchor other = bitmapIn c (ownBuffer c anchor other)
+bitmapOf c anchor other = bitmapIn (c .config) (ownBuffer (c .config) anchor other)
 
 -- ---- 5., of downlink grants
 
@@ -62,6 +62,7 @@ takes Npbch = true
 takes Npss = true
 takes Nsss = true
 takes Sib1 = true
+takes Message = true
 takes Bitmap = false
 
 -- the bitmap alone does: it withholds it
@@ -71,12 +72,13 @@ withholds Npbch = false
 withholds Npss = false
 withholds Nsss = false
 withholds Sib1 = false
+withholds Message = false
 withholds Bitmap = true
 
 -- a place is no reference element, not in the control region, in no subframe that is taken, and in none that the bitmap withholds
 pub record Clear (c : Cell) (bitmap : List ℕ) (x : SubframePlace) : Type 0 where
-  pub noReference : reference (layoutOf c) (x .l) (x .k) ≡ false
-  pub noControl : controlRegion (layoutOf c) (x .slot) (x .l) ≡ false
+  pub noReference : reference (layoutOf (c .config)) (x .l) (x .k) ≡ false
+  pub noControl : controlRegion (layoutOf (c .config)) (x .slot) (x .l) ≡ false
   pub notTaken : takes (why c bitmap (x .t)) ≡ false
   pub notWithheld : withholds (why c bitmap (x .t)) ≡ false
 
@@ -110,22 +112,22 @@ byPlace backward x = backward (x .t) (x .slot) (x .l) (x .k)
 
 -- E: the eligible elements of a subframe
 abbrev pub eligibleCount : Cell → ℕ
-eligibleCount c = rank (eligible (layoutOf c)) elements
+eligibleCount c = rank (eligible (layoutOf (c .config))) elements
 
 -- N·E symbols
 abbrev pub downlinkGranted : Cell → List ℕ → NpdschGrant → Granted
 downlinkGranted c bitmap g = record {
   copies = entry downlinkCopies (g .copies);
   symbols = entry lengths (g .subframes) * eligibleCount c;
-  sending = downlink.sendingOf (usable c bitmap) period (npdsch.burstOf c g);
+  sending = downlink.sendingOf (usable c bitmap) period (npdsch.burstOf (c .config) g);
 }
 
 -- as many symbols as the eligible elements that are used in a subframe, those of one NCCE or of both
 abbrev pub controlGranted : Cell → List ℕ → NpdcchGrant → Granted
 controlGranted c bitmap g = record {
   copies = g .r;
-  symbols = countOf (layoutOf c) (firstSubcarrier (g .format) (g .ncce)) (usedSubcarriers (g .format));
-  sending = downlink.sendingOf (usable c bitmap) period (npdcch.burstOf c g);
+  symbols = countOf (layoutOf (c .config)) (firstSubcarrier (g .format) (g .ncce)) (usedSubcarriers (g .format));
+  sending = downlink.sendingOf (usable c bitmap) period (npdcch.burstOf (c .config) g);
 }
 
 -- of the seven l of a slot one is the reference symbol
@@ -190,6 +192,8 @@ pub record Promises : Type 0 where
       → Course w anchor other (askedOf w anchor other)
   -- the bitmap in force
   pub inForce : (c : Cell) (anchor other : List ℕ) → InForce c (judgeOf c anchor other) anchor other (inForceOf c anchor other)
+  -- the messages of an accepted cell
+  pub messages : (c : Cell) (anchor other : List ℕ) → judgeOf c anchor other ≡ 0 → MessagesLaid c (bitmapOf c anchor other)
   -- the question of the cause, at any subframe
   pub cause : (c : Cell) (anchor other : List ℕ) (t : ℕ)
       → CauseTold (judgeOf c anchor other) (usable c (bitmapOf c anchor other) t ≡ true) (causeOf c anchor other t)

@@ -10,8 +10,8 @@ use text::put;
 ghost use mathlib.Core.Path.{_≡_};
 ghost use Prim.Native.Nat.{_+_, _≤_};
 
-// No two usable subframes that follow each other are further apart than this.
-const FURTHEST: u64 = 200;
+// So many of the skipped subframes are listed.
+const LISTED: u64 = 200;
 
 // How many subframes a codeword has.
 fn codeword(k: Kind, v: &Values) -> u64 {
@@ -125,7 +125,7 @@ fn last_skipped(
     next.t - 1
 }
 
-// The subframes after t up to the last, each with its cause.
+// The subframes after t up to the last, each with its cause, as far as they are listed.
 fn put_skips(
     v: &Values,
     anchor: &[u8],
@@ -141,7 +141,7 @@ fn put_skips(
     let c = questions::cell_of(v);
     let mut to = put(out, at, b"skipped:");
     let mut now = t;
-    let mut left = FURTHEST;
+    let mut left = LISTED;
     while left > 0 {
         if now >= last {
             return to;
@@ -149,21 +149,24 @@ fn put_skips(
         now += 1;
         let x = nbiot::cause(c, anchor, other, now);
         let cause = x.cause;
-        to = answers::put_skipped(left == FURTHEST, now, cause, out, to);
+        to = answers::put_skipped(left == LISTED, now, cause, out, to);
         left -= 1;
     }
     to
 }
 
-// The end of the line of skipped subframes.
-fn put_end(is_none: bool, out: &mut Page, at: usize) -> usize
-    requires { ⌜ at + 6 ≤ 65536 ⌝ }
-    ensures { λ r. ⌜ r ≤ at + 6 ⌝ }
+// The end of the line of skipped subframes: how many are not listed.
+fn put_end(t: u64, last: u64, out: &mut Page, at: usize) -> usize
+    requires { ⌜ at + 64 ≤ 65536 ⌝ }
+    ensures { λ r. ⌜ r ≤ at + 64 ⌝ }
 {
-    if is_none {
+    if t >= last {
         return put(out, at, b" none\n");
     }
-    put(out, at, b"\n")
+    if last - t <= LISTED {
+        return put(out, at, b"\n");
+    }
+    answers::put_unlisted(last - t - LISTED, out, at)
 }
 
 // The legend, the rows of subframe t, and what is skipped after it.
@@ -187,7 +190,7 @@ fn put_drawn(
     );
     let mid = put_rows(k, v, anchor, other, t, out, to);
     let end = put_skips(v, anchor, other, t, last, out, mid);
-    put_end(t >= last, out, end)
+    put_end(t, last, out, end)
 }
 
 pub fn put_picture(

@@ -6,8 +6,11 @@ use crate::values::NAMES;
 use crate::values::OTHER;
 use crate::values::ROOM;
 use crate::values::Values;
+use crate::values::W4;
+use crate::values::keep_schedule;
 use crate::values::keep_window;
 use bytes::scan::find;
+use messages::Schedule;
 use nprach::Window;
 use text::Number;
 ghost use Prim.Native.Nat.{_≤_, _<_};
@@ -91,11 +94,12 @@ pub enum Line {
 }
 
 // What a value word gives: a number to a name's row; a buffer, by its name's row and the start of its hex digits; a
-// window to a name's row; a fault.
+// window or a schedule to a name's row; a fault.
 enum Word {
     Number(usize, u64),
     Buffer(usize, usize),
     Window(usize, Window),
+    Schedule(usize, Schedule),
     Wrong(Fault),
 }
 
@@ -222,6 +226,27 @@ fn read_window(name: usize, s: &[u8]) -> Word {
     Word::Window(name, w)
 }
 
+// Three numbers with commas between them.
+fn read_schedule(name: usize, s: &[u8]) -> Word {
+    let a = part_end(s, 0);
+    let b = part_end(s, a + 1);
+    let Number::Value(period) = text::decimal(part(s, 0, a)) else {
+        return Word::Wrong(Fault::Number);
+    };
+    let Number::Value(every) = text::decimal(part(s, a + 1, b)) else {
+        return Word::Wrong(Fault::Number);
+    };
+    let Number::Value(size) = text::decimal(part(s, b + 1, s.len())) else {
+        return Word::Wrong(Fault::Number);
+    };
+    let x = Schedule {
+        period,
+        every,
+        size,
+    };
+    Word::Schedule(name, x)
+}
+
 // A tab or a carriage return stands in the word.
 fn is_odd(line: &[u8], start: usize, end: usize) -> bool
     requires { ⌜ (start ≤ end) × (end ≤ length (now line)) ⌝ }
@@ -254,7 +279,10 @@ fn read_word(line: &[u8], start: usize, end: usize) -> Word
     if name >= NAMES.len() {
         return Word::Wrong(Fault::Name);
     }
-    read_window(name, value)
+    if name <= W4 {
+        return read_window(name, value);
+    }
+    read_schedule(name, value)
 }
 
 // The end of the word after the space at a place.
@@ -385,6 +413,7 @@ fn keep_word(
             keep_buffer(name, part(line, from, end), v, anchor, other, data)
         }
         Word::Window(name, w) => keep_window(name, w, v),
+        Word::Schedule(name, s) => keep_schedule(name, s, v),
     }
 }
 

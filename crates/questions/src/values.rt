@@ -1,8 +1,11 @@
 // The values kept from line to line: numbers by the row of their name, the counts of the three buffers' bytes, and
-// the windows' numbers.
+// the numbers of windows and of schedules.
 use crate::reading::Kind;
 use cell::Cell;
+use cell::CellConfig;
 use harq_ack::HarqAckGrant;
+use messages::Messages;
+use messages::Schedule;
 use npdcch::NpdcchGrant;
 use npdsch::NpdschGrant;
 use nprach::Window;
@@ -12,8 +15,8 @@ use walk::Grant;
 use walk::Walk;
 ghost use Prim.Native.Nat.{_+_, _≤_};
 
-// The numbers' names; then the level, a number too, the buffers and the windows.
-pub const NAMES: [[u8; 10]; 37] = [
+// The numbers' names; then the level, a number too, the buffers, the windows and the schedules.
+pub const NAMES: [[u8; 10]; 44] = [
     *b"mode      ",
     *b"carrier   ",
     *b"identity  ",
@@ -36,6 +39,9 @@ pub const NAMES: [[u8; 10]; 37] = [
     *b"mcs       ",
     *b"field     ",
     *b"windows   ",
+    *b"siwindow  ",
+    *b"sioffset  ",
+    *b"messages  ",
     *b"p         ",
     *b"t         ",
     *b"slot      ",
@@ -51,6 +57,10 @@ pub const NAMES: [[u8; 10]; 37] = [
     *b"w2        ",
     *b"w3        ",
     *b"w4        ",
+    *b"m1        ",
+    *b"m2        ",
+    *b"m3        ",
+    *b"m4        ",
 ];
 
 const MODE: usize = 0;
@@ -97,44 +107,59 @@ const FIELD: usize = 20;
 
 const WINDOWS: usize = 21;
 
-pub const P: usize = 22;
+const SIWINDOW: usize = 22;
 
-pub const T: usize = 23;
+const SIOFFSET: usize = 23;
 
-pub const SLOT: usize = 24;
+const MESSAGES: usize = 24;
 
-pub const L: usize = 25;
+pub const P: usize = 25;
 
-pub const K: usize = 26;
+pub const T: usize = 26;
 
-pub const I: usize = 27;
+pub const SLOT: usize = 27;
 
-pub const ROOM: usize = 28;
+pub const L: usize = 28;
 
-pub const LEVEL: usize = 29;
+pub const K: usize = 29;
 
-pub const ANCHOR: usize = 30;
+pub const I: usize = 30;
 
-pub const OTHER: usize = 31;
+pub const ROOM: usize = 31;
 
-pub const DATA: usize = 32;
+pub const LEVEL: usize = 32;
 
-const W1: usize = 33;
+pub const ANCHOR: usize = 33;
 
-const W4: usize = 36;
+pub const OTHER: usize = 34;
 
-// At a buffer's row stands the count of its bytes; from the first window's row on stand four numbers of each window.
-pub type Values = [u64; 49];
+pub const DATA: usize = 35;
 
-// All 0, but the room.
+const W1: usize = 36;
+
+pub const W4: usize = 39;
+
+const M1: usize = 40;
+
+const M4: usize = 43;
+
+// The place of the first schedule's numbers.
+const SCHEDULES: usize = 52;
+
+// At a buffer's row stands the count of its bytes; from the first window's row on stand four numbers of each window,
+// and then three of each schedule.
+pub type Values = [u64; 64];
+
+// All 0, but the room and the messages' window.
 pub fn start() -> Values {
-    let mut v = [0u64; 49];
+    let mut v = [0u64; 64];
     v[ROOM] = 336;
+    v[SIWINDOW] = 160;
     v
 }
 
-pub fn cell_of(v: &Values) -> Cell {
-    Cell {
+fn config_of(v: &Values) -> CellConfig {
+    CellConfig {
         mode: v[MODE],
         carrier: v[CARRIER],
         identity: v[IDENTITY],
@@ -144,6 +169,12 @@ pub fn cell_of(v: &Values) -> Cell {
         sib1: v[SIB1],
         bits: v[BITS],
     }
+}
+
+pub fn cell_of(v: &Values) -> Cell {
+    let config = config_of(v);
+    let messages = messages_of(v);
+    Cell { config, messages }
 }
 
 pub fn npdsch_grant(v: &Values) -> NpdschGrant {
@@ -167,14 +198,14 @@ pub fn npdcch_grant(v: &Values) -> NpdcchGrant {
 
 // The place of a window's first number, by the row of its name.
 fn first_of(name: usize) -> usize
-    requires { ⌜ (33 ≤ name) × (name ≤ 36) ⌝ }
-    ensures { λ r. ⌜ r + 4 ≤ 49 ⌝ }
+    requires { ⌜ (36 ≤ name) × (name ≤ 39) ⌝ }
+    ensures { λ r. ⌜ r + 4 ≤ 52 ⌝ }
 {
     W1 + 4 * (name - W1)
 }
 
 fn window_of(name: usize, v: &Values) -> Window
-    requires { ⌜ (33 ≤ name) × (name ≤ 36) ⌝ }
+    requires { ⌜ (36 ≤ name) × (name ≤ 39) ⌝ }
 {
     let at = first_of(name);
     Window {
@@ -211,6 +242,55 @@ pub fn windows_of(v: &Values) -> Windows {
         w2,
         w3,
         w4,
+    }
+}
+
+// The place of a schedule's first number, by the row of its name.
+fn first_of_schedule(name: usize) -> usize
+    requires { ⌜ (40 ≤ name) × (name ≤ 43) ⌝ }
+    ensures { λ r. ⌜ r + 3 ≤ 64 ⌝ }
+{
+    SCHEDULES + 3 * (name - M1)
+}
+
+fn schedule_of(name: usize, v: &Values) -> Schedule
+    requires { ⌜ (40 ≤ name) × (name ≤ 43) ⌝ }
+{
+    let at = first_of_schedule(name);
+    Schedule {
+        period: v[at],
+        every: v[at + 1],
+        size: v[at + 2],
+    }
+}
+
+// Keeps a schedule at the row of its name.
+pub fn keep_schedule(name: usize, s: Schedule, v: &mut Values) {
+    if name < M1 {
+        return;
+    }
+    if name > M4 {
+        return;
+    }
+    let at = first_of_schedule(name);
+    v[at] = s.period;
+    v[at + 1] = s.every;
+    v[at + 2] = s.size;
+}
+
+fn messages_of(v: &Values) -> Messages {
+    let s1 = schedule_of(M1, v);
+    let s2 = schedule_of(M1 + 1, v);
+    let s3 = schedule_of(M1 + 2, v);
+    let s4 = schedule_of(M4, v);
+    Messages {
+        window: v[SIWINDOW],
+        offset: v[SIOFFSET],
+        count: v[MESSAGES],
+        s1,
+        s2,
+        s3,
+        s4,
     }
 }
 

@@ -1,15 +1,12 @@
 -- How the quick search sees the usable subframes: spans of forty with two masks. No definition of 01 cites this file; the cell's crate
 -- proves that the pattern it makes allows exactly the usable subframes.
-use mathlib.Core.Bool.{Bool, true, cond, not, _&&_}
+use mathlib.Core.Bool.{Bool, true, cond}
 use mathlib.Core.Path.{_≡_}
 use Prim.Native.Nat.{ℕ, _+_, _-_, _*_, _/_, _%_, _^_, _≤_, _<_}
 use lib.Count.{ones}
-use lib.Dec.{ltb}
-use Rattle.counting.specs.Counting.{rank, count, select, amongFirst, inRange}
+use Rattle.counting.specs.Counting.{rank, inRange}
 use Rattle.counting.specs.Bits.{bitAt, NthOne}
 use Rattle.spans.specs.declared.Pattern.{Pattern}
-use Rattle.spans.specs.declared.Found.{Found}
-use Rattle.spans.specs.declared.Found.the-variants.{At, Between, Nothing}
 
 -- subframes of a span
 abbrev pub span : ℕ
@@ -60,12 +57,3 @@ pub record Picked (p : Pattern) (k r : ℕ) : Type 0 where
   pub small : r < periodOf p
   pub passes : allows p r ≡ true
   pub before : rank (allows p) r ≡ k
-
--- strictly between the first and the last of the first K allowed ones from f on
-abbrev pub amidst : Pattern → ℕ → ℕ → ℕ → Bool
-amidst p f K t = ltb (select (allows p) (periodOf p) f 0) t && ltb t (select (allows p) (periodOf p) f (K - 1))
-
--- the index of subframe t among the first K allowed ones from f on; or it lies between them and is not allowed
-unfoldable pub foundAt : Pattern → ℕ → ℕ → ℕ → Found
-foundAt p f K t =
-    cond (amongFirst (allows p) f K t) (At (count (allows p) f (t - f))) (cond (not (allows p t) && amidst p f K t) Between Nothing)

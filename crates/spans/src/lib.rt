@@ -7,7 +7,8 @@ ghost use lib.Count.{ones};
 ghost use lib.Dec.{eqb};
 ghost use Rattle.counting.specs.Counting.{rank, select};
 ghost use Rattle.spans.specs.Pattern.{span, withSib1, maskAt, allows, periodOf, Regular, OnesOf, Landed};
-ghost use Rattle.spans.specs.Pattern.{Picked, foundAt};
+ghost use Rattle.spans.specs.Pattern.{Picked};
+ghost use Rattle.spans.specs.Found.{foundAmong};
 
 // Spans of forty subframes, the first subframe at the highest of forty digits of a mask. The pattern repeats after
 // 2^log spans; in the four from `first` on SIB1 stands and `sib1` is their mask, `usual` is that of the others.
@@ -72,7 +73,7 @@ fn whole_spans(p: Pattern, a: u64, b: u64, s: u64) -> u64
 }
 
 // How many allowed subframes lie before subframe t.
-fn rank_of(p: Pattern, a: u64, b: u64, t: u64) -> u64
+pub fn rank_of(p: Pattern, a: u64, b: u64, t: u64) -> u64
     requires { ⌜ Regular p × OnesOf p a b ⌝ }
     ensures { λ r. ⌜ r ≡ rank (allows p) t ⌝ }
 {
@@ -136,7 +137,7 @@ fn pick(p: Pattern, a: u64, b: u64, k: u64) -> u64
 }
 
 // The allowed subframe before which k allowed ones lie: whole periods, then the rest.
-fn at(p: Pattern, a: u64, b: u64, k: u64) -> u64
+pub fn at(p: Pattern, a: u64, b: u64, k: u64) -> u64
     requires { ⌜ Regular p × OnesOf p a b × (0 < rank (allows p) (periodOf p)) × (k < 2 ^ 32) ⌝ }
     ensures { λ r. ⌜ (allows p r ≡ true) × (rank (allows p) r ≡ k) ⌝ }
 {
@@ -173,7 +174,7 @@ pub fn first_and_last(p: Pattern, from: u64, j: u64, more: u64) -> Ends
 // Where subframe t stands to the first `many` allowed ones that follow the `skip`-th from a given one on.
 pub fn locate(p: Pattern, from: u64, skip: u64, many: u64, t: u64) -> Found
     requires { ⌜ Regular p × (0 < rank (allows p) (periodOf p)) ⌝ }
-    ensures { λ r. ⌜ r ≡ foundAt p (select (allows p) (periodOf p) from skip) many t ⌝ }
+    ensures { λ r. ⌜ r ≡ foundAmong (allows p) (periodOf p) (select (allows p) (periodOf p) from skip) many t ⌝ }
 {
     if t < from {
         return Found::Nothing;

@@ -34,7 +34,7 @@ module _ (c : Cell) (anchor other : List ℕ) (g : NpdschGrant) (i : ℕ) (bits 
     unfolding elementAnswer
     element-refused n = rw (← j .number, ne-eqb (v .no) 0 n) refl
 
-    pub element-answered : (h : Layout) (o : Outgoing) → v .no ≡ 0 → h ≡ layoutOf c → o ≡ goesIn h (v .first) (elementOf slot l k)
+    pub element-answered : (h : Layout) (o : Outgoing) → v .no ≡ 0 → h ≡ layoutOf (c .config) → o ≡ goesIn h (v .first) (elementOf slot l k)
         → answerOf bits level o ≡ elementAnswer c anchor other g i slot l k bits level
     unfolding elementAnswer
     element-answered h o z hl ho =

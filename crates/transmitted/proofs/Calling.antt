@@ -64,20 +64,20 @@ module _ (c : Cell) (anchor other : List ℕ) (g : NpdschGrant) (i : ℕ) (outsi
   refused-by : (k : Call) → (k .no ≡ 0 → ⊥) → k .no ≡ refusal → Judged k
   refused-by k n e = record { number = e; prepared = λ z. absurd (n z); shift = λ z. absurd (n z); going = λ z. absurd (n z) }
 
-  module _ (q : Ready) (p : Pattern) (r : ReadyFor c (bitmapIn c (ownBuffer c anchor other)) (refusalOf c anchor other g) (burstOf c g) q p) where
+  module _ (q : Ready) (p : Pattern) (laid : Bool) (r : ReadyFor c (bitmapIn (c .config) (ownBuffer (c .config) anchor other)) (refusalOf c anchor other g) (burstOf (c .config) g) q p laid) where
     -- the chain by its first part
     by-first : (t : Bool) → eqb (refusalOf c anchor other g) 0 ≡ t
-        → refusal ≡ cond t (lateRefusal (burstOf c g) i outside bits wrong level) (refusalOf c anchor other g)
+        → refusal ≡ cond t (lateRefusal (burstOf (c .config) g) i outside bits wrong level) (refusalOf c anchor other g)
     unfolding callRefusal
-    by-first t e = ap (λ (t : Bool). cond t (lateRefusal (burstOf c g) i outside bits wrong level) (refusalOf c anchor other g)) e
+    by-first t e = ap (λ (t : Bool). cond t (lateRefusal (burstOf (c .config) g) i outside bits wrong level) (refusalOf c anchor other g)) e
 
     by-grant : (q .no ≡ 0 → ⊥) → q .no ≡ refusal
     by-grant n = r .number ∙ sym (by-first false (ne-eqb (refusalOf c anchor other g) 0 (λ z. n (r .number ∙ z))))
 
-    by-late : q .no ≡ 0 → lateRefusal (burstOf c g) i outside bits wrong level ≡ refusal
+    by-late : q .no ≡ 0 → lateRefusal (burstOf (c .config) g) i outside bits wrong level ≡ refusal
     by-late z = sym (by-first true (eq-eqb (refusalOf c anchor other g) 0 (sym (r .number) ∙ z)))
 
-    late-is : (n : ℕ) → n ≡ lateRefusal (q .burst) i outside bits wrong level → q .no ≡ 0 → n ≡ lateRefusal (burstOf c g) i outside bits wrong level
+    late-is : (n : ℕ) → n ≡ lateRefusal (q .burst) i outside bits wrong level → q .no ≡ 0 → n ≡ lateRefusal (burstOf (c .config) g) i outside bits wrong level
     late-is n e z = e ∙ ap (λ (b : Burst). lateRefusal b i outside bits wrong level) (r .burst z)
 
     pub refused-early : (k : Call) → k .no ≡ q .no → (q .no ≡ 0 → ⊥) → Judged k
@@ -87,37 +87,37 @@ module _ (c : Cell) (anchor other : List ℕ) (g : NpdschGrant) (i : ℕ) (outsi
     refused-late k n e z f h = refused-by k (λ y. h (sym f ∙ y)) (f ∙ late-is n e z ∙ by-late z)
 
     module _ (z : q .no ≡ 0) where
-      fits : Fits (burstOf c g)
+      fits : Fits (burstOf (c .config) g)
       fits = subst Fits (r .burst z) (r .answerable .fits z)
 
       abbrev W : ℕ
-      W = countOf (layoutOf c) 0 subcarriers
+      W = countOf (layoutOf (c .config)) 0 subcarriers
 
       abbrev unit : ℕ
-      unit = carried (burstOf c g .consecutive) 1 (burstOf c g .codeword) i
+      unit = carried (burstOf (c .config) g .consecutive) 1 (burstOf (c .config) g .codeword) i
 
       -- the carried subframe's symbols are some of the codeword's
-      within : unit * W + W ≤ burstOf c g .codeword * W
+      within : unit * W + W ≤ burstOf (c .config) g .codeword * W
       within =
-          let below : unit < burstOf c g .codeword =
-          carried-below (burstOf c g .consecutive) 1 (burstOf c g .codeword) i (fits .consecutive) (omega arith) (mod-one (burstOf c g .codeword)) (fits .codeword) in
+          let below : unit < burstOf (c .config) g .codeword =
+          carried-below (burstOf (c .config) g .consecutive) 1 (burstOf (c .config) g .codeword) i (fits .consecutive) (omega arith) (mod-one (burstOf (c .config) g .codeword)) (fits .codeword) in
           omega (arith, suc-mul unit W, mul-le-mul-right W below)
 
-      prepared-by : lateRefusal (burstOf c g) i outside bits wrong level ≡ 0 → Prepared (layoutOf c) (unit * W) bits
+      prepared-by : lateRefusal (burstOf (c .config) g) i outside bits wrong level ≡ 0 → Prepared (layoutOf (c .config)) (unit * W) bits
       prepared-by e =
-          let p = late-passed (burstOf c g) i outside bits wrong level e in
+          let p = late-passed (burstOf (c .config) g) i outside bits wrong level e in
           record {
             valid = fits .layout;
             room = omega (arith, within, p .whole);
-            small = omega (arith, within, mul-le-mul (fits .codewordSmall) (count-le (layoutOf c) 0 subcarriers));
+            small = omega (arith, within, mul-le-mul (fits .codewordSmall) (count-le (layoutOf (c .config)) 0 subcarriers));
           }
 
-      accepted-at : lateRefusal (burstOf c g) i outside bits wrong level ≡ 0 → Judged (record { no = 0; first = unit * W; v = c .identity % 6 })
+      accepted-at : lateRefusal (burstOf (c .config) g) i outside bits wrong level ≡ 0 → Judged (record { no = 0; first = unit * W; v = c .config .identity % 6 })
       accepted-at e = record {
         number = sym e ∙ by-late z;
         prepared = λ y. prepared-by e;
         shift = λ y. refl;
-        going = λ y x. going c anchor other g (refusalOf c anchor other g) q p r z i x (late-passed (burstOf c g) i outside bits wrong level e .sent);
+        going = λ y x. going c anchor other g (refusalOf c anchor other g) q p laid r z i x (late-passed (burstOf (c .config) g) i outside bits wrong level e .sent);
       }
 
     pub accepted : (n w u : ℕ) → q .no ≡ 0 → n ≡ lateRefusal (q .burst) i outside bits wrong level → n ≡ 0
@@ -130,8 +130,8 @@ module _ (c : Cell) (anchor other : List ℕ) (g : NpdschGrant) (i : ℕ) (outsi
         subst Judged (sym (λ k. record { no = 0; first = m k; v = b k .layout .v })) (accepted-at z (sym (late-is n e z) ∙ h))
 
   -- an accepted call passed 14 and 15
-  pub call-passed : (k : Call) → Judged k → k .no ≡ 0 → Passed (burstOf c g) i outside bits wrong
+  pub call-passed : (k : Call) → Judged k → k .no ≡ 0 → Passed (burstOf (c .config) g) i outside bits wrong
   unfolding callRefusal
   call-passed k j z =
-      late-passed (burstOf c g) i outside bits wrong level
-      (chained (refusalOf c anchor other g) (lateRefusal (burstOf c g) i outside bits wrong level) (sym (j .number) ∙ z) .1)
+      late-passed (burstOf (c .config) g) i outside bits wrong level
+      (chained (refusalOf c anchor other g) (lateRefusal (burstOf (c .config) g) i outside bits wrong level) (sym (j .number) ∙ z) .1)

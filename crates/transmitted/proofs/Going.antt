@@ -1,7 +1,7 @@
 -- What the code works out for an element is what goes out there.
 use mathlib.Core.Bool.{Bool, true, false, cond}
 use mathlib.Core.List.{List}
-use mathlib.Core.Path.{_≡_, refl, sym, ap, _∙_}
+use mathlib.Core.Path.{_≡_, refl, sym, ap, _∙_, subst}
 use Prim.Native.Nat.{ℕ, _+_, _*_, _<_}
 use native.Mathlib.Omega.{arith}
 use lib.Dec.{eqb}
@@ -13,7 +13,8 @@ use Rattle.grid.specs.Grid.{subcarriers}
 use Rattle.cell.specs.declared.Cell.{Cell}
 use Rattle.cell.specs.Bitmap.{ownBuffer, bitmapIn}
 use Rattle.cell.specs.Usable.{period, usable}
-use Rattle.cell.proofs.Showing.{usable-repeats, some-usable}
+use Rattle.subframes.proofs.Left.{left-again}
+use Rattle.cell.proofs.Showing.{same-test}
 use Rattle.sending.specs.CopyOrder.{carried}
 use Rattle.sending.specs.Sending.{Content, contentAt}
 use Rattle.elements.specs.declared.Layout.{Layout}
@@ -46,20 +47,22 @@ goes-by true a d = refl
 goes-by false a d = refl
 
 module _ (c : Cell) (anchor other : List ℕ) (g : NpdschGrant) where
-  pub goes-in : (i x : ℕ) → goesOut (contentIn (burstOf c g) i x)
-      ≡ goesIn (layoutOf c) (carried (burstOf c g .consecutive) 1 (burstOf c g .codeword) i * countOf (layoutOf c) 0 subcarriers) x
+  pub goes-in : (i x : ℕ) → goesOut (contentIn (burstOf (c .config) g) i x)
+      ≡ goesIn (layoutOf (c .config)) (carried (burstOf (c .config) g .consecutive) 1 (burstOf (c .config) g .codeword) i * countOf (layoutOf (c .config)) 0 subcarriers) x
   unfolding contentIn goesIn
-  goes-in i x = goes-by (used (layoutOf c) 0 subcarriers x) _ _
+  goes-in i x = goes-by (used (layoutOf (c .config)) 0 subcarriers x) _ _
 
-  pub going : (refusal : ℕ) (q : Ready) (p : Pattern) → ReadyFor c (bitmapIn c (ownBuffer c anchor other)) refusal (burstOf c g) q p → q .no ≡ 0
-      → (i x : ℕ) → i < sentSubframes (burstOf c g)
-      → goesIn (layoutOf c) (carried (burstOf c g .consecutive) 1 (burstOf c g .codeword) i * countOf (layoutOf c) 0 subcarriers) x ≡ outgoingOf c anchor other g i x
+  pub going : (refusal : ℕ) (q : Ready) (p : Pattern) (laid : Bool) → ReadyFor c (bitmapIn (c .config) (ownBuffer (c .config) anchor other)) refusal (burstOf (c .config) g) q p laid → q .no ≡ 0
+      → (i x : ℕ) → i < sentSubframes (burstOf (c .config) g)
+      → goesIn (layoutOf (c .config)) (carried (burstOf (c .config) g .consecutive) 1 (burstOf (c .config) g .codeword) i * countOf (layoutOf (c .config)) 0 subcarriers) x ≡ outgoingOf c anchor other g i x
   unfolding outgoingOf
-  going refusal q p r z i x h =
-      let m = bitmapIn c (ownBuffer c anchor other) in
+  going refusal q p laid r z i x h =
+      let m = bitmapIn (c .config) (ownBuffer (c .config) anchor other) in
+      let s = r .answerable .searchable z in
+      let same = same-test c m p laid (r .shows z) (r .lays z) in
+      let repeats = subst (λ (u : ℕ → Bool). (t : ℕ) → u (t + period) ≡ u t) same (left-again p laid (c .messages) (s .on)) in
       sym (ap goesOut
-      (use-at (usable c m) period (usable-repeats c m p (r .shows z))
-      (some-usable c m p (r .shows z) (r .answerable .going z .some)) (burstOf c g) i x h)
+      (use-at (usable c m) period repeats (subst (λ (u : ℕ → Bool). 0 < rank u period) same (s .some)) (burstOf (c .config) g) i x h)
       ∙ goes-in i x)
 
 -- ---- an element by its cases

@@ -32,6 +32,6 @@ pub record Prepared (g : Layout) (first : ℕ) (bits : List ℕ) : Type 0 where
 pub record CallFor (c : Cell) (anchor other : List ℕ) (g : NpdschGrant) (i : ℕ) (outside : Bool) (bits : List ℕ) (wrongOutput : Bool)
     (level : Float) (r : Call) : Type 0 where
   pub number : r .no ≡ callRefusal c anchor other g i outside bits wrongOutput level
-  pub prepared : r .no ≡ 0 → Prepared (layoutOf c) (r .first) bits
-  pub shift : r .no ≡ 0 → r .v ≡ c .identity % 6
-  pub going : r .no ≡ 0 → (x : ℕ) → goesIn (layoutOf c) (r .first) x ≡ outgoingOf c anchor other g i x
+  pub prepared : r .no ≡ 0 → Prepared (layoutOf (c .config)) (r .first) bits
+  pub shift : r .no ≡ 0 → r .v ≡ c .config .identity % 6
+  pub going : r .no ≡ 0 → (x : ℕ) → goesIn (layoutOf (c .config)) (r .first) x ≡ outgoingOf c anchor other g i x

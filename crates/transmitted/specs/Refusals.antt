@@ -30,7 +30,7 @@ lateRefusal b i outside bits wrongOutput level =
 -- the cell's and the grant's come first
 unfoldable pub callRefusal : Cell → List ℕ → List ℕ → NpdschGrant → ℕ → Bool → List ℕ → Bool → Float → ℕ
 callRefusal c anchor other g i outside bits wrongOutput level =
-    cond (eqb (refusalOf c anchor other g) 0) (lateRefusal (burstOf c g) i outside bits wrongOutput level) (refusalOf c anchor other g)
+    cond (eqb (refusalOf c anchor other g) 0) (lateRefusal (burstOf (c .config) g) i outside bits wrongOutput level) (refusalOf c anchor other g)
 
 -- the element is any number of slot, l and k; there is no output
 abbrev pub elementRefusal : Cell → List ℕ → List ℕ → NpdschGrant → ℕ → ℕ → ℕ → ℕ → List ℕ → Float → ℕ

@@ -9,6 +9,7 @@ ghost use Rattle.transmitted.specs.Refusals.{lateRefusal};
 ghost use Rattle.transmitted.specs.Element.{elementAnswer};
 ghost use Rattle.transmitted.specs.Quick.{goesIn, CallFor};
 use cell::Cell;
+use cell::CellConfig;
 use downlink::Burst;
 use elements::ElementUse;
 use elements::Layout;
@@ -76,7 +77,7 @@ pub fn judged(
         (now (bits .entry)) wrong level r ⌝ }
 {
     let v = cell::judged(c, anchor, other);
-    let q = npdsch::ready(v.no, c, g);
+    let q = npdsch::ready(v.no, c.config, g);
     if q.no != 0 {
         return refused(q.no);
     }
@@ -95,7 +96,7 @@ pub fn judged(
 }
 
 // The layout of a cell by its shift.
-pub fn layout(c: Cell, v: u64) -> Layout
+pub fn layout(c: CellConfig, v: u64) -> Layout
     requires { ⌜ v ≡ c .identity % 6 ⌝ }
     ensures { λ r. ⌜ r ≡ layoutOf c ⌝ }
 {
@@ -145,6 +146,6 @@ pub fn element(
     if call.no != 0 {
         return Element::Refused(call.no);
     }
-    let o = outgoing(layout(c, call.v), call.first, slot, l, k);
+    let o = outgoing(layout(c.config, call.v), call.first, slot, l, k);
     symbol::answer(o, bits, level)
 }

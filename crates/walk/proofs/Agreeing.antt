@@ -12,7 +12,7 @@ use Rattle.sending.proofs.Answer.{accepted, number-of, forward-refused, forward
 use Rattle.elements.proofs.Laws.{count-le}
 use Rattle.cell.specs.declared.Cell.{Cell}
 use Rattle.cell.specs.Judge.{judgeOf}
-use Rattle.cell.proofs.Accepted.{WellFormed}
+use Rattle.cell.specs.Quick.{WellFormed}
 use Rattle.uplink.specs.declared.Shape.{Shape}
 use Rattle.uplink.specs.declared.UplinkPlan.{UplinkPlan}
 use Rattle.uplink.specs.Fits as uplinkFits
@@ -100,7 +100,7 @@ burst-small b f = omega (arith, places-small _ _ (sent-small b f) (count-le (b .
 
 module _ (c : Cell) (anchor other : List ℕ) where
   -- a question on a burst that fits where cell and grant are accepted
-  burst-agrees : (grant : ℕ) (b : Burst) → (WellFormed c → grant ≡ 0 → Fits b)
+  burst-agrees : (grant : ℕ) (b : Burst) → (WellFormed (c .config) → grant ≡ 0 → Fits b)
       → Agrees (record {
         no = downlink.planAnswer (questionOn c anchor other grant b) .no;
         places = downlink.planAnswer (questionOn c anchor other grant b) .places;
@@ -117,5 +117,5 @@ module _ (c : Cell) (anchor other : List ℕ) where
       uplink-agrees (uplinkSubcarriers (g .spacing)) _ _ (up.questionOf g ws) (λ e. shape-small (upShaping.shapeOf g) (upAcceptance.fits g ws e))
   agrees (HarqAck g ws) =
       uplink-agrees (uplinkSubcarriers (g .spacing)) _ _ (ack.questionOf g ws) (λ e. shape-small (ackShaping.shapeOf g) (ackAccepting.fits g ws e))
-  agrees (Npdsch g) = burst-agrees (down-refusals.grantRefusal g) (down.burstOf c g) (downAccepting.burst-fits c g)
-  agrees (Npdcch g) = burst-agrees (control-refusals.grantRefusal g) (control.burstOf c g) (controlAccepting.burst-fits c g)
+  agrees (Npdsch g) = burst-agrees (down-refusals.grantRefusal g) (down.burstOf (c .config) g) (downAccepting.burst-fits (c .config) g)
+  agrees (Npdcch g) = burst-agrees (control-refusals.grantRefusal g) (control.burstOf (c .config) g) (controlAccepting.burst-fits (c .config) g)

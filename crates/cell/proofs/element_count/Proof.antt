@@ -1,16 +1,15 @@
-use borrow.Author.Tests.{eq-eqb, ne-eqb}
+use mathlib.Core.Path.{sym, ap, _∙_}
 use Rattle.cell.specs.Judge.{judgeOf}
 use Rattle.cell.specs.Layout.{elementCountOf}
+use Rattle.cell.specs.Quick.{countAfter}
+use Rattle.cell.proofs.Accepted.{accepted-numbers}
 use Rattle.cell.proofs.element_count.Statement.{statement}
 use Rattle.cell.proofs.element_count.Tie as tie
 
 returns : tie.Need-returns
-unfolding judgeOf elementCountOf
-returns c = rw (eq-eqb _ _ (c .before .if1 .taken)) (c .count-own .ensures)
-
-returns-2 : tie.Need-returns-2
-unfolding judgeOf elementCountOf
-returns-2 c = rw (ne-eqb _ _ (c .before .if1 .left)) (c .count-own2 .ensures)
+unfolding elementCountOf countAfter
+returns c = simp (c .counted .ensures, c .before .judge .ensures)
 
 pub element-count-spec : {M : Type 1} → statement M
-element-count-spec = tie.close (tie.spec (λ c κs. tt) returns (λ c κs. tt) returns-2)
+element-count-spec =
+    tie.close (tie.spec (λ c κs. tt) (λ c κs. λ z. accepted-numbers _ _ _ (sym (c .judge .ensures) ∙ z)) returns)

@@ -1,7 +1,7 @@
-use mathlib.Core.Path.{sym, _∙_}
+use mathlib.Core.Path.{refl, sym, _∙_}
 use borrow.Author.Tests.{eqb-true, eqb-false}
 use Rattle.cell.proofs.Accepted.{form-bitmap}
-use Rattle.cell.proofs.Judging.{refused-eight, refused-eighteen, accepted}
+use Rattle.cell.proofs.Judging.{refused-eight, on, refused-eighteen, accepted}
 use Rattle.cell.proofs.formed.Statement.{statement}
 use Rattle.cell.proofs.formed.Tie as tie
 
@@ -13,17 +13,17 @@ returns c =
 returns-2 : tie.Need-returns-2
 returns-2 c =
     let i = c .before .before in
-    let p = i .before in
+    let p = i .before .before .before in
     let l = p .before .before in
-    refused-eighteen _ _ (l .load .result) (l .before .before .pre) (l .load .ensures) (p .before .if1 .left) _ (p .pattern .ensures) _
+    refused-eighteen _ _ (l .load .result) (l .before .before .pre) (l .load .ensures) (p .before .if1 .left) _ (p .pattern .ensures) _ refl _
     (eqb-true _ 0 (sym (i .is-empty .ensures) ∙ c .before .if2 .taken)) (c .refused2 .ensures)
 
 returns-3 : tie.Need-returns-3
 returns-3 c =
     let i = c .before in
-    let p = i .before in
+    let p = i .before .before .before in
     let l = p .before .before in
-    accepted _ _ (l .load .result) (l .before .before .pre) (l .load .ensures) (p .before .if1 .left) _ (p .pattern .ensures)
+    accepted _ _ (l .load .result) (l .before .before .pre) (l .load .ensures) (p .before .if1 .left) _ (p .pattern .ensures) _ refl
     (eqb-false _ 0 (sym (i .is-empty .ensures) ∙ c .if2 .left))
 
 pub formed-spec : {M : Type 1} → statement M
@@ -35,8 +35,9 @@ formed-spec =
     returns
     (λ c κs. tt)
     (λ c κs.
-    let l = c .before .before in
-    c .pattern .ensures .shows _ (form-bitmap _ _ (l .before .before .pre)) (l .load .ensures) .regular)
+    let p = c .before .before in
+    let l = p .before .before in
+    on _ _ (l .load .result) (l .before .before .pre) (l .load .ensures) (p .before .if1 .left) _ (p .pattern .ensures) _ refl)
     (λ c κs. tt)
     returns-2
     returns-3)

@@ -1,15 +1,26 @@
+use mathlib.Core.Path.{sym, _∙_}
 use borrow.Author.Tests.{eq-eqb, ne-eqb}
 use Rattle.cell.specs.Judge.{judgeOf}
 use Rattle.cell.proofs.judge.Statement.{statement}
 use Rattle.cell.proofs.judge.Tie as tie
 
-returns : tie.Need-returns
-unfolding judgeOf
-returns c = rw (eq-eqb _ _ (c .before .if1 .taken)) (c .judge-own .ensures)
-
-returns-2 : tie.Need-returns-2
-unfolding judgeOf
-returns-2 c = rw (ne-eqb _ _ (c .before .if1 .left)) (c .judge-own2 .ensures)
-
 pub judge-spec : {M : Type 1} → statement M
-judge-spec = tie.close (tie.spec (λ c κs. tt) returns (λ c κs. tt) returns-2)
+unfolding judgeOf
+judge-spec =
+    tie.close
+    (tie.spec
+    (λ c κs. tt)
+    (λ c κs. tt)
+    (λ c.
+    let b = c .before in
+    let t = b .before .before in
+    rw (eq-eqb _ _ (b .if2 .taken)) (c .judge-alone .ensures _ (sym (t .before .is-silent .ensures) ∙ t .if1 .taken)))
+    (λ c κs. tt)
+    (λ c.
+    let b = c .before in
+    let t = b .before .before in
+    rw (ne-eqb _ _ (b .if2 .left)) (c .judge-alone2 .ensures _ (sym (t .before .is-silent .ensures) ∙ t .if1 .taken)))
+    (λ c κs. tt)
+    (λ c. rw (eq-eqb _ _ (c .before .if3 .taken)) (c .judged-beside .ensures .number))
+    (λ c κs. tt)
+    (λ c. rw (ne-eqb _ _ (c .before .if3 .left)) (c .judged-beside2 .ensures .number)))

@@ -1,17 +1,24 @@
-use mathlib.Core.Path.{_≡_, sym, ap, subst}
-use mathlib.Core.Bool.{Bool, cond}
-use mathlib.Core.List.{List}
-use Prim.Native.Nat.{ℕ}
+use mathlib.Core.Path.{sym, _∙_}
 use borrow.Author.Tests.{eq-eqb, ne-eqb}
-use Rattle.cell.specs.Quick.{VerdictOn}
 use Rattle.cell.proofs.judged.Statement.{statement}
 use Rattle.cell.proofs.judged.Tie as tie
 
-returns : tie.Need-returns
-returns c = rw (eq-eqb _ _ (c .before .if1 .taken)) (c .judged-own .ensures)
-
-returns-2 : tie.Need-returns-2
-returns-2 c = rw (ne-eqb _ _ (c .before .if1 .left)) (c .judged-own2 .ensures)
-
 pub judged-spec : {M : Type 1} → statement M
-judged-spec = tie.close (tie.spec (λ c κs. tt) returns (λ c κs. tt) returns-2)
+judged-spec =
+    tie.close
+    (tie.spec
+    (λ c κs. tt)
+    (λ c κs. tt)
+    (λ c.
+    let b = c .before in
+    let t = b .before .before in
+    rw (eq-eqb _ _ (b .if2 .taken)) (c .judged-alone .ensures _ (sym (t .before .is-silent .ensures) ∙ t .if1 .taken)))
+    (λ c κs. tt)
+    (λ c.
+    let b = c .before in
+    let t = b .before .before in
+    rw (ne-eqb _ _ (b .if2 .left)) (c .judged-alone2 .ensures _ (sym (t .before .is-silent .ensures) ∙ t .if1 .taken)))
+    (λ c κs. tt)
+    (λ c. rw (eq-eqb _ _ (c .before .if3 .taken)) (c .judged-beside .ensures))
+    (λ c κs. tt)
+    (λ c. rw (ne-eqb _ _ (c .before .if3 .left)) (c .judged-beside2 .ensures)))

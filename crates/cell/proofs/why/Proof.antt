@@ -8,6 +8,6 @@ why-spec =
     tie.close
     (tie.spec
     (λ c κs. c .pre)
-    (λ c. simp (← c .before .is-allowed .ensures, c .if1 .taken))
-    (λ c κs. tt)
-    (λ c. simp (← c .before .before .is-allowed .ensures, c .before .if1 .left, c .why-not .ensures)))
+    (λ c. simp (← c .before .is-left .ensures, c .if1 .taken))
+    (λ c κs. c .before .before .pre .regular)
+    (λ c. simp (← c .before .before .is-left .ensures, c .before .if1 .left, c .why-not .ensures)))

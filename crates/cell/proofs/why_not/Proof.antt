@@ -1,68 +1,28 @@
--- Each return has the tests before it false.
-use borrow.Author.Tests.{eq-eqb, ne-eqb}
-use Rattle.cell.specs.Quick.{whyNot}
+use mathlib.Core.Bool.{Bool, false, cond, _&&_}
+use mathlib.Core.Logic.{⊎-elim}
+use mathlib.Core.Path.{_≡_, refl, sym, ap, _∙_}
+use Rattle.spans.specs.Pattern.{allows}
+use Rattle.cell.specs.declared.Cause.the-variants.{Message}
+use Rattle.cell.specs.Quick.{whyNotFree, whyNot}
 use Rattle.cell.proofs.why_not.Statement.{statement}
 use Rattle.cell.proofs.why_not.Tie as tie
+
+-- no message is laid, or the subframe is not free
+apart : (c : tie.Joined1) → (c .before .args .laid && allows (c .before .args .p) (c .before .args .t)) ≡ false
+apart c = ⊎-elim (λ w. rw (w .0 .taken) (sym (w .1 .ensures) ∙ w .2 .left)) (λ w. rw (w .left) refl) (c .if1 .came)
+
+returns-2 : tie.Need-returns-2
+unfolding whyNot
+returns-2 c =
+    let a = c .before .before .args in
+    c .why-not-free .ensures ∙ sym (ap (λ (x : Bool). cond x Message (whyNotFree (a .c) (a .t))) (apart (c .before)))
 
 pub why-not-spec : {M : Type 1} → statement M
 unfolding whyNot
 why-not-spec =
     tie.close
     (tie.spec
-    (λ c. simp (ne-eqb _ _ (c .if1 .taken)))
+    (λ c κs. c .before .pre)
+    (λ c. simp (c .before .before .if1 .taken, ← c .before .is-allowed .ensures, c .if2 .taken))
     (λ c κs. tt)
-    (λ c.
-    let a = c .before in
-    simp (eq-eqb _ _ (a .before .if1 .left), ← a .is-npbch .ensures, c .if2 .taken))
-    (λ c κs. tt)
-    (λ c.
-    let b = c .before in
-    let a = b .before .before in
-    simp (eq-eqb _ _ (a .before .if1 .left), ← a .is-npbch .ensures, b .before .if2 .left, ← b .is-npss .ensures, c .if3 .taken))
-    (λ c κs. tt)
-    (λ c.
-    let d = c .before in
-    let b = d .before .before in
-    let a = b .before .before in
-    simp (
-      eq-eqb _ _ (a .before .if1 .left),
-      ← a .is-npbch .ensures,
-      b .before .if2 .left,
-      ← b .is-npss .ensures,
-      d .before .if3 .left,
-      ← d .is-nsss .ensures,
-      c .if4 .taken,
-    ))
-    (λ c κs. tt)
-    (λ c.
-    let e = c .before in
-    let d = e .before .before in
-    let b = d .before .before in
-    let a = b .before .before in
-    simp (
-      eq-eqb _ _ (a .before .if1 .left),
-      ← a .is-npbch .ensures,
-      b .before .if2 .left,
-      ← b .is-npss .ensures,
-      d .before .if3 .left,
-      ← d .is-nsss .ensures,
-      e .before .if4 .left,
-      ← e .is-sib1 .ensures,
-      c .if5 .taken,
-    ))
-    (λ c.
-    let e = c .before in
-    let d = e .before .before in
-    let b = d .before .before in
-    let a = b .before .before in
-    simp (
-      eq-eqb _ _ (a .before .if1 .left),
-      ← a .is-npbch .ensures,
-      b .before .if2 .left,
-      ← b .is-npss .ensures,
-      d .before .if3 .left,
-      ← d .is-nsss .ensures,
-      e .before .if4 .left,
-      ← e .is-sib1 .ensures,
-      c .if5 .left,
-    )))
+    returns-2)

@@ -1,4 +1,4 @@
-use mathlib.Core.Bool.{true, _&&_}
+use mathlib.Core.Bool.{Bool, true, cond, _&&_}
 use mathlib.Core.Path.{_≡_, refl, sym, ap, _∙_}
 use Prim.Native.Nat.{ℕ, _≤_, _<_, _^_}
 use native.Mathlib.Omega.{arith}
@@ -11,8 +11,12 @@ use Rattle.grid.specs.Grid.{slots, symbols, subcarriers}
 use Rattle.sending.proofs.Answer.{outside-at}
 use Rattle.spans.specs.declared.Found.{Found}
 use Rattle.spans.specs.declared.Found.the-variants.{At}
-use Rattle.spans.specs.Pattern.{allows, periodOf, foundAt}
-use Rattle.spans.proofs.Laws.{at-index, at-below, at-between, at-nothing}
+use Rattle.messages.specs.Messages.{allPeriods}
+use Rattle.subframes.specs.Subframes.{leftIn}
+use Rattle.cell.specs.declared.Cause.the-variants.{None}
+use Rattle.cell.specs.Quick.{whyNot, seen}
+use Rattle.spans.specs.Found.{foundAmong}
+use Rattle.spans.proofs.Located.{at-index, at-below, at-between, at-nothing}
 use Rattle.downlink.specs.Mapping.{sentSubframes, firstOf, sendingOf}
 use Rattle.downlink.specs.Answers.{insideGrid}
 use Rattle.downlink.proofs.Joined.{backward-unsent, backward-sent}
@@ -31,16 +35,28 @@ module _ (c : tie.Else1) where
       let b = both-parts (ltb (c .before .args .l) symbols) (ltb (c .before .args .k) subcarriers) (a .1) in
       (ltb-true _ _ (a .0), ltb-true _ _ (b .0), ltb-true _ _ (b .1))
 
--- what the search found, in terms of the burst
-module _ (c : tie.After-locate) where
-  searched : c .locate .result ≡ foundAt (c .before .before .before .args .p) (firstOf (allows (c .before .before .before .args .p)) (periodOf (c .before .before .before .args .p)) (c .before .before .before .args .b)) (sentSubframes (c .before .before .before .args .b)) (c .before .before .before .args .t)
-  searched =
-      let a = c .before .before .before .args in
-      c .locate .ensures ∙ ap (λ (n : ℕ). foundAt (a .p) (firstOf (allows (a .p)) (periodOf (a .p)) (a .b)) n (a .t)) (c .before .sent-subframes .ensures .0)
+-- the subframes that are searched
+abbrev left : tie.Start → ℕ → Bool
+left s = leftIn (s .args .p) (s .args .laid) (s .args .c .messages)
+
+-- where t stands to those that are sent
+abbrev found : tie.Start → Found
+found s = foundAmong (left s) allPeriods (firstOf (left s) allPeriods (s .args .b)) (sentSubframes (s .args .b)) (s .args .t)
+
+searched : (c : tie.After-locate) → c .locate .result ≡ found (c .before .before .before)
+searched c =
+    let s = c .before .before .before in
+    c .locate .ensures ∙ ap (λ (n : ℕ). foundAmong (left s) allPeriods (firstOf (left s) allPeriods (s .args .b)) n (s .args .t)) (c .before .sent-subframes .ensures .0)
 
 -- at index i
-at : (c : tie.After-found) → foundAt (c .before .before .before .before .before .args .p) (firstOf (allows (c .before .before .before .before .before .args .p)) (periodOf (c .before .before .before .before .before .args .p)) (c .before .before .before .before .before .args .b)) (sentSubframes (c .before .before .before .before .before .args .b)) (c .before .before .before .before .before .args .t) ≡ At (c .found .given .0 .0)
+at : (c : tie.After-found) → found (c .before .before .before .before .before) ≡ At (c .found .given .0 .0)
 at c = sym (searched (c .before .before)) ∙ c .found .given .1
+
+-- the cause, by whether the subframe is left
+by-pattern : (s : tie.Start) → seen (s .args .c) (s .args .p) (s .args .laid) (s .args .t)
+    ≡ cond (left s (s .args .t)) None (whyNot (s .args .c .config) (s .args .p) (s .args .laid) (s .args .t))
+unfolding seen
+by-pattern s = refl
 
 pub burst-backward-spec : {M : Type 1} → statement M
 burst-backward-spec =
@@ -50,11 +66,12 @@ burst-backward-spec =
     (λ c κs. tt)
     (λ c.
     let f = c .before in
-    let a = f .before .before .args in
+    let s = f .before .before in
+    let a = s .args in
     let o = not-true _ (f .before .if1 .taken) in
     c .without-cause .ensures
-    ∙ joined (a .c) (a .p) (a .b) (a .t) (a .slot) (a .l) (a .k) _ _ (f .refused .ensures ∙ sym (outside-at (sendingOf (allows (a .p)) (periodOf (a .p)) (a .b)) _ (a .t) _ o))
-    (outside-none (a .c) (a .p) (a .b) (a .t) (a .slot) (a .l) (a .k) o))
+    ∙ joined (left s) allPeriods (seen (a .c) (a .p) (a .laid)) (a .b) (a .t) (a .slot) (a .l) (a .k) _ _ (f .refused .ensures ∙ sym (outside-at (sendingOf (left s) allPeriods (a .b)) _ (a .t) _ o))
+    (outside-none (left s) allPeriods (seen (a .c) (a .p) (a .laid)) (a .b) (a .t) (a .slot) (a .l) (a .k) o))
     (λ c κs. search needs)
     (λ c κs. search needs)
     (λ c. search needs)
@@ -63,11 +80,11 @@ burst-backward-spec =
     let s = f .before .before .before in
     let a = s .before .before in
     let i = parts (s .before) in
-    (a .pre .1, omega (arith, at-below _ _ _ _ _ (at f), s .sent-subframes .ensures .0, s .sent-subframes .ensures .2), i .0, i .1, i .2))
+    (a .pre .1, omega (arith, at-below _ _ _ _ _ _ (at f), s .sent-subframes .ensures .0, s .sent-subframes .ensures .2), i .0, i .1, i .2))
     (λ c κs. tt)
     (λ c. search needs)
     (λ c κs. tt)
-    (λ c κs. tt)
+    (λ c κs. c .before .before .before .before .before .before .pre .0 .on .regular)
     (λ c. search needs)
     (λ c κs. tt)
     (λ c κs. tt)
@@ -75,28 +92,31 @@ burst-backward-spec =
     let n = c .before in
     let f = n .before .before in
     let e = f .before .before .before .before in
-    let a = e .before .args in
-    let i = at-index _ _ _ _ _ (at f) in
+    let s = e .before in
+    let a = s .args in
+    let i = at-index _ _ _ _ _ _ (at f) in
     c .without-cause2 .ensures
-    ∙ joined (a .c) (a .p) (a .b) (a .t) (a .slot) (a .l) (a .k) _ _
+    ∙ joined (left s) allPeriods (seen (a .c) (a .p) (a .laid)) (a .b) (a .t) (a .slot) (a .l) (a .k) _ _
     (n .in-sent .ensures ∙ backward-sent _ _ (a .b) (a .t) (a .slot) (a .l) (a .k) (inside e) _ _ (i .0) (i .1) refl)
-    (sent-none (a .c) (a .p) (a .b) (a .t) (a .slot) (a .l) (a .k) (inside e) (i .0)))
+    (sent-none (left s) allPeriods (seen (a .c) (a .p) (a .laid)) (a .b) (a .t) (a .slot) (a .l) (a .k) _ (by-pattern s) (inside e) (i .0)))
     (λ c.
     let o = c .before in
     let l = o .before .before .before in
     let e = l .before .before in
-    let a = e .before .args in
-    let m = at-between _ _ _ _ (sym (searched l) ∙ o .before .enum-told .given .1) in
-    joined (a .c) (a .p) (a .b) (a .t) (a .slot) (a .l) (a .k) _ _
+    let s = e .before in
+    let a = s .args in
+    let m = at-between _ _ _ _ _ (sym (searched l) ∙ o .before .enum-told .given .1) in
+    joined (left s) allPeriods (seen (a .c) (a .p) (a .laid)) (a .b) (a .t) (a .slot) (a .l) (a .k) _ _
     (o .not-ours .ensures ∙ backward-unsent _ _ (a .b) (a .t) (a .slot) (a .l) (a .k) (inside e) (m .0))
-    (c .why-not .ensures ∙ missed-why (a .c) (a .p) (a .b) (a .t) (a .slot) (a .l) (a .k) (inside e) (m .1)))
+    (c .why-not .ensures ∙ missed-why (left s) allPeriods (seen (a .c) (a .p) (a .laid)) (a .b) (a .t) (a .slot) (a .l) (a .k) _ (by-pattern s) (inside e) (m .1)))
     (λ c.
     let o = c .before in
     let l = o .before .before .before in
     let e = l .before .before in
-    let a = e .before .args in
-    let m = at-nothing _ _ _ _ (sym (searched l) ∙ o .before .enum-told2 .given .1) in
+    let s = e .before in
+    let a = s .args in
+    let m = at-nothing _ _ _ _ _ (sym (searched l) ∙ o .before .enum-told2 .given .1) in
     c .without-cause3 .ensures
-    ∙ joined (a .c) (a .p) (a .b) (a .t) (a .slot) (a .l) (a .k) _ _
+    ∙ joined (left s) allPeriods (seen (a .c) (a .p) (a .laid)) (a .b) (a .t) (a .slot) (a .l) (a .k) _ _
     (o .not-ours2 .ensures ∙ backward-unsent _ _ (a .b) (a .t) (a .slot) (a .l) (a .k) (inside e) (m .0))
-    (unmissed-none (a .c) (a .p) (a .b) (a .t) (a .slot) (a .l) (a .k) (inside e) (m .1))))
+    (unmissed-none (left s) allPeriods (seen (a .c) (a .p) (a .laid)) (a .b) (a .t) (a .slot) (a .l) (a .k) _ (by-pattern s) (inside e) (m .1))))

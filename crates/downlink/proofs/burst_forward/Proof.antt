@@ -4,7 +4,8 @@ use native.Mathlib.Omega.{arith}
 use borrow.Author.Needs.{needs}
 use Rattle.elements.specs.Elements.{countOf}
 use Rattle.sending.proofs.Answer.{past-at}
-use Rattle.spans.specs.Pattern.{allows, periodOf}
+use Rattle.messages.specs.Messages.{allPeriods}
+use Rattle.subframes.specs.Subframes.{leftIn}
 use Rattle.downlink.specs.Mapping.{places, sendingOf}
 use Rattle.downlink.specs.Answers.{refusedPlace, placeOf}
 use Rattle.downlink.proofs.Joined.{places-small, sent-small, forward-is, unit-below, rest-below}
@@ -23,7 +24,7 @@ module _ (c : tie.Else1) where
   rest =
       let w = c .before .before in
       let a = w .before in
-      rest-below (allows (a .args .p)) (periodOf (a .args .p)) (a .args .b) (a .args .position) (a .pre .1) (w .used-elements .result) held (w .used-elements .ensures .0)
+      rest-below (leftIn (a .args .p) (a .args .laid) (a .args .ms)) allPeriods (a .args .b) (a .args .position) (a .pre .1) (w .used-elements .result) held (w .used-elements .ensures .0)
 
 pub burst-forward-spec : {M : Type 1} → statement M
 burst-forward-spec =
@@ -37,7 +38,7 @@ burst-forward-spec =
     let t = c .before in
     let s = t .before in
     let a = s .before .before in
-    c .refused-place .ensures ∙ sym (past-at refusedPlace placeOf (sendingOf (allows (a .args .p)) (periodOf (a .args .p)) (a .args .b)) (a .args .position) (omega (arith, all s, t .if1 .taken))))
+    c .refused-place .ensures ∙ sym (past-at refusedPlace placeOf (sendingOf (leftIn (a .args .p) (a .args .laid) (a .args .ms)) allPeriods (a .args .b)) (a .args .position) (omega (arith, all s, t .if1 .taken))))
     (λ c. search needs)
     (λ c. search needs)
     (λ c κs.
@@ -45,7 +46,7 @@ burst-forward-spec =
     let a = w .before in (
       a .pre .0,
       a .pre .1,
-      omega (arith, unit-below (allows (a .args .p)) (periodOf (a .args .p)) (a .args .b) (a .args .position) (a .pre .1) (w .used-elements .result) (held c) (w .used-elements .ensures .0), sent-small (a .args .b) (a .pre .1)),
+      omega (arith, unit-below (leftIn (a .args .p) (a .args .laid) (a .args .ms)) allPeriods (a .args .b) (a .args .position) (a .pre .1) (w .used-elements .result) (held c) (w .used-elements .ensures .0), sent-small (a .args .b) (a .pre .1)),
     ))
     (λ c κs.
     let e = c .before in

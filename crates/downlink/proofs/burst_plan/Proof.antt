@@ -4,8 +4,9 @@ use native.Mathlib.Omega.{arith}
 use borrow.Author.Needs.{needs}
 use Rattle.counting.specs.Counting.{select}
 use Rattle.counting.proofs.Period.{select-from}
-use Rattle.spans.specs.Pattern.{allows, periodOf}
-use Rattle.spans.proofs.Laws.{repeats}
+use Rattle.messages.specs.Messages.{allPeriods}
+use Rattle.subframes.specs.Subframes.{leftIn}
+use Rattle.subframes.proofs.Left.{left-again}
 use Rattle.downlink.specs.Mapping.{firstOf, sentSubframes}
 use Rattle.downlink.proofs.Joined.{places-small}
 use Rattle.downlink.proofs.burst_plan.Statement.{statement}
@@ -13,22 +14,22 @@ use Rattle.downlink.proofs.burst_plan.Tie as tie
 
 -- transmitted subframe i, from the first that may be sent
 module _ (s : tie.Start) where
-  at : (i : ℕ) → select (allows (s .args .p)) (periodOf (s .args .p)) (s .args .b .from) (s .args .b .skip + i)
-      ≡ select (allows (s .args .p)) (periodOf (s .args .p)) (firstOf (allows (s .args .p)) (periodOf (s .args .p)) (s .args .b)) i
-  at i = sym (select-from (allows (s .args .p)) (periodOf (s .args .p)) (repeats (s .args .p) (s .pre .0 .regular)) (s .pre .0 .some) (s .args .b .from) (s .args .b .skip) i)
+  at : (i : ℕ) → select (leftIn (s .args .p) (s .args .laid) (s .args .ms)) allPeriods (s .args .b .from) (s .args .b .skip + i)
+      ≡ select (leftIn (s .args .p) (s .args .laid) (s .args .ms)) allPeriods (firstOf (leftIn (s .args .p) (s .args .laid) (s .args .ms)) allPeriods (s .args .b)) i
+  at i = sym (select-from (leftIn (s .args .p) (s .args .laid) (s .args .ms)) allPeriods (left-again (s .args .p) (s .args .laid) (s .args .ms) (s .pre .0 .on)) (s .pre .0 .some) (s .args .b .from) (s .args .b .skip) i)
 
 first : (c : tie.After-first-and-last) → c .first-and-last .result .first
-    ≡ select (allows (c .before .before .before .args .p)) (periodOf (c .before .before .before .args .p)) (firstOf (allows (c .before .before .before .args .p)) (periodOf (c .before .before .before .args .p)) (c .before .before .before .args .b)) 0
+    ≡ select (leftIn (c .before .before .before .args .p) (c .before .before .before .args .laid) (c .before .before .before .args .ms)) allPeriods (firstOf (leftIn (c .before .before .before .args .p) (c .before .before .before .args .laid) (c .before .before .before .args .ms)) allPeriods (c .before .before .before .args .b)) 0
 first c =
     let s = c .before .before .before in
     let e : s .args .b .skip ≡ s .args .b .skip + 0 = omega arith in
-    c .first-and-last .ensures .0 ∙ ap (select (allows (s .args .p)) (periodOf (s .args .p)) (s .args .b .from)) e ∙ at s 0
+    c .first-and-last .ensures .0 ∙ ap (select (leftIn (s .args .p) (s .args .laid) (s .args .ms)) allPeriods (s .args .b .from)) e ∙ at s 0
 
 last : (c : tie.After-first-and-last) → c .first-and-last .result .last
-    ≡ select (allows (c .before .before .before .args .p)) (periodOf (c .before .before .before .args .p)) (firstOf (allows (c .before .before .before .args .p)) (periodOf (c .before .before .before .args .p)) (c .before .before .before .args .b)) (sentSubframes (c .before .before .before .args .b) - 1)
+    ≡ select (leftIn (c .before .before .before .args .p) (c .before .before .before .args .laid) (c .before .before .before .args .ms)) allPeriods (firstOf (leftIn (c .before .before .before .args .p) (c .before .before .before .args .laid) (c .before .before .before .args .ms)) allPeriods (c .before .before .before .args .b)) (sentSubframes (c .before .before .before .args .b) - 1)
 last c =
     let s = c .before .before .before in
-    c .first-and-last .ensures .1 ∙ at s _ ∙ ap (λ (n : ℕ). select (allows (s .args .p)) (periodOf (s .args .p)) (firstOf (allows (s .args .p)) (periodOf (s .args .p)) (s .args .b)) (n - 1)) (c .before .before .sent-subframes .ensures .0)
+    c .first-and-last .ensures .1 ∙ at s _ ∙ ap (λ (n : ℕ). select (leftIn (s .args .p) (s .args .laid) (s .args .ms)) allPeriods (firstOf (leftIn (s .args .p) (s .args .laid) (s .args .ms)) allPeriods (s .args .b)) (n - 1)) (c .before .before .sent-subframes .ensures .0)
 
 returns : tie.Need-returns
 returns c = simp (first c, last c, c .before .before .sent-subframes .ensures .0, c .before .used-elements .ensures .0)
@@ -43,7 +44,7 @@ burst-plan-spec =
     (λ c κs.
     let n = c .before in
     let s = n .before in
-    (s .pre .0 .regular, s .pre .0 .some, omega (arith, s .pre .1 .fromSmall), omega (arith, s .pre .1 .skipSmall, n .sent-subframes .ensures .2)))
+    (s .pre .0, omega (arith, s .pre .1 .fromSmall), omega (arith, s .pre .1 .skipSmall, n .sent-subframes .ensures .2)))
     (λ c.
     let n = c .before .before in
     omega (arith, places-small (n .sent-subframes .result) (c .before .used-elements .result) (n .sent-subframes .ensures .2) (c .before .used-elements .ensures .2)))

@@ -2,8 +2,9 @@ use mathlib.Core.Path.{sym, _∙_}
 use native.Mathlib.Omega.{arith}
 use borrow.Author.Needs.{needs}
 use Rattle.counting.proofs.Period.{select-from}
-use Rattle.spans.specs.Pattern.{allows, periodOf}
-use Rattle.spans.proofs.Laws.{repeats}
+use Rattle.messages.specs.Messages.{allPeriods}
+use Rattle.subframes.specs.Subframes.{leftIn}
+use Rattle.subframes.proofs.Left.{left-again}
 use Rattle.downlink.proofs.subframe_at.Statement.{statement}
 use Rattle.downlink.proofs.subframe_at.Tie as tie
 
@@ -13,5 +14,6 @@ subframe-at-spec =
     (tie.spec (λ c. search needs) (λ c κs. search needs)
     (λ c.
     let a = c .before in
-    let p = a .args .p in
-    c .nth .ensures ∙ sym (select-from (allows p) (periodOf p) (repeats p (a .pre .0 .regular)) (a .pre .0 .some) (a .args .b .from) (a .args .b .skip) (a .args .i))))
+    let x = a .args in
+    c .nth .ensures
+    ∙ sym (select-from (leftIn (x .p) (x .laid) (x .ms)) allPeriods (left-again (x .p) (x .laid) (x .ms) (a .pre .0 .on)) (a .pre .0 .some) (x .b .from) (x .b .skip) (x .i))))

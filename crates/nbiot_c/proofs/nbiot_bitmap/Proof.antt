@@ -16,7 +16,7 @@ refuses c =
     let x = e .before .before .before .before .before .before .args in
     let numbers = refused-numbers _ (x .anchor .now) (x .other .now) (j .judge .ensures) (p .before .before .if2 .taken) in
     replied _ (e .before .short2 .ensures .says) (e .if1 .left)
-    (p .put3 .ensures ∙ ap (λ l. put l (x .answer .now)) numbers ∙ simp (j .before .cell-at .ensures))
+    (p .put3 .ensures ∙ ap (λ l. put l (x .answer .now)) numbers ∙ simp (j .before .cell-in .ensures))
 
 accepts : tie.Need-returns-3
 unfolding bitmap
@@ -28,7 +28,7 @@ accepts c =
     let x = e .before .before .before .before .before .before .args in
     let numbers = accepted-numbers _ (x .anchor .now) (x .other .now) (j .judge .ensures) (b .before .if2 .left) (b .bytes .ensures) in
     replied _ (e .before .short2 .ensures .says) (e .if1 .left)
-    (p .put32 .ensures ∙ ap (λ l. put l (x .answer .now)) numbers ∙ simp (j .before .cell-at .ensures))
+    (p .put32 .ensures ∙ ap (λ l. put l (x .answer .now)) numbers ∙ simp (j .before .cell-in .ensures))
 
 pub nbiot-bitmap-spec : {M : Type 1} → statement M
 unfolding bitmap

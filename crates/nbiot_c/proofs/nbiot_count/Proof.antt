@@ -13,4 +13,4 @@ nbiot-count-spec =
     (λ c κs. c .before .short2 .ensures .first (c .if1 .left)) (λ c κs. tt)
     (λ c κs. let e = c .before .before .before in e .before .short2 .ensures .last (e .if1 .left)) (λ c. search needs)
     (λ c. let p = c .before .before in let a = p .before .before in let e = a .before .before in
-    replied _ (e .before .short2 .ensures .says) (e .if1 .left) (p .put-count .ensures ∙ simp (a .element-count .ensures, a .before .cell-at .ensures))))
+    replied _ (e .before .short2 .ensures .says) (e .if1 .left) (p .put-count .ensures ∙ simp (a .element-count .ensures, a .before .cell-in .ensures))))

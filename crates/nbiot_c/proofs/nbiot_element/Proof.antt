@@ -28,4 +28,4 @@ nbiot-element-spec =
     (λ c. search needs)
     (λ c. let p = c .before .before .before .before in let a = p .before .before .before in let e = a .before .before .before in let b = e .before in
     replied _ (ap₂ _||_ (b .before .short2 .ensures .says) (b .short22 .ensures .says)) (e .if1 .left)
-    (p .put-element .ensures ∙ simp (a .element .ensures, a .before .npdsch-at .ensures, a .before .before .cell-at .ensures))))
+    (p .put-element .ensures ∙ simp (a .element .ensures, a .before .npdsch-at .ensures, a .before .before .cell-in .ensures))))

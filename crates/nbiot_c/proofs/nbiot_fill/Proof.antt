@@ -18,4 +18,4 @@ nbiot-fill-spec =
     (λ c. search needs)
     (λ c. let f = c .before .before in let g = f .before .before in let e = g .before .before in
     replied _ (e .before .short2 .ensures .says) (e .if1 .left)
-    (ap₂ (λ x y. (x, y)) (f .fill .ensures .0) (f .fill .ensures .1) ∙ simp (g .npdsch-at .ensures, g .before .cell-at .ensures))))
+    (ap₂ (λ x y. (x, y)) (f .fill .ensures .0) (f .fill .ensures .1) ∙ simp (g .npdsch-at .ensures, g .before .cell-in .ensures))))

@@ -15,4 +15,4 @@ nbiot-forward-control-spec =
     (λ c κs. let e = c .before .before .before .before in e .before .short3 .ensures .last (e .if1 .left)) (λ c. search needs)
     (λ c. let p = c .before .before in let a = p .before .before in let e = a .before .before .before in
     replied _ (e .before .short3 .ensures .says) (e .if1 .left)
-    (p .put-downlink-place .ensures ∙ simp (a .forward .ensures, a .before .npdcch-at .ensures, a .before .before .cell-at .ensures))))
+    (p .put-downlink-place .ensures ∙ simp (a .forward .ensures, a .before .npdcch-at .ensures, a .before .before .cell-in .ensures))))

@@ -12,4 +12,4 @@ nbiot-judge-spec =
     (λ c. simp (lt-ltb _ _ (c .if1 .taken)))
     (λ c κs. search needs)
     (λ c κs. tt)
-    (λ c. let j = c .before in simp (c .judge .ensures, j .cell-at .ensures, le-ltb _ _ (j .before .if1 .left))))
+    (λ c. let j = c .before in simp (c .judge .ensures, j .cell-in .ensures, le-ltb _ _ (j .before .if1 .left))))

@@ -9,7 +9,7 @@ returns : tie.Need-returns
 unfolding planOf
 returns c =
     let r = c .before in
-    c .plan .ensures ∙ plan-ready _ _ _ _ _ _ (question _ _ _ _ (r .before .judged .result) (r .before .judged .ensures) (r .ready .result) (r .ready .ensures))
+    c .plan .ensures ∙ plan-ready _ _ _ _ _ _ _ (question _ _ _ _ (r .before .judged .result) (r .before .judged .ensures) (r .ready .result) (r .ready .ensures))
 
 pub plan-spec : {M : Type 1} → statement M
 plan-spec =

@@ -9,7 +9,7 @@ returns : tie.Need-returns
 unfolding backwardOf
 returns c =
     let r = c .before in
-    c .backward .ensures ∙ backward-ready _ _ _ _ _ _ (question _ _ _ _ (r .before .judged .result) (r .before .judged .ensures) (r .ready .result) (r .ready .ensures)) _ _ _ _
+    c .backward .ensures ∙ backward-ready _ _ _ _ _ _ _ (question _ _ _ _ (r .before .judged .result) (r .before .judged .ensures) (r .ready .result) (r .ready .ensures)) _ _ _ _
 
 pub backward-spec : {M : Type 1} → statement M
 backward-spec =

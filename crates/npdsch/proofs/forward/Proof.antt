@@ -9,7 +9,7 @@ returns : tie.Need-returns
 unfolding forwardOf
 returns c =
     let r = c .before in
-    c .forward .ensures ∙ forward-ready _ _ _ _ _ _ (question _ _ _ _ (r .before .judged .result) (r .before .judged .ensures) (r .ready .result) (r .ready .ensures)) _
+    c .forward .ensures ∙ forward-ready _ _ _ _ _ _ _ (question _ _ _ _ (r .before .judged .result) (r .before .judged .ensures) (r .ready .result) (r .ready .ensures)) _
 
 pub forward-spec : {M : Type 1} → statement M
 forward-spec =

@@ -1,4 +1,4 @@
-use Rattle.nprach.proofs.Listing.{seven}
+use Rattle.counting.proofs.Listed.{seven}
 use Rattle.nprach.proofs.is_period.Statement.{statement}
 use Rattle.nprach.proofs.is_period.Tie as tie
 

@@ -1,6 +1,6 @@
 use Prim.Native.Nat.{_*_}
 use native.Mathlib.Omega.{arith}
-use Rattle.nprach.proofs.Listing.{seven}
+use Rattle.counting.proofs.Listed.{seven}
 use Rattle.nprach.proofs.is_repeated.Statement.{statement}
 use Rattle.nprach.proofs.is_repeated.Tie as tie
 

@@ -1,4 +1,4 @@
-use Rattle.nprach.proofs.Listing.{eight}
+use Rattle.counting.proofs.Listed.{eight}
 use Rattle.nprach.proofs.is_start.Statement.{statement}
 use Rattle.nprach.proofs.is_start.Tie as tie
 

@@ -29,7 +29,7 @@ front false n own h = omega arith
 
 short : (c : Cell) (anchor other : List ℕ) → length (inForceOf c anchor other) ≤ 64
 unfolding inForceOf
-short c anchor other = front (eqb (judgeOf c anchor other) 0) (bytesOf (c .bits)) (ownBuffer c anchor other) (few (c .bits))
+short c anchor other = front (eqb (judgeOf c anchor other) 0) (bytesOf (c .config .bits)) (ownBuffer (c .config) anchor other) (few (c .config .bits))
 
 put-bitmap-requires : tie.Need-put-bitmap-requires
 put-bitmap-requires c κs = (search needs, rw (c .before .in-force .ensures) (short _ _ _))

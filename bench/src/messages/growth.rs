@@ -1,0 +1,123 @@
+//! What a call costs on a cell with messages as one number of its grant or of its messages, or the bitmap's ones, change.
+
+use super::scene::{Messaged, Schedules};
+use crate::fast;
+use crate::fast::Messages;
+use crate::measure::versus;
+use crate::ours;
+use crate::scene::Random;
+
+const SCENES: usize = 256;
+const MEETING_SCENES: usize = 16;
+
+/// One schedule: a window of 160 ms every 512 frames, a copy of 8 subframes in every second frame of it. The others are as it is.
+const USUAL: Messages = [160, 0, 1, 512, 2, 8, 512, 2, 8, 512, 2, 8, 512, 2, 8];
+
+/// Subframes of a span that the anchor takes for nothing.
+const OPEN: [u64; 24] = [1, 2, 3, 6, 7, 8, 11, 12, 13, 16, 17, 18, 21, 22, 23, 26, 27, 28, 31, 32, 33, 36, 37, 38];
+
+/// Nanoseconds a call of plan, forward and backward, of ours and of fast.
+fn times(scenes: &mut [Messaged]) -> [(f64, f64); 3] {
+    let (mut plan, mut place, mut back) = ([0; 5], [0; 6], [0; 6]);
+    let planned = versus(
+        scenes,
+        |s| ours::plan_down(&s.cell, &s.anchor, &s.other, &s.down, &mut plan),
+        |s| fast::plan_down(&s.cell, &s.anchor, &s.other, &s.down),
+    );
+    let forward = versus(
+        scenes,
+        |s| ours::forward_down(&s.cell, &s.anchor, &s.other, &s.down, s.p[0], &mut place),
+        |s| fast::forward_down(&s.cell, &s.anchor, &s.other, &s.down, s.p[0]),
+    );
+    let backward = versus(
+        scenes,
+        |s| {
+            let [t, slot, l, k] = s.at_down;
+            ours::backward_down(&s.cell, &s.anchor, &s.other, &s.down, t, slot, l, k, &mut back)
+        },
+        |s| fast::backward_down(&s.cell, &s.anchor, &s.other, &s.down, s.at_down),
+    );
+    [planned, forward, backward]
+}
+
+fn line(name: &str, value: u64, scenes: &mut [Messaged]) {
+    let [plan, forward, backward] = times(scenes).map(|(ours, fast)| format!("{ours:.1} | {fast:.1}"));
+    println!("| {name} | {value} | {plan} | {forward} | {backward} |");
+}
+
+/// Standalone anchors of all identities, two ports and no bitmap, with messages of all offsets and one change, at random positions.
+fn scenes(r: &mut Random, many: usize, messages: Messages, change: impl Fn(&mut Messaged)) -> Vec<Messaged> {
+    let made = (0..many).map(|_| {
+        let mut scene = Messaged::accepted(r, Schedules::One);
+        scene.cell[..8].copy_from_slice(&[3, 0, r.below(504), 2, 0, 0, r.below(12), 0]);
+        scene.cell[8..].copy_from_slice(&messages);
+        scene.cell[9] = r.below(16);
+        scene.down = [100 + r.below(1000), 0, 2048, 7, 15];
+        change(&mut scene);
+        aimed(scene, r)
+    });
+    made.collect()
+}
+
+/// The scene, which is accepted after its change, at a random position.
+fn aimed(mut s: Messaged, r: &mut Random) -> Messaged {
+    assert_eq!(fast::judge(&s.cell, &s.anchor, &s.other), 0, "not accepted");
+    s.aim(r);
+    s
+}
+
+/// The usual messages with one number changed.
+fn usual(i: usize, number: u64) -> Messages {
+    let mut messages = USUAL;
+    messages[i] = number;
+    messages
+}
+
+/// A bitmap of 40 bits with so many ones, evenly spread over what the anchor leaves; all 40 if there are so many.
+fn sparse(s: &mut Messaged, ones: u64) {
+    s.cell[7] = 40;
+    s.anchor = [if ones == 40 { 0xff } else { 0 }; 5];
+    for one in 0..ones.min(24) {
+        let bit = OPEN[((one * 24 / ones + s.cell[2]) % 24) as usize];
+        s.anchor[(bit / 8) as usize] |= 0x80 >> (bit % 8);
+    }
+}
+
+pub fn table(r: &mut Random) {
+    let columns = "plan, ns | fast | forward, ns | fast | backward, ns | fast";
+    println!("\n| NPDSCH with messages grows by | to | {columns} |\n|---|---|---|---|---|---|---|---|");
+    for (field, copies) in [(0, 1), (1, 2), (2, 4), (3, 8), (4, 16), (5, 32), (6, 64), (7, 128), (9, 256), (11, 512), (13, 1024), (15, 2048)] {
+        line("copies", copies, &mut scenes(r, SCENES, USUAL, |s| s.down[4] = field));
+    }
+    for count in 1..5 {
+        line("schedules apart", count, &mut scenes(r, SCENES, usual(2, count), |_| ()));
+    }
+    for log in 6..13 {
+        line("period T", 1 << log, &mut scenes(r, SCENES, usual(3, 1 << log), |_| ()));
+    }
+    for window in [160, 320, 480, 640, 960, 1280, 1600] {
+        line("window, ms", window, &mut scenes(r, SCENES, usual(0, window), |_| ()));
+    }
+    for log in 1..5 {
+        line("a copy every", 1 << log, &mut scenes(r, SCENES, usual(4, 1 << log), |_| ()));
+    }
+    for ones in [40, 24, 12, 6, 3, 1] {
+        line("bitmap with ones", ones, &mut scenes(r, SCENES, USUAL, |s| sparse(s, ones)));
+    }
+    for log in 6..13 {
+        line("T of the slowest", 1 << log, &mut meeting(r, |s| s.cell[20] = 1 << log));
+    }
+    for count in 1..5 {
+        line("schedules of the slowest", count, &mut meeting(r, |s| s.cell[10] = count));
+    }
+}
+
+/// The slowest cells that were found with one change, for grants of many copies.
+fn meeting(r: &mut Random, change: impl Fn(&mut Messaged)) -> Vec<Messaged> {
+    let made = (0..MEETING_SCENES).map(|_| {
+        let mut scene = Messaged::accepted(r, Schedules::Slowest);
+        change(&mut scene);
+        aimed(scene, r)
+    });
+    made.collect()
+}

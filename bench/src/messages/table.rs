@@ -1,0 +1,129 @@
+//! The first table's lines for cells with messages.
+
+use super::scene::{Messaged, Schedules};
+use crate::fast;
+use crate::measure::versus;
+use crate::ours;
+use crate::questions::{element_line, elements, fill_line, judge_line, line, step};
+use crate::scene::Random;
+
+/// How many accepted scenes are timed, and how many of any kind compared: fewer where an answer takes longer.
+fn many(schedules: Schedules) -> (usize, usize) {
+    match schedules {
+        Schedules::One | Schedules::Apart | Schedules::Meeting => (512, 1 << 16),
+        Schedules::Slowest => (32, 1 << 12),
+    }
+}
+
+/// A line of the table. A library that reads no messages answers as if none were sent: its answers are counted, and may differ.
+fn report(name: &str, ours: f64, fast: f64, agreed: usize, compared: usize) {
+    println!("| {name} | {ours:.1} | {fast:.1} | {:.2} | {agreed} of {compared}{} |", ours / fast, remark(agreed == compared));
+    assert!(agreed == compared || !ours::reads_messages(), "{name}: the answers differ");
+}
+
+fn records(name: &str, same: usize, compared: usize) {
+    assert!(same == compared || !ours::reads_messages(), "{name}: the records differ");
+}
+
+fn remark(agrees: bool) -> &'static str {
+    if agrees { "" } else { ", DIFFER" }
+}
+
+pub fn table(r: &mut Random) {
+    if !ours::reads_messages() {
+        println!("\nThe library reads 8 numbers of a cell: below it answers as if no messages were sent.");
+        println!("Its answers differ, and its times are of another question.");
+    }
+    println!("\n| cell with messages | ours, ns | fast, ns | ours / fast | answers agree |\n|---|---|---|---|---|");
+    for schedules in Schedules::ALL {
+        lines(r, schedules);
+    }
+}
+
+fn lines(r: &mut Random, schedules: Schedules) {
+    let (timed, compared) = many(schedules);
+    let mut timed: Vec<Messaged> = (0..timed).map(|_| Messaged::accepted(r, schedules)).collect();
+    let mut ported: Vec<Messaged> = timed.iter().map(|s| s.clone().with_one_port(r)).collect();
+    let mut compared: Vec<Messaged> = (0..compared).map(|_| Messaged::any(r, schedules)).collect();
+    let (timed, compared) = (&mut timed[..], &mut compared[..]);
+    let named = |question: &str| format!("{question}, {}", schedules.name());
+    judge_line!(&named("judge"), timed, compared);
+    count_and_cause(timed, compared, &named);
+    plans(timed, compared, &named);
+    forwards(timed, compared, &named);
+    backwards(timed, compared, &named);
+    steps(timed, compared, &named);
+    element_line!(&named("element"), &mut ported[..], compared);
+    fill_line!(&named("fill"), &mut ported[..], compared);
+}
+
+fn count_and_cause(timed: &mut [Messaged], compared: &mut [Messaged], named: &impl Fn(&str) -> String) {
+    line!(
+        &named("count"), timed, compared, 2,
+        |s, a| ours::count(&s.cell, &s.anchor, &s.other, a),
+        fast::count(&s.cell, &s.anchor, &s.other)
+    );
+    line!(
+        &named("cause"), timed, compared, 2,
+        |s, a| ours::cause(&s.cell, &s.anchor, &s.other, s.at_down[0], a),
+        fast::cause(&s.cell, &s.anchor, &s.other, s.at_down[0])
+    );
+}
+
+fn plans(timed: &mut [Messaged], compared: &mut [Messaged], named: &impl Fn(&str) -> String) {
+    line!(
+        &named("plan down"), timed, compared, 5,
+        |s, a| ours::plan_down(&s.cell, &s.anchor, &s.other, &s.down, a),
+        fast::plan_down(&s.cell, &s.anchor, &s.other, &s.down)
+    );
+    line!(
+        &named("plan control"), timed, compared, 5,
+        |s, a| ours::plan_control(&s.cell, &s.anchor, &s.other, &s.control, a),
+        fast::plan_control(&s.cell, &s.anchor, &s.other, &s.control)
+    );
+}
+
+fn forwards(timed: &mut [Messaged], compared: &mut [Messaged], named: &impl Fn(&str) -> String) {
+    line!(
+        &named("forward down"), timed, compared, 6,
+        |s, a| ours::forward_down(&s.cell, &s.anchor, &s.other, &s.down, s.p[0], a),
+        fast::forward_down(&s.cell, &s.anchor, &s.other, &s.down, s.p[0])
+    );
+    line!(
+        &named("forward control"), timed, compared, 6,
+        |s, a| ours::forward_control(&s.cell, &s.anchor, &s.other, &s.control, s.p[1], a),
+        fast::forward_control(&s.cell, &s.anchor, &s.other, &s.control, s.p[1])
+    );
+}
+
+fn backwards(timed: &mut [Messaged], compared: &mut [Messaged], named: &impl Fn(&str) -> String) {
+    line!(
+        &named("backward down"), timed, compared, 6,
+        |s, a| {
+            let [t, slot, l, k] = s.at_down;
+            ours::backward_down(&s.cell, &s.anchor, &s.other, &s.down, t, slot, l, k, a)
+        },
+        fast::backward_down(&s.cell, &s.anchor, &s.other, &s.down, s.at_down)
+    );
+    line!(
+        &named("backward control"), timed, compared, 6,
+        |s, a| {
+            let [t, slot, l, k] = s.at_control;
+            ours::backward_control(&s.cell, &s.anchor, &s.other, &s.control, t, slot, l, k, a)
+        },
+        fast::backward_control(&s.cell, &s.anchor, &s.other, &s.control, s.at_control)
+    );
+}
+
+fn steps(timed: &mut [Messaged], compared: &mut [Messaged], named: &impl Fn(&str) -> String) {
+    step!(
+        &named("step down"), timed, compared, walk_down, 0,
+        |s, a| ours::step_down(&mut s.walk_down, &s.anchor, &s.other, a),
+        fast::step_down(&mut s.walk_down, &s.anchor, &s.other)
+    );
+    step!(
+        &named("step control"), timed, compared, walk_control, 1,
+        |s, a| ours::step_control(&mut s.walk_control, &s.anchor, &s.other, a),
+        fast::step_control(&mut s.walk_control, &s.anchor, &s.other)
+    );
+}

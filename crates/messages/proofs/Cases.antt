@@ -1,0 +1,25 @@
+-- The cases of 02 L5 hold: each is computed.
+use mathlib.Core.Path.{refl}
+use Rattle.counting.specs.Counting.{rank}
+use Rattle.messages.specs.Messages.{wants, since, inWindow, remains, remaining, isMessage, isListed, areListed}
+use Rattle.messages.specs.Cases.{MessageCases}
+
+pub cases : MessageCases
+unfolding isMessage remaining remains since inWindow wants rank areListed isListed
+cases = record {
+  taken-first = refl;
+  taken-of-period = refl;
+  window-as-long = refl;
+  over-zero = refl;
+  long-period = refl;
+  from-its-start = refl;
+  stops-at-end = refl;
+  first-entry-first = refl;
+  as-long-listed = refl;
+  longer-not = refl;
+  sixteen-not = refl;
+  fifth-not = refl;
+  four-subframes-not = refl;
+  unread-unjudged = refl;
+  window-always-judged = refl;
+}

@@ -1,0 +1,4 @@
+pub mod Messages
+pub mod Meaning
+pub mod Quick
+pub mod Cases

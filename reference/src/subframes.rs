@@ -1,0 +1,50 @@
+//! Questions for the cause of every subframe of a whole period, in cells with
+//! messages (02, "L5").
+
+use crate::laid::Cells;
+use crate::messages::PERIOD;
+use crate::random::Random;
+use crate::scene::{cell_words, draw_accepted_cell, Word};
+use std::collections::HashMap;
+use std::io::{self, Write};
+
+/// The words of an accepted cell with messages, one in ten off the anchor.
+fn draw_words(random: &mut Random) -> Vec<Word> {
+    let off_anchor = u64::from(random.chance(10));
+    loop {
+        let laid = draw_accepted_cell(random, &mut Cells::default());
+        let cell = &laid.cell;
+        if cell.carrier == off_anchor && cell.messages.count > 0 {
+            return cell_words(random, cell);
+        }
+    }
+}
+
+/// Where a period is begun: at 0, early or anywhere.
+fn draw_begin(random: &mut Random) -> u64 {
+    let any = random.draw() >> random.below(64);
+    let early = random.below(PERIOD);
+    random.pick(&[0, 0, early, any.min(u64::MAX - PERIOD)])
+}
+
+/// Writes the questions in so many cells; each `set` line gives only the
+/// values that changed.
+pub fn write_subframes(seed: u64, cells: u64, out: &mut impl Write) -> io::Result<()> {
+    let mut random = Random::new(seed);
+    let mut kept: HashMap<&str, String> = HashMap::new();
+    for _ in 0..cells {
+        write!(out, "set")?;
+        for (name, text) in draw_words(&mut random) {
+            if kept.get(name) != Some(&text) {
+                write!(out, " {name}={text}")?;
+                kept.insert(name, text);
+            }
+        }
+        writeln!(out)?;
+        let begin = draw_begin(&mut random);
+        for t in begin..begin + PERIOD {
+            writeln!(out, "cause t={t}")?;
+        }
+    }
+    out.flush()
+}
