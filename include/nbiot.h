@@ -49,24 +49,6 @@ extern "C" {
 #define NBIOT_TOO_SHORT 255
 
 /*
- * A cell's numbers: eight, or these and the messages' fifteen. A buffer of 8 to 22 numbers is read as eight, for which no message is sent;
- * one of 23 or more has messages. Until the version that knows messages a longer buffer was read as eight.
- */
-enum {
-    NBIOT_CELL_MODE,     /* 0 in-band same identity, 1 in-band different identity, 2 guard band, 3 standalone */
-    NBIOT_CELL_CARRIER,  /* 0 anchor, 1 non-anchor */
-    NBIOT_CELL_IDENTITY, /* 0 to 503 */
-    NBIOT_CELL_NPORTS,   /* narrowband reference ports, 1 or 2 */
-    NBIOT_CELL_CPORTS,   /* cell reference ports: 1, 2 or 4 in-band, else 0 */
-    NBIOT_CELL_CONTROL,  /* control region: 1 to 3 in-band, else 0 */
-    NBIOT_CELL_SIB1,     /* SIB1 schedule, 0 to 11 */
-    NBIOT_CELL_BITS,     /* bitmap length: 0, 10 or 40 */
-    NBIOT_CELL_NUMBERS,
-    NBIOT_CELL_MESSAGES = NBIOT_CELL_NUMBERS,
-    NBIOT_CELL_WITH_MESSAGES = NBIOT_CELL_MESSAGES + 15
-};
-
-/*
  * System information messages, which take subframes of an anchor: the window's length and offset, a count up to 4, then four schedules;
  * those past the count are not read. Schedule i, from 0, has its numbers from NBIOT_MESSAGES_FIRST + i * NBIOT_SCHEDULE_NUMBERS on.
  */
@@ -83,6 +65,24 @@ enum {
     NBIOT_MESSAGES_COUNT,
     NBIOT_MESSAGES_FIRST,
     NBIOT_MESSAGES_NUMBERS = NBIOT_MESSAGES_FIRST + 4 * NBIOT_SCHEDULE_NUMBERS
+};
+
+/*
+ * A cell's numbers: eight, or these and the messages' fifteen. A buffer of 8 to 22 numbers is read as eight, for which no message is sent;
+ * one of 23 or more has messages. Until the version that knows messages a longer buffer was read as eight.
+ */
+enum {
+    NBIOT_CELL_MODE,     /* 0 in-band same identity, 1 in-band different identity, 2 guard band, 3 standalone */
+    NBIOT_CELL_CARRIER,  /* 0 anchor, 1 non-anchor */
+    NBIOT_CELL_IDENTITY, /* 0 to 503 */
+    NBIOT_CELL_NPORTS,   /* narrowband reference ports, 1 or 2 */
+    NBIOT_CELL_CPORTS,   /* cell reference ports: 1, 2 or 4 in-band, else 0 */
+    NBIOT_CELL_CONTROL,  /* control region: 1 to 3 in-band, else 0 */
+    NBIOT_CELL_SIB1,     /* SIB1 schedule, 0 to 11 */
+    NBIOT_CELL_BITS,     /* bitmap length: 0, 10 or 40 */
+    NBIOT_CELL_NUMBERS,
+    NBIOT_CELL_MESSAGES = NBIOT_CELL_NUMBERS,
+    NBIOT_CELL_WITH_MESSAGES = NBIOT_CELL_MESSAGES + NBIOT_MESSAGES_NUMBERS
 };
 
 /* An NPUSCH format 1 grant. It ends in subframe n; the rest are fields of the grant. */
