@@ -5,17 +5,20 @@ use mathlib.Core.Path.{_≡_, refl, ap, _∙_, fun-ext}
 use mathlib.Core.Logic.{inl, inr, ⊎-elim}
 use Prim.Native.Nat.{ℕ, _*_, _%_, _≤_, _<_}
 use native.Mathlib.Omega.{arith}
-use lib.Dec.{ltb}
+use lib.Dec.{eqb, ltb}
+use lib.ListN.{length}
 use borrow.Author.Tests.{eq-eqb, ne-eqb, le-ltb}
 use Rattle.counting.specs.Counting.{rank, next, select}
+use Rattle.counting.proofs.Rank.{rank-strict}
 use Rattle.grid.specs.Grid.{subcarriers}
 use Rattle.grid.specs.Tables.{downlinkDelay, isRepetition}
-use Rattle.bitmap.specs.Bitmap.{bytesOf, allowed}
+use Rattle.bitmap.specs.Bitmap.{bytesOf, listedLength, badBitmap, allowed}
 use Rattle.cell.specs.declared.Cell.{Cell}
 use Rattle.cell.specs.Bitmap.{ownBuffer}
-use Rattle.messages.specs.Messages.{areListed, noMessages}
-use Rattle.cell.specs.Usable.{period, anchorCause, free, usable}
-use Rattle.cell.specs.Judge.{numbersRefusal, cellRefusal, judgeOf}
+use Rattle.messages.specs.Messages.{wants, since, inWindow, remains, remaining, isMessage, isListed, areListed, noMessages}
+use Rattle.messages.specs.Cases as shown
+use Rattle.cell.specs.Usable.{period, anchorCause, free, whyUnless, why, usable, causeNumber}
+use Rattle.cell.specs.Judge.{numbersRefusal, configRefusal, formRefusal, noneAllowed, noneUsable, useRefusal, cellRefusal, judgeOf, causeOf}
 use Rattle.cell.proofs.Taken.{unlaid}
 use Rattle.cell.proofs.Cases as cell
 use Rattle.elements.specs.Elements.{nrs, crs, eligible, used}
@@ -26,6 +29,7 @@ use Rattle.sending.specs.Answer.{extentOf, placeAt}
 use Rattle.sending.proofs.Answer.{accepted, inside-at}
 use Rattle.downlink.specs.declared.DownlinkPlan.{DownlinkPlan}
 use Rattle.cell.specs.declared.ElementCount.{ElementCount}
+use Rattle.cell.specs.declared.CauseAnswer.{CauseAnswer}
 use Rattle.downlink.specs.Cells.{fieldsRefusal, questionRefusal}
 use Rattle.cell.specs.Layout.{layoutOf, elementCountOf}
 use Rattle.downlink.specs.Mapping.{sendingOf}
@@ -37,7 +41,7 @@ use Rattle.npusch.proofs.WindowCases.{window-cases}
 use Rattle.harq_ack.proofs.Cases as ack
 use Rattle.messages.proofs.Cases as messages
 use Rattle.promises.specs.Promises.{eligibleCount}
-use Rattle.promises.specs.Cases.{Unmapped, OneOrTwo, anchorCell, eightSubframes, sentIn, zeroAndFive, onlyFour, nothing, Cases}
+use Rattle.promises.specs.Cases.{Unmapped, OneOrTwo, anchorCell, eightSubframes, sentIn, zeroAndFive, onlyFour, nothing, messageCell, isMessageIn, Cases}
 use Rattle.promises.proofs.Further.{counted, goes-at}
 
 -- ---- P1
@@ -69,10 +73,10 @@ no-delay rmax = by (ltb rmax 128)
     by true = refl
     by false = refl
 
--- what is sent after so many usable subframes from subframe 20 on
-abbrev after : ℕ → ℕ → Sending
-after nports skip =
-    sendingOf (free (anchorCell nports .config) []) period
+-- what is sent after so many usable subframes from subframe 20 on; with no messages those that are free
+abbrev afterIn : (ℕ → Bool) → ℕ → ℕ → Sending
+afterIn u nports skip =
+    sendingOf u period
     (record {
       layout = layoutOf (anchorCell nports .config);
       low = 0;
@@ -83,6 +87,9 @@ after nports skip =
       copies = 1;
       consecutive = 1;
     })
+
+abbrev after : ℕ → ℕ → Sending
+after nports = afterIn (free (anchorCell nports .config) []) nports
 
 module _ (nports : ℕ) (anchor other : List ℕ) (ports : OneOrTwo nports) where
   abbrev c : Cell
@@ -177,6 +184,59 @@ own-other : (c : Cell) (anchor other : List ℕ) → c .config .carrier ≡ 1 �
 unfolding judgeOf
 own-other c anchor other e = rw (ne-eqb (c .config .carrier) 0 (λ z. omega arith)) refl
 
+-- ---- L5
+
+-- the first copy has its eight before subframe 13
+thirteenth : usable messageCell [] 13 ≡ true
+unfolding whyUnless free anchorCause allowed isMessage remaining remains since inWindow wants
+thirteenth = refl
+
+-- of the first 27, and what is sent
+taken : shown.listed (λ t. eqb (causeNumber (why messageCell [] t)) 5) 27 ≡ 26 ∷ 23 ∷ 22 ∷ 21 ∷ 12 ∷ 11 ∷ 8 ∷ 7 ∷ 6 ∷ 3 ∷ 2 ∷ 1 ∷ []
+unfolding whyUnless free anchorCause allowed isMessage remaining remains since inWindow wants
+taken = refl
+
+sent-around : planShown (extentOf (afterIn (usable messageCell []) 1 0))
+    ≡ record { no = 0; first = 33; last = 54; copies = 1; places = 1280 }
+unfolding rank next select nrs crs eligible used whyUnless free anchorCause allowed isMessage remaining remains since inWindow wants
+sent-around = refl
+
+formed : (numbersRefusal (messageCell .config) ≡ 0) × (areListed (messageCell .messages) ≡ true)
+unfolding numbersRefusal areListed isListed
+formed = (refl, refl)
+
+no-bitmap : (own : List ℕ) → badBitmap 0 own ≡ false
+unfolding badBitmap listedLength bytesOf
+no-bitmap own = rw (le-ltb (length own) 0 (omega arith)) refl
+
+-- a test that passes somewhere
+some-pass : (u : ℕ → Bool) (t : ℕ) → t < period → u t ≡ true → eqb (rank u period) 0 ≡ false
+some-pass u t h e = ne-eqb (rank u period) 0 (λ z. omega (arith, rank-strict u t period e h))
+
+module _ (anchor other : List ℕ) where
+  accepted-with : judgeOf messageCell anchor other ≡ 0
+  unfolding judgeOf cellRefusal formRefusal configRefusal useRefusal bytesOf allowed
+  accepted-with =
+      let a : noneAllowed messageCell anchor ≡ false = some-pass _ 0 (omega arith) refl in
+      let u : noneUsable messageCell anchor ≡ false = some-pass (usable messageCell []) 13 (omega arith) thirteenth in
+      rw (formed .0, no-bitmap anchor, formed .1, a, u) refl
+
+  caused : (t : ℕ) → causeOf messageCell anchor other t ≡ record { no = 0; cause = why messageCell [] t }
+  unfolding causeOf bytesOf
+  caused t = rw accepted-with refl
+
+  message-causes : shown.listed (isMessageIn messageCell anchor other) 27 ≡ 26 ∷ 23 ∷ 22 ∷ 21 ∷ 12 ∷ 11 ∷ 8 ∷ 7 ∷ 6 ∷ 3 ∷ 2 ∷ 1 ∷ []
+  message-causes =
+      ap (λ (f : ℕ → Bool). shown.listed f 27) (fun-ext (λ t. ap (λ (x : CauseAnswer). eqb (causeNumber (x .cause)) 5) (caused t))) ∙ taken
+
+  message-plan : (rmax : ℕ) → isRepetition rmax ≡ true
+      → planOf messageCell anchor other (eightSubframes 0 rmax) ≡ record { no = 0; first = 33; last = 54; copies = 1; places = 1280 }
+  unfolding planOf bytesOf questionRefusal fieldsRefusal grantRefusal
+  message-plan rmax r =
+      accepted refusedPlan _ _ (rw (accepted-with, r) refl)
+      ∙ ap (λ (skip : ℕ). planShown (extentOf (afterIn (usable messageCell []) 1 skip))) (no-delay rmax)
+      ∙ sent-around
+
 pub cases : Cases
 cases = record {
   p1-one-port = λ c anchor other s. count-is c anchor other (s .unmapped) 1 0 0 160 (elements.cases .standaloneOne) (s .cports)
@@ -210,4 +270,6 @@ cases = record {
   acknowledgements = ack.ack-cases;
   windows = window-cases;
   messages = messages.cases;
+  message-causes = message-causes;
+  message-plan = λ rmax anchor other r. message-plan anchor other rmax r;
 }
