@@ -1,0 +1,7 @@
+pub mod Starts
+pub mod Refusals
+pub mod Candidates
+pub mod Questions
+pub mod Promised
+pub mod Cases
+pub mod Quick
