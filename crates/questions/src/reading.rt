@@ -2,6 +2,7 @@
 use crate::values::ANCHOR;
 use crate::values::DATA;
 use crate::values::LEVEL;
+use crate::values::NAMED;
 use crate::values::NAMES;
 use crate::values::OTHER;
 use crate::values::ROOM;
@@ -22,20 +23,12 @@ pub const LONGEST: usize = 4096;
 const LARGEST_ROOM: u64 = 1024;
 
 // The questions that want no kind stand first.
-const QUESTIONS: [[u8; 10]; 12] = [
-    *b"set       ",
-    *b"cell      ",
-    *b"bitmap    ",
-    *b"cause     ",
-    *b"count     ",
-    *b"fill      ",
-    *b"element   ",
-    *b"plan      ",
-    *b"forward   ",
-    *b"backward  ",
-    *b"step      ",
-    *b"picture   ",
+const QUESTIONS: [[u8; 80]; 2] = [
+    *b"set       cell      bitmap    cause     count     fill      element   plan      ",
+    *b"forward   backward  step      picture                                           ",
 ];
+
+const ASKED: usize = 12;
 
 const WITHOUT_KIND: usize = 7;
 
@@ -46,11 +39,8 @@ const ACK: usize = 1;
 
 const NO_KIND: usize = 4;
 
-const KINDS: [[u8; 10]; 4] = [
-    *b"up        ",
-    *b"ack       ",
-    *b"down      ",
-    *b"control   ",
+const KINDS: [[u8; 80]; 1] = [
+    *b"up        ack       down      control                                           ",
 ];
 
 pub enum Kind {
@@ -264,7 +254,7 @@ fn read_word(line: &[u8], start: usize, end: usize) -> Word
     if equals == end {
         return Word::Wrong(Fault::Value);
     }
-    let name = text::row_of(&NAMES, &line[start..equals]);
+    let name = text::number_of(&NAMES, NAMED, &line[start..equals]);
     let from = equals + 1;
     let value = &line[from..end];
     if name < LEVEL {
@@ -276,7 +266,7 @@ fn read_word(line: &[u8], start: usize, end: usize) -> Word
     if name <= DATA {
         return read_buffer(name, value, from);
     }
-    if name >= NAMES.len() {
+    if name >= NAMED {
         return Word::Wrong(Fault::Name);
     }
     if name <= W4 {
@@ -302,7 +292,7 @@ fn kind_after(line: &[u8], at: usize) -> usize
     }
     let start = at + 1;
     let end = next_end(line, at);
-    text::row_of(&KINDS, &line[start..end])
+    text::number_of(&KINDS, NO_KIND, &line[start..end])
 }
 
 // The question, where all value words are good.
@@ -346,8 +336,8 @@ fn named_end(line: &[u8], row: usize, end: usize) -> usize
 // A line that is not empty, no remark and not too long.
 fn read_question(line: &[u8]) -> Line {
     let end = find(line, 0, line.len(), b' ');
-    let row = text::row_of(&QUESTIONS, &line[0..end]);
-    if row >= QUESTIONS.len() {
+    let row = text::number_of(&QUESTIONS, ASKED, &line[0..end]);
+    if row >= ASKED {
         return Line::Wrong(Fault::Question);
     }
     let kind = kind_after(line, end);

@@ -15,53 +15,18 @@ use walk::Grant;
 use walk::Walk;
 ghost use Prim.Native.Nat.{_+_, _≤_};
 
-// The numbers' names; then the level, a number too, the buffers, the windows and the schedules.
-pub const NAMES: [[u8; 10]; 44] = [
-    *b"mode      ",
-    *b"carrier   ",
-    *b"identity  ",
-    *b"nports    ",
-    *b"cports    ",
-    *b"control   ",
-    *b"sib1      ",
-    *b"bits      ",
-    *b"n         ",
-    *b"delay     ",
-    *b"rmax      ",
-    *b"subframes ",
-    *b"copies    ",
-    *b"r         ",
-    *b"format    ",
-    *b"ncce      ",
-    *b"spacing   ",
-    *b"subcarrier",
-    *b"units     ",
-    *b"mcs       ",
-    *b"field     ",
-    *b"windows   ",
-    *b"siwindow  ",
-    *b"sioffset  ",
-    *b"messages  ",
-    *b"p         ",
-    *b"t         ",
-    *b"slot      ",
-    *b"l         ",
-    *b"k         ",
-    *b"i         ",
-    *b"room      ",
-    *b"level     ",
-    *b"anchor    ",
-    *b"other     ",
-    *b"data      ",
-    *b"w1        ",
-    *b"w2        ",
-    *b"w3        ",
-    *b"w4        ",
-    *b"m1        ",
-    *b"m2        ",
-    *b"m3        ",
-    *b"m4        ",
+// The numbers' names, eight in a row; then the level, a number too, the buffers, the windows and the schedules.
+pub const NAMES: [[u8; 80]; 6] = [
+    *b"mode      carrier   identity  nports    cports    control   sib1      bits      ",
+    *b"n         delay     rmax      subframes copies    r         format    ncce      ",
+    *b"spacing   subcarrierunits     mcs       field     windows   siwindow  sioffset  ",
+    *b"messages  p         t         slot      l         k         i         room      ",
+    *b"level     anchor    other     data      w1        w2        w3        w4        ",
+    *b"m1        m2        m3        m4                                                ",
 ];
+
+// How many names there are.
+pub const NAMED: usize = 44;
 
 const MODE: usize = 0;
 

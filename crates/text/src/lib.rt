@@ -10,7 +10,7 @@ pub use digits::decimal;
 pub use hex::is_hex;
 pub use hex::take_hex;
 pub use hex::word;
-pub use names::row_of;
+pub use names::number_of;
 pub use patterns::float_of;
 pub use patterns::pattern_of;
 pub use writing::Page;

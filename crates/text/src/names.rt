@@ -1,25 +1,31 @@
-// Names in a table of rows that are padded with spaces.
+// Names in a table, eight in a row, each padded with spaces to ten letters.
+ghost use Prim.Native.Nat.{_+_, _≤_};
 
-// The row of a name; the table's length where none holds it.
-pub fn row_of(table: &[[u8; 10]], name: &[u8]) -> usize {
+// The number of a name among the first `count` of a table; the count where none of them is it.
+pub fn number_of(table: &[[u8; 80]], count: usize, name: &[u8]) -> usize {
     let mut i = 0;
-    while i < table.len() {
-        if is_row(&table[i], name) {
+    while i < count {
+        if i / 8 >= table.len() {
+            return count;
+        }
+        if is_padded(&table[i / 8], 10 * (i % 8), name) {
             return i;
         }
         i += 1;
     }
-    i
+    count
 }
 
-// A row holds the name.
-fn is_row(row: &[u8; 10], name: &[u8]) -> bool {
+// At a place of a row stands the name.
+fn is_padded(row: &[u8; 80], at: usize, name: &[u8]) -> bool
+    requires { ⌜ at + 10 ≤ 80 ⌝ }
+{
     if name.len() > 10 {
         return false;
     }
     let mut i = 0;
     while i < 10 {
-        if row[i] != padded(name, i) {
+        if row[at + i] != padded(name, i) {
             return false;
         }
         i += 1;
