@@ -27,6 +27,11 @@ kept false w c n e = omega arith
 kept true w c n e =
     ⊎-elim (λ l. rw (lt-ltb 0 w l) (omega arith)) (λ l. rw (le-ltb 0 w l) (omega arith)) (order 0 w)
 
+-- one more subframe, of which w are wanted: it remains, or is one that is not wanted any more
+gone : (b : Bool) (w : ℕ) → boolByte (b && not (b && ltb 0 w)) + w ≡ boolByte b + (w - boolByte b)
+gone false w = omega arith
+gone true w = ⊎-elim (λ l. rw (lt-ltb 0 w l) (omega arith)) (λ l. rw (le-ltb 0 w l) (omega arith)) (order 0 w)
+
 module _ (step size : ℕ) (free : ℕ → Bool) where
   -- subframe x is remaining
   abbrev pub untaken : ℕ → Bool
@@ -35,6 +40,18 @@ module _ (step size : ℕ) (free : ℕ → Bool) where
   pub wants-suc : (x : ℕ) → wants step size free (suc x) ≡ wants step size free x + begun step size x - boolByte (free x)
   unfolding wants
   wants-suc x = refl
+
+  -- what all copies want that begin before subframe x
+  unfoldable pub allBegun : ℕ → ℕ
+  allBegun zero = 0
+  allBegun (suc x) = allBegun x + begun step size x
+
+  -- of the first x subframes those that are free remain, or went to what is not wanted any more
+  pub all-counted : (x : ℕ) → rank untaken x + allBegun x ≡ rank free x + wants step size free x
+  unfolding allBegun rank wants
+  all-counted zero = refl
+  all-counted (suc x) =
+      omega (arith, all-counted x, gone (free x) (wants step size free x + begun step size x))
 
   module _ (x n : ℕ) (calm : (i : ℕ) → 0 < i → i < n → begun step size (x + i) ≡ 0) where
     abbrev pub here : ℕ

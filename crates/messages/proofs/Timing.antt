@@ -122,11 +122,8 @@ module _ (ms : Messages) (j : ℕ) (s : Schedule) (ok : Whole s) where
         pub closed-count : ms .window ≤ ago → (y : ℕ) → y ≤ n → count (remains ms j s u) t y ≡ count u t y
         closed-count c y l = count-same (remains ms j s u) u y t t (λ i h. closed-at c i (omega arith))
 
-        module _ (read : isRead ms j ≡ true) (inside : ago + n ≤ ms .window) (calm : (i : ℕ) → 0 < i → i < n → begun step (s .size) (ago + i) ≡ 0) where
-          -- what it needs here, with the copy that begins here
-          abbrev pub needs : ℕ
-          needs = wants step (s .size) free ago + begun step (s .size) ago
-
+        -- inside one, what no copy wants
+        module _ (read : isRead ms j ≡ true) (inside : ago + n ≤ ms .window) where
           open-at : (y : ℕ) → y < n → remains ms j s u (t + y) ≡ untaken step (s .size) free (ago + y)
           unfolding remains
           open-at y l =
@@ -134,21 +131,29 @@ module _ (ms : Messages) (j : ℕ) (s : Schedule) (ok : Whole s) where
               let f : ltb (ago + y) (ms .window) ≡ true = lt-ltb (ago + y) (ms .window) (omega arith) in
               rw (read, same-window y (omega arith), e, f, ← at-free y) refl
 
-          -- the first so many free ones go, the rest is remaining
-          pub open-count : (y : ℕ) → y ≤ n → count (remains ms j s u) t y ≡ count u t y - needs
-          open-count y l =
-              count-same (remains ms j s u) (untaken step (s .size) free) y t ago (λ i h. open-at i (omega arith))
-              ∙ omega (
-                arith,
-                rank-count (untaken step (s .size) free) y ago,
-                untaken-on step (s .size) free ago n calm y l,
-                rank-count free y ago,
-                count-free y,
-              )
+          pub open-untaken : (y : ℕ) → y ≤ n → count (remains ms j s u) t y ≡ count (untaken step (s .size) free) ago y
+          open-untaken y l = count-same (remains ms j s u) (untaken step (s .size) free) y t ago (λ i h. open-at i (omega arith))
 
-          -- and what it needs after the stretch, before another copy begins
-          pub open-wants : 0 < n → ago + n < 10 * s .period
-              → wants step (s .size) (inWindow ms j s u (t + n)) (since ms j s (t + n)) ≡ needs - count u t n
-          open-wants h l =
-              ap₂ (wants step (s .size)) (same-window n l) (since-on t n l)
-              ∙ omega (arith, wants-then step (s .size) free ago n calm h, rank-count free n ago, count-free n)
+          module _ (calm : (i : ℕ) → 0 < i → i < n → begun step (s .size) (ago + i) ≡ 0) where
+            -- what it needs here, with the copy that begins here
+            abbrev pub needs : ℕ
+            needs = wants step (s .size) free ago + begun step (s .size) ago
+
+            -- the first so many free ones go, the rest is remaining
+            pub open-count : (y : ℕ) → y ≤ n → count (remains ms j s u) t y ≡ count u t y - needs
+            open-count y l =
+                open-untaken y l
+                ∙ omega (
+                  arith,
+                  rank-count (untaken step (s .size) free) y ago,
+                  untaken-on step (s .size) free ago n calm y l,
+                  rank-count free y ago,
+                  count-free y,
+                )
+
+            -- and what it needs after the stretch, before another copy begins
+            pub open-wants : 0 < n → ago + n < 10 * s .period
+                → wants step (s .size) (inWindow ms j s u (t + n)) (since ms j s (t + n)) ≡ needs - count u t n
+            open-wants h l =
+                ap₂ (wants step (s .size)) (same-window n l) (since-on t n l)
+                ∙ omega (arith, wants-then step (s .size) free ago n calm h, rank-count free n ago, count-free n)

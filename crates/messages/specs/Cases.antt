@@ -1,19 +1,17 @@
--- Cases of 02 L5, computed: on a standalone anchor with identity 0, schedule 0 and no bitmap, and cases that tell readings of 02 apart.
-use mathlib.Core.Bool.{Bool, true, false, not, _&&_, _||_}
+-- Cases of 02 L5: on a standalone anchor with identity 0, schedule 0 and no bitmap, and cases that tell readings of 02 apart.
+use mathlib.Core.Bool.{Bool, true, false, not, _||_}
 use mathlib.Core.List.{List, [], _∷_}
 use mathlib.Core.Path.{_≡_}
-use Prim.Native.Nat.{ℕ, zero, suc, _/_, _%_}
-use lib.Dec.{eqb, ltb}
+use Prim.Native.Nat.{ℕ, zero, suc, _%_}
+use lib.Dec.{eqb}
 use Rattle.counting.specs.Counting.{rank}
+use Rattle.sync.specs.Sync.{npbch, npss, nsss, sib1}
 use Rattle.messages.specs.declared.Schedule.{Schedule}
 use Rattle.messages.specs.declared.Messages.{Messages}
 use Rattle.messages.specs.Messages.{remaining, isMessage, areListed}
 
--- no NPBCH, NPSS, NSSS or SIB1 there
 abbrev pub anchor : ℕ → Bool
-anchor t =
-    not (eqb (t % 10) 0 || (eqb (t % 10) 5 || ((eqb (t % 10) 9 && eqb (t / 10 % 2) 0)
-    || (eqb (t % 10) 4 && (eqb (t / 10 % 64 % 2) 0 && ltb (t / 10 % 64) 16)))))
+anchor t = not (npbch t || (npss t || (nsss t || sib1 0 0 t)))
 
 -- only the first subframe of each frame
 abbrev pub sparse : ℕ → Bool
@@ -34,12 +32,11 @@ abbrev pub listed : (ℕ → Bool) → ℕ → List ℕ
 listed f zero = []
 listed f (suc n) = elim (f n) [ true ↦ n ∷ listed f n | false ↦ listed f n ]
 
-pub record MessageCases : Type 0 where
+-- each is computed
+pub record ComputedCases : Type 0 where
   -- what one schedule takes first, and how many of its period
   pub taken-first : listed (isMessage (only 160 0 (at 64 2 8)) anchor) 27 ≡ 26 ∷ 23 ∷ 22 ∷ 21 ∷ 12 ∷ 11 ∷ 8 ∷ 7 ∷ 6 ∷ 3 ∷ 2 ∷ 1 ∷ []
   pub taken-of-period : rank (isMessage (only 160 0 (at 64 2 8)) anchor) 640 ≡ 64
-  -- where the window is as long as the period, 216 of 640 remain
-  pub window-as-long : rank (remaining (only 640 0 (at 64 2 8)) anchor) 640 ≡ 216
   -- windows one after the other; the fourth opens in frame 56 and is open at t = 0
   pub over-zero : listed (isMessage (some 160 8 4 (at 64 2 8) (at 64 2 8)) anchor) 24 ≡ 23 ∷ 22 ∷ 21 ∷ 12 ∷ 11 ∷ 8 ∷ 7 ∷ 6 ∷ 3 ∷ 2 ∷ 1 ∷ []
   -- the frame's number is not taken modulo 1,024
@@ -58,3 +55,8 @@ pub record MessageCases : Type 0 where
   pub four-subframes-not : areListed (only 160 0 (at 64 2 4)) ≡ false
   pub unread-unjudged : areListed (some 160 0 1 (at 64 2 8) (at 0 0 0)) ≡ true
   pub window-always-judged : areListed (some 800 0 0 (at 64 2 8) (at 64 2 8)) ≡ false
+
+pub record MessageCases : Type 0 where
+  pub computed : ComputedCases
+  -- where the window is as long as the period, 216 of 640 remain
+  pub window-as-long : rank (remaining (only 640 0 (at 64 2 8)) anchor) 640 ≡ 216
