@@ -1,11 +1,1 @@
-pub mod Units
-pub mod Entries
-pub mod Grid
-pub mod Lanes
-pub mod Timetables
-pub mod Running
-pub mod Walking
-pub mod Finding
-pub mod Striding
-pub mod Apart
 pub mod Searching

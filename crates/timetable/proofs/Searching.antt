@@ -14,16 +14,17 @@ use Rattle.counting.proofs.Period.{rank-period, rank-periods, rank-split, repea
 use Rattle.spans.specs.declared.Pattern.{Pattern}
 use Rattle.spans.specs.Pattern.{allows, Regular}
 use Rattle.messages.specs.declared.Messages.{Messages}
-use Rattle.timetable.specs.declared.Timetable.{Timetable}
+use Rattle.units.specs.declared.Timetable.{Timetable}
 use Rattle.timetable.specs.declared.Sight.{Sight}
-use Rattle.timetable.specs.declared.Wants.{Wants}
-use Rattle.timetable.specs.declared.Spot.{Spot}
+use Rattle.units.specs.declared.Wants.{Wants}
+use Rattle.units.specs.declared.Spot.{Spot}
 use Rattle.timetable.specs.declared.Hit.{Hit}
 use Rattle.messages.specs.Messages.{allPeriods, areListed, remaining}
-use Rattle.timetable.specs.Quick.{timetableOf, beginOf, unitNeed, wantsIn, Serves, Exact, Allowing, SpotAt, Scanned, SightAt, moved, Hits}
+use Rattle.units.specs.Quick.{timetableOf, beginOf, unitNeed, wantsIn, Serves, Exact, Allowing, SpotAt}
+use Rattle.timetable.specs.Quick.{Scanned, SightAt, moved, Hits}
 use Rattle.messages.proofs.Repeating.{repeats-at-last, remaining-free}
-use Rattle.timetable.proofs.Finding.{base-repeats, far, allowing, near, remaining-again}
-use Rattle.timetable.proofs.Walking.{walk-exact, unit-remaining, remains-in-unit}
+use Rattle.units.proofs.Finding.{base-repeats, far, allowing, near, remaining-again}
+use Rattle.units.proofs.Walking.{walk-exact, unit-remaining, remains-in-unit}
 
 module _ (ms : Messages) (p : Pattern) (reg : Regular p) (table : Timetable) (S : Serves ms table) where
   abbrev u : ℕ → Bool

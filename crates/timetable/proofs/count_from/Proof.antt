@@ -7,7 +7,8 @@ use Rattle.counting.proofs.Rank.{rank-le, rank-mono}
 use Rattle.spans.specs.Pattern.{allows}
 use Rattle.messages.specs.declared.Messages.{Messages}
 use Rattle.messages.specs.Messages.{remaining}
-use Rattle.timetable.specs.Quick.{Serves, SightAt, Ahead}
+use Rattle.units.specs.Quick.{Serves}
+use Rattle.timetable.specs.Quick.{SightAt, Ahead}
 use Rattle.timetable.proofs.Searching.{count-is, same-later}
 use Rattle.timetable.proofs.count_from.Statement.{statement}
 use Rattle.timetable.proofs.count_from.Tie as tie

@@ -7,8 +7,10 @@ use Rattle.messages.specs.declared.Messages.{Messages}
 use Rattle.timetable.specs.declared.Sight.{Sight}
 use Rattle.counting.specs.Counting.{rank}
 use Rattle.messages.specs.Messages.{remaining}
-use Rattle.timetable.specs.Quick.{beginOf, Serves, Exact, Small, Scanned, Keeps}
-use Rattle.timetable.proofs.Apart.{none-keeps}
+use Rattle.units.specs.Quick.{beginOf, Serves, Exact, Small}
+use Rattle.strides.specs.Quick.{Keeps}
+use Rattle.timetable.specs.Quick.{Scanned}
+use Rattle.strides.proofs.Apart.{none-keeps}
 use Rattle.timetable.proofs.Searching.{passed-all}
 use Rattle.timetable.proofs.counted.Statement.{statement}
 use Rattle.timetable.proofs.counted.Tie as tie

@@ -8,8 +8,10 @@ use Rattle.spans.specs.Pattern.{allows}
 use Rattle.messages.specs.declared.Messages.{Messages}
 use Rattle.messages.specs.Messages.{remaining}
 use Rattle.timetable.specs.declared.Sight.{Sight}
-use Rattle.timetable.specs.Quick.{beginOf, Serves, Exact, Keeps, moved}
-use Rattle.timetable.proofs.Apart.{none-keeps}
+use Rattle.units.specs.Quick.{beginOf, Serves, Exact}
+use Rattle.strides.specs.Quick.{Keeps}
+use Rattle.timetable.specs.Quick.{moved}
+use Rattle.strides.proofs.Apart.{none-keeps}
 use Rattle.timetable.proofs.Searching.{passed, found-early, whole-again}
 use Rattle.timetable.proofs.find.Statement.{statement}
 use Rattle.timetable.proofs.find.Tie as tie

@@ -7,7 +7,8 @@ use Rattle.spans.specs.Pattern.{allows}
 use Rattle.messages.specs.declared.Messages.{Messages}
 use Rattle.messages.specs.Messages.{remaining}
 use Rattle.timetable.specs.declared.Sight.{Sight}
-use Rattle.timetable.specs.Quick.{Serves, SightAt, moved, Hits}
+use Rattle.units.specs.Quick.{Serves}
+use Rattle.timetable.specs.Quick.{SightAt, moved, Hits}
 use Rattle.timetable.proofs.Searching.{hit-is}
 use Rattle.timetable.proofs.hit_of.Statement.{statement}
 use Rattle.timetable.proofs.hit_of.Tie as tie

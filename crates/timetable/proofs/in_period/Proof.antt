@@ -4,7 +4,7 @@ use native.Mathlib.Omega.{arith}
 use Rattle.counting.specs.Counting.{rank}
 use Rattle.spans.specs.Pattern.{allows}
 use Rattle.messages.specs.Messages.{remaining}
-use Rattle.timetable.specs.Quick.{beginOf}
+use Rattle.units.specs.Quick.{beginOf}
 use Rattle.timetable.proofs.Searching.{turned}
 use Rattle.timetable.proofs.in_period.Statement.{statement}
 use Rattle.timetable.proofs.in_period.Tie as tie

@@ -12,11 +12,13 @@ use Rattle.counting.proofs.Facts.{order}
 use Rattle.counting.proofs.Rank.{rank-count}
 use Rattle.spans.specs.Pattern.{allows, periodOf}
 use Rattle.messages.proofs.Listing.{listed}
-use Rattle.timetable.specs.declared.Timetable.{Timetable}
+use Rattle.units.specs.declared.Timetable.{Timetable}
 use Rattle.timetable.specs.declared.Sight.{Sight}
 use Rattle.messages.specs.Messages.{allPeriods, remaining}
-use Rattle.timetable.specs.Quick.{beginOf, Serves, Exact, Allowing, Scanned, Keeps}
-use Rattle.timetable.proofs.Apart.{none-keeps}
+use Rattle.units.specs.Quick.{beginOf, Serves, Exact, Allowing}
+use Rattle.strides.specs.Quick.{Keeps}
+use Rattle.timetable.specs.Quick.{Scanned}
+use Rattle.strides.proofs.Apart.{none-keeps}
 use Rattle.timetable.proofs.Searching.{allows-some, period-some, passed, walked, none-anywhere}
 use Rattle.timetable.proofs.is_empty.Statement.{statement}
 use Rattle.timetable.proofs.is_empty.Tie as tie

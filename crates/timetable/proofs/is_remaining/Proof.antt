@@ -5,10 +5,10 @@ use native.Mathlib.Omega.{arith}
 use lib.Dec.{leb}
 use Rattle.counting.specs.Counting.{count}
 use Rattle.spans.specs.Pattern.{allows}
-use Rattle.timetable.specs.declared.Timetable.{Timetable}
-use Rattle.timetable.specs.Quick.{timetableOf, Sized, beginOf, unitNeed, wantsIn, Allowing, SpotAt}
+use Rattle.units.specs.declared.Timetable.{Timetable}
+use Rattle.units.specs.Quick.{timetableOf, Sized, beginOf, unitNeed, wantsIn, Allowing, SpotAt}
 use Rattle.messages.proofs.Repeating.{remaining-within}
-use Rattle.timetable.proofs.Finding.{allowing, remains-found}
+use Rattle.units.proofs.Finding.{allowing, remains-found}
 use Rattle.timetable.proofs.is_remaining.Statement.{statement}
 use Rattle.timetable.proofs.is_remaining.Tie as tie
 

@@ -8,9 +8,9 @@ use Rattle.counting.proofs.Select.{nth-of}
 use Rattle.counting.proofs.Period.{is-select, select-below}
 use Rattle.spans.specs.Pattern.{allows, periodOf, OnesOf}
 use Rattle.spans.proofs.Laws.{repeats, few-spans}
-use Rattle.timetable.specs.Quick.{beginOf}
-use Rattle.timetable.proofs.Finding.{far}
-use Rattle.timetable.proofs.Striding.{lands}
+use Rattle.units.specs.Quick.{beginOf}
+use Rattle.units.proofs.Finding.{far}
+use Rattle.strides.proofs.Striding.{lands}
 use Rattle.timetable.proofs.land.Statement.{statement}
 use Rattle.timetable.proofs.land.Tie as tie
 

@@ -3,10 +3,11 @@ use Prim.Native.Nat.{ℕ, _+_, _*_, _%_, _^_, _<_}
 use native.Mathlib.Nat.{mod-lt}
 use native.Mathlib.Omega.{arith}
 use Rattle.spans.specs.Pattern.{allows}
-use Rattle.timetable.specs.declared.Timetable.{Timetable}
-use Rattle.timetable.specs.declared.Wants.{Wants}
+use Rattle.units.specs.declared.Timetable.{Timetable}
+use Rattle.units.specs.declared.Wants.{Wants}
 use Rattle.timetable.specs.declared.Hit.{Hit}
-use Rattle.timetable.specs.Quick.{Serves, Exact, Allowing, SightAt, Sighted, moved, Hits, Struck}
+use Rattle.units.specs.Quick.{Serves, Exact, Allowing}
+use Rattle.timetable.specs.Quick.{SightAt, Sighted, moved, Hits, Struck}
 use Rattle.timetable.proofs.Searching.{allows-some, period-some, found-is}
 use Rattle.timetable.proofs.nth.Statement.{statement}
 use Rattle.timetable.proofs.nth.Tie as tie

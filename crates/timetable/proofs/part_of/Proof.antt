@@ -10,9 +10,9 @@ use Rattle.counting.proofs.Facts.{order}
 use Rattle.spans.specs.Pattern.{allows}
 use Rattle.messages.specs.declared.Messages.{Messages}
 use Rattle.messages.specs.Messages.{remaining}
-use Rattle.timetable.specs.Quick.{beginOf, unitNeed, Serves, Exact}
+use Rattle.units.specs.Quick.{beginOf, unitNeed, Serves, Exact}
 use Rattle.timetable.proofs.Searching.{first-count, remains-here}
-use Rattle.timetable.proofs.Striding.{count-most}
+use Rattle.strides.proofs.Striding.{count-most}
 use Rattle.timetable.proofs.part_of.Statement.{statement}
 use Rattle.timetable.proofs.part_of.Tie as tie
 

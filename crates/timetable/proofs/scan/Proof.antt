@@ -6,8 +6,9 @@ use Rattle.counting.proofs.Rank.{rank-count}
 use Rattle.spans.specs.Pattern.{allows}
 use Rattle.messages.specs.declared.Messages.{Messages}
 use Rattle.messages.specs.Messages.{remaining}
-use Rattle.timetable.specs.declared.Wants.{Wants}
-use Rattle.timetable.specs.Quick.{beginOf, Small, Serves, Exact, Keeps}
+use Rattle.units.specs.declared.Wants.{Wants}
+use Rattle.units.specs.Quick.{beginOf, Small, Serves, Exact}
+use Rattle.strides.specs.Quick.{Keeps}
 use Rattle.timetable.proofs.scan.Statement.{statement}
 use Rattle.timetable.proofs.scan.Tie as tie
 

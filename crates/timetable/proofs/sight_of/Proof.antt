@@ -4,9 +4,10 @@ use native.Mathlib.Omega.{arith}
 use Rattle.counting.specs.Counting.{count}
 use Rattle.spans.specs.Pattern.{allows}
 use Rattle.timetable.specs.declared.Sight.{Sight}
-use Rattle.timetable.specs.Quick.{beginOf, unitNeed, wantsIn, SightAt}
+use Rattle.units.specs.Quick.{beginOf, unitNeed, wantsIn}
+use Rattle.timetable.specs.Quick.{SightAt}
 use Rattle.timetable.proofs.Searching.{sight-is}
-use Rattle.timetable.proofs.Striding.{count-most}
+use Rattle.strides.proofs.Striding.{count-most}
 use Rattle.timetable.proofs.sight_of.Statement.{statement}
 use Rattle.timetable.proofs.sight_of.Tie as tie
 

@@ -1,0 +1,2 @@
+pub mod Striding
+pub mod Apart
