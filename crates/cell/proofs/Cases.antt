@@ -39,7 +39,7 @@ nothing = 0 ∷ 0 ∷ []
 
 -- ---- a test that passes somewhere, or nowhere
 
-some-pass : (u : ℕ → Bool) (t : ℕ) → t < period → u t ≡ true → eqb (rank u period) 0 ≡ false
+pub some-pass : (u : ℕ → Bool) (t : ℕ) → t < period → u t ≡ true → eqb (rank u period) 0 ≡ false
 some-pass u t h e = ne-eqb (rank u period) 0 (λ z. omega (arith, rank-strict u t period e h))
 
 none-pass : (u : ℕ → Bool) → ((t : ℕ) → u t ≡ false) → eqb (rank u period) 0 ≡ true

@@ -9,7 +9,6 @@ use lib.Dec.{eqb, ltb}
 use lib.ListN.{length}
 use borrow.Author.Tests.{eq-eqb, ne-eqb, le-ltb}
 use Rattle.counting.specs.Counting.{rank, next, select}
-use Rattle.counting.proofs.Rank.{rank-strict}
 use Rattle.grid.specs.Grid.{subcarriers}
 use Rattle.grid.specs.Tables.{downlinkDelay, isRepetition}
 use Rattle.bitmap.specs.Bitmap.{bytesOf, listedLength, badBitmap, allowed}
@@ -210,15 +209,12 @@ unfolding badBitmap listedLength bytesOf
 no-bitmap own = rw (le-ltb (length own) 0 (omega arith)) refl
 
 -- a test that passes somewhere
-some-pass : (u : ℕ → Bool) (t : ℕ) → t < period → u t ≡ true → eqb (rank u period) 0 ≡ false
-some-pass u t h e = ne-eqb (rank u period) 0 (λ z. omega (arith, rank-strict u t period e h))
-
 module _ (anchor other : List ℕ) where
   accepted-with : judgeOf messageCell anchor other ≡ 0
   unfolding judgeOf cellRefusal formRefusal configRefusal useRefusal bytesOf allowed
   accepted-with =
-      let a : noneAllowed messageCell anchor ≡ false = some-pass _ 0 (omega arith) refl in
-      let u : noneUsable messageCell anchor ≡ false = some-pass (usable messageCell []) 13 (omega arith) thirteenth in
+      let a : noneAllowed messageCell anchor ≡ false = cell.some-pass _ 0 (omega arith) refl in
+      let u : noneUsable messageCell anchor ≡ false = cell.some-pass (usable messageCell []) 13 (omega arith) thirteenth in
       rw (formed .0, no-bitmap anchor, formed .1, a, u) refl
 
   caused : (t : ℕ) → causeOf messageCell anchor other t ≡ record { no = 0; cause = why messageCell [] t }

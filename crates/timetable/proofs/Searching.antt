@@ -18,10 +18,11 @@ use Rattle.units.specs.declared.Timetable.{Timetable}
 use Rattle.timetable.specs.declared.Sight.{Sight}
 use Rattle.units.specs.declared.Wants.{Wants}
 use Rattle.units.specs.declared.Spot.{Spot}
+use Rattle.timetable.specs.declared.Sought.{Sought}
 use Rattle.timetable.specs.declared.Hit.{Hit}
 use Rattle.messages.specs.Messages.{allPeriods, areListed, remaining}
 use Rattle.units.specs.Quick.{timetableOf, beginOf, unitNeed, wantsIn, Serves, Exact, Allowing, SpotAt}
-use Rattle.timetable.specs.Quick.{Scanned, SightAt, moved, Hits}
+use Rattle.timetable.specs.Quick.{Scanned, SightAt, moved, Hits, Sighted, Struck, SoughtAt}
 use Rattle.messages.proofs.Repeating.{repeats-at-last, remaining-free}
 use Rattle.units.proofs.Finding.{base-repeats, far, allowing, near, remaining-again}
 use Rattle.units.proofs.Walking.{walk-exact, unit-remaining, remains-in-unit}
@@ -246,3 +247,12 @@ module _ (ms : Messages) (ok : areListed ms ≡ true) (p : Pattern) (reg : Regul
         ap (λ (x : ℕ). t / allPeriods * x) z ∙ mul-zero (t / allPeriods),
         rank-mono all (t % allPeriods) allPeriods (omega arith),
       )
+
+-- ---- from where a search began
+
+module _ (ms : Messages) (p : Pattern) (from : ℕ) (r : Sought) (B : SoughtAt ms p from r) where
+  pub sighted : (n : ℕ) (w : Wants) → Exact ms (allows p) (r .table) n w → Sighted (r .table) (allows p) n w
+  sighted n w X = record { ms = ms; serves = B .serves; exact = X; some = B .some }
+
+  pub struck : (h : Hit) (j : ℕ) → Hits ms (allows p) (r .table) (moved (r .sight) j) h → Struck (r .table) (allows p) from h
+  struck h j H = record { ms = ms; serves = B .serves; s = r .sight; j = j; sight = B .sight; hits = H }

@@ -1,16 +1,19 @@
 -- What the quick search works out on the way. No definition of 02 and no public contract cites this file.
 use mathlib.Core.Bool.{Bool, true}
 use mathlib.Core.Path.{_≡_}
-use Prim.Native.Nat.{ℕ, _+_, _-_, _*_, _%_, _≤_, _<_}
+use Prim.Native.Nat.{ℕ, _+_, _-_, _*_, _%_, _^_, _≤_, _<_}
 use Rattle.counting.specs.Counting.{rank, count}
+use Rattle.spans.specs.declared.Pattern.{Pattern}
+use Rattle.spans.specs.Pattern.{allows}
 use Rattle.units.specs.declared.Timetable.{Timetable}
 use Rattle.units.specs.declared.Wants.{Wants}
 use Rattle.timetable.specs.declared.Sight.{Sight}
+use Rattle.timetable.specs.declared.Sought.{Sought}
 use Rattle.timetable.specs.declared.Hit.{Hit}
 use Rattle.timetable.specs.declared.Part.{Part}
 use Rattle.messages.specs.declared.Messages.{Messages}
 use Rattle.messages.specs.Messages.{remaining}
-use Rattle.units.specs.Quick.{beginOf, Exact, Serves}
+use Rattle.units.specs.Quick.{Sized, beginOf, Small, Exact, Allowing, Serves}
 use Rattle.strides.specs.Quick.{Here}
 
 -- the same subframe is looked for from a later unit; before `end` it is at hand, if what remains there does so evenly
@@ -32,6 +35,17 @@ pub record SightAt (ms : Messages) (u : ℕ → Bool) (table : Timetable) (t : �
   pub exact : Exact ms u table (s .n) (s .wants)
   pub same : rank (remaining ms u) (beginOf table (s .n)) + s .k
       ≡ rank (remaining ms u) (t + 5 * (table .unit * table .units))
+
+-- the table of messages that leave some, and the sight of subframe `from` in it
+pub record SoughtAt (ms : Messages) (p : Pattern) (from : ℕ) (r : Sought) : Type 0 where
+  pub serves : Serves ms (r .table)
+  pub sized : Sized (r .table)
+  pub allowing : Allowing p
+  pub some : 0 < rank (remaining ms (allows p)) (r .table .unit * r .table .units)
+  pub small : Small (r .table) (r .sight .n) (r .sight .wants)
+  pub early : r .sight .n < 2 ^ 14
+  pub few : r .sight .k ≤ 160
+  pub sight : SightAt ms (allows p) (r .table) (from % (r .table .unit * r .table .units)) (r .sight)
 
 -- the subframe after j more
 abbrev pub moved : Sight → ℕ → Sight

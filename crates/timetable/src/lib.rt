@@ -11,7 +11,7 @@ ghost use Rattle.messages.specs.Messages.{allPeriods, areListed, remaining};
 ghost use Rattle.units.specs.Quick.{Sized, beginOf, Small, Allowing, Serves, Exact};
 ghost use Rattle.strides.specs.Quick.{Here, Keeps};
 ghost use Rattle.timetable.specs.Quick.{Scanned, Sighted, SightAt, Exactly, Counted, Ahead, Served, Hits};
-ghost use Rattle.timetable.specs.Quick.{Struck, moved, Parted};
+ghost use Rattle.timetable.specs.Quick.{Struck, SoughtAt, moved, Parted};
 use messages::Messages;
 use spans::Ends;
 use spans::Found;
@@ -38,6 +38,12 @@ struct Reached {
 struct Hit {
     sight: Sight,
     later: u64,
+}
+
+// Where a search begins.
+struct Sought {
+    table: Timetable,
+    sight: Sight,
 }
 
 // How many remain before a subframe, and whether it remains.
@@ -211,16 +217,25 @@ fn hit_of(table: Timetable, p: Pattern, h: Hit, from: u64) -> u64
     land(table, p, h.sight) + later + whole * period - 5 * period
 }
 
+// The table of the messages, and the sight of a subframe in it.
+fn seek_from(ms: Messages, p: Pattern, from: u64) -> Sought
+    requires { ⌜ (areListed ms ≡ true) × Regular p × (0 < rank (remaining ms (allows p)) allPeriods) ⌝ }
+    ensures { λ r. ⌜ SoughtAt ms p from r ⌝ }
+{
+    let table = units::timetable_of(ms);
+    let period = table.unit * table.units;
+    let sight = sight_of(table, p, from % period);
+    Sought { table, sight }
+}
+
 // The j-th remaining subframe from a given one on, counted from 0.
 pub fn nth(ms: Messages, p: Pattern, from: u64, j: u64) -> u64
     requires { ⌜ (areListed ms ≡ true) × Regular p × (0 < rank (remaining ms (allows p)) allPeriods) × (from < 2 ^ 31)
         × (j < 2 ^ 31) ⌝ }
     ensures { λ r. ⌜ r ≡ select (remaining ms (allows p)) allPeriods from j ⌝ }
 {
-    let table = units::timetable_of(ms);
-    let period = table.unit * table.units;
-    let s = sight_of(table, p, from % period);
-    hit_of(table, p, find(table, p, s, j), from)
+    let g = seek_from(ms, p, from);
+    hit_of(g.table, p, find(g.table, p, g.sight, j), from)
 }
 
 // The first remaining subframe from a given one on.
@@ -239,15 +254,13 @@ pub fn first_and_last(ms: Messages, p: Pattern, from: u64, j: u64, more: u64) ->
     ensures { λ r. ⌜ (r .first ≡ select (remaining ms (allows p)) allPeriods from j)
         × (r .last ≡ select (remaining ms (allows p)) allPeriods from (j + more)) ⌝ }
 {
-    let table = units::timetable_of(ms);
-    let period = table.unit * table.units;
-    let s = sight_of(table, p, from % period);
-    let a = find(table, p, s, j);
-    let b = find(table, p, a.sight, more);
+    let g = seek_from(ms, p, from);
+    let a = find(g.table, p, g.sight, j);
+    let b = find(g.table, p, a.sight, more);
     let sight = b.sight;
     let later = a.later + b.later;
-    let first = hit_of(table, p, a, from);
-    let last = hit_of(table, p, Hit { sight, later }, from);
+    let first = hit_of(g.table, p, a, from);
+    let last = hit_of(g.table, p, Hit { sight, later }, from);
     Ends { first, last }
 }
 
