@@ -2,7 +2,7 @@
 use mathlib.Core.Bool.{Bool, true, false, cond}
 use mathlib.Core.Path.{_≡_, refl, sym, ap, ap₂, subst, _∙_}
 use mathlib.Core.Logic.{_⊎_, inl, inr, ⊎-elim}
-use Prim.Native.Nat.{ℕ, zero, suc, _+_, _-_, _*_, _/_, _%_, _^_, _≤_, _<_}
+use Prim.Native.Nat.{ℕ, zero, suc, min, _+_, _-_, _*_, _/_, _%_, _^_, _≤_, _<_}
 use native.Mathlib.Nat.{add-zero, mul-assoc, mul-add, mul-comm, zero-mul, suc-mul, mod-self, div-add-mod'}
 use native.Mathlib.Omega.{arith}
 use lib.Dec.{ltb}
@@ -12,7 +12,7 @@ use Rattle.counting.specs.Counting.{rank, count}
 use Rattle.counting.proofs.Facts.{order}
 use Rattle.counting.proofs.Rank.{rank-count, count-same}
 use Rattle.messages.specs.declared.Messages.{Messages}
-use Rattle.messages.specs.Messages.{allPeriods, areListed, after1, after2, after3, remaining}
+use Rattle.messages.specs.Messages.{allPeriods, after1, after2, after3, remaining}
 use Rattle.units.specs.declared.Lane.{Lane}
 use Rattle.units.specs.declared.LaneStep.{LaneStep}
 use Rattle.units.specs.declared.UnitStep.{UnitStep}
@@ -22,12 +22,10 @@ use Rattle.strides.specs.declared.Stride.{Stride}
 use Rattle.strides.specs.declared.Kept.{Kept}
 use Rattle.strides.specs.declared.Whose.{Whose}
 use Rattle.strides.specs.declared.Whose.the-variants.{First, Second, Third, Fourth}
-use Rattle.units.specs.Quick.{timetableOf, Ranged, Turned, Sized, beginOf, placeOf, needOf, laneStepOf, unitStepOf, noWants, Serves, Exact}
+use Rattle.units.specs.Quick.{Ranged, Turned, Sized, beginOf, placeOf, needOf, laneStepOf, unitStepOf, noWants, Serves, Exact}
 use Rattle.strides.specs.Quick.{Goes, laneAt, Shut, NoOther, Apart, loneWant, loneRest, aloneOf, noneKept, keptOf, keptWith, Counts, Keeps}
 use Rattle.units.proofs.Lanes.{Fresh, place-on, step-shut, unit-free}
-use Rattle.units.proofs.Timetables.{sized}
-use Rattle.units.proofs.Running.{AllRun, all-run}
-use Rattle.units.proofs.Walking.{exact-next, step-remaining}
+use Rattle.units.proofs.Walking.{served-run, served-sized, exact-next, step-remaining}
 use Rattle.strides.proofs.Striding.{need-shut}
 
 -- ---- one of four
@@ -46,8 +44,8 @@ module _ (table : Timetable) (Z : Sized table) where
   turned-at Fourth = Z .u4
 
 module _ (table : Timetable) (u : ℕ → Bool) where
-  pub none-keeps : Keeps table u noneKept
-  none-keeps = record { c1 = inl refl; c2 = inl refl; c3 = inl refl; c4 = inl refl }
+  pub none-keeps : (k : Kept) → k ≡ noneKept → Keeps table u k
+  none-keeps k e = subst (Keeps table u) (sym e) (record { c1 = inl refl; c2 = inl refl; c3 = inl refl; c4 = inl refl })
 
   pub kept-at : (k : Kept) → Keeps table u k → (whose : Whose) → Counts table u (laneAt table whose) (keptOf k whose)
   kept-at k K First = K .c1
@@ -61,6 +59,24 @@ module _ (table : Timetable) (u : ℕ → Bool) where
   kept-more k K Second x e = (record { c1 = K .c1; c2 = inr e; c3 = K .c3; c4 = K .c4 }, e)
   kept-more k K Third x e = (record { c1 = K .c1; c2 = K .c2; c3 = inr e; c4 = K .c4 }, e)
   kept-more k K Fourth x e = (record { c1 = K .c1; c2 = K .c2; c3 = K .c3; c4 = inr e }, e)
+
+-- from how long each has none open to a window that meets no other
+module _ (table : Timetable) (n q1 q2 q3 q4 : ℕ) (h1 : (i : ℕ) → i < q1 → Shut (table .l1) (n + i)) (h2 : (i : ℕ) → i < q2 → Shut (table .l2) (n + i))
+    (h3 : (i : ℕ) → i < q3 → Shut (table .l3) (n + i)) (h4 : (i : ℕ) → i < q4 → Shut (table .l4) (n + i)) where
+  abbrev pub Others : Whose → ℕ → Type 0
+  Others First x = x ≤ min q2 (min q3 q4)
+  Others Second x = x ≤ min q1 (min q3 q4)
+  Others Third x = x ≤ min q4 (min q1 q2)
+  Others Fourth x = x ≤ min q3 (min q1 q2)
+
+  others : (whose : Whose) (x : ℕ) → Others whose x → (i : ℕ) → i < x → NoOther table whose (n + i)
+  others First x o i k = (h2 i (omega arith), h3 i (omega arith), h4 i (omega arith))
+  others Second x o i k = (h1 i (omega arith), h3 i (omega arith), h4 i (omega arith))
+  others Third x o i k = (h1 i (omega arith), h2 i (omega arith), h4 i (omega arith))
+  others Fourth x o i k = (h1 i (omega arith), h2 i (omega arith), h3 i (omega arith))
+
+  pub apart : (whose : Whose) → placeOf (laneAt table whose) n ≡ 0 → Others whose (laneAt table whose .window) → Apart table whose (laneAt table whose .window) n
+  apart whose e o = record { window = refl; opens = e; others = others whose (laneAt table whose .window) o }
 
 -- what one of them wants, and the others nothing
 abbrev only : Whose → ℕ → Wants
@@ -201,26 +217,27 @@ module _ (u : ℕ → Bool) (table : Timetable) (l : Lane) (ok : Ranged l) where
 
 -- ---- the window is passed
 
-module _ (ms : Messages) (ok : areListed ms ≡ true) (u : ℕ → Bool) (again : (t : ℕ) → u (t + allPeriods) ≡ u t) where
-  abbrev table : Timetable
-  table = timetableOf ms
+abbrev pub loneStride : (ℕ → Bool) → Timetable → Whose → ℕ → ℕ → Stride
+loneStride u table whose units n =
+    record { n = n + units; wants = noWants; free = rank u (beginOf table (n + units)); remaining = aloneOf table u (laneAt table whose) }
 
-  R : AllRun ms table
-  R = all-run ms ok
-
+module _ (ms : Messages) (u : ℕ → Bool) (again : (t : ℕ) → u (t + allPeriods) ≡ u t) (base : (q t : ℕ) → u (t + q * 640) ≡ u t)
+    (table : Timetable) (S : Serves ms table) where
   Z : Sized table
-  Z = sized ms ok
+  Z = served-sized ms table S
 
   abbrev rest : ℕ → Bool
   rest = remaining ms u
 
   fresh : (n : ℕ) → Fresh (table .l1) n → Fresh (table .l2) n → Fresh (table .l3) n → Fresh (table .l4) n → Exact ms u table n noWants
-  fresh n f1 f2 f3 f4 = record {
-    x1 = sym (R .r1 .shut u n f1);
-    x2 = sym (R .r2 .shut (after1 ms u) n f2);
-    x3 = sym (R .r3 .shut (after2 ms u) n f3);
-    x4 = sym (R .r4 .shut (after3 ms u) n f4);
-  }
+  fresh n f1 f2 f3 f4 =
+      let R = served-run ms table S in
+      record {
+        x1 = sym (R .r1 .shut u n f1);
+        x2 = sym (R .r2 .shut (after1 ms u) n f2);
+        x3 = sym (R .r3 .shut (after2 ms u) n f3);
+        x4 = sym (R .r4 .shut (after3 ms u) n f4);
+      }
 
   first-exact : (whose : Whose) (n : ℕ) → placeOf (laneAt table whose) n ≡ 0 → NoOther table whose n → Exact ms u table n (only whose 0)
   first-exact First n e h = fresh n (inl e) (inr (h .0)) (inr (h .1)) (inr (h .2))
@@ -253,12 +270,12 @@ module _ (ms : Messages) (ok : areListed ms ≡ true) (u : ℕ → Bool) (again 
         let s = step-alone table whose m v (count u (beginOf table m) (table .unit)) (A .others i (omega arith)) in
         let e : m + 1 ≡ n + suc i = omega arith in (
           subst (λ (k : ℕ). Exact ms u table k (only whose (loneWant u table l n (suc i)))) e
-              (subst (Exact ms u table (m + 1)) (ap (λ (r : UnitStep). r .wants) s ∙ ap (only whose) (sym (o .0))) (exact-next ms ok u again m (only whose v) (X .0))),
+              (subst (Exact ms u table (m + 1)) (ap (λ (r : UnitStep). r .wants) s ∙ ap (only whose) (sym (o .0))) (exact-next ms u again table S m (only whose v) (X .0))),
           omega (
             arith,
             X .1,
             unit-free table rest m,
-            step-remaining ms ok u again m (only whose v) (X .0),
+            step-remaining ms u again table S m (only whose v) (X .0),
             ap (λ (r : UnitStep). r .remaining) s,
             o .1,
             ap (λ (k : ℕ). rank rest (beginOf table k)) e,
@@ -274,40 +291,22 @@ module _ (ms : Messages) (ok : areListed ms ≡ true) (u : ℕ → Bool) (again 
         ap (loneWant u table l n) (sym e) ∙ lone-on u table l ranged n i .0
         ∙ step-shut l ranged (n + i) (loneWant u table l n i) (count u (beginOf table (n + i)) (table .unit)) (omega (arith, at, A .opens, A .window))
 
-    pub alone-exact : Exact ms u table (n + units) noWants
-    alone-exact =
-        subst (Exact ms u table (n + units)) (ap (only whose) ended ∙ only-none whose) (passed units (omega arith) .0)
-
-    pub alone-count : ((q t : ℕ) → u (t + q * 640) ≡ u t)
-        → rank rest (beginOf table (n + units)) ≡ rank rest (beginOf table n) + aloneOf table u l
-    alone-count base =
-        let e = same-alone u table l ranged (turned-at table Z whose) base n (A .opens) (l .window) (omega arith) .1 in
-        omega (arith, passed units (omega arith) .1, ap (loneRest u table l n) (A .window), e)
-
--- ---- as the code has it
-
-abbrev pub loneStride : (ℕ → Bool) → Timetable → Whose → ℕ → ℕ → Stride
-loneStride u table whose units n =
-    record { n = n + units; wants = noWants; free = rank u (beginOf table (n + units)); remaining = aloneOf table u (laneAt table whose) }
-
-module _ (ms : Messages) (u : ℕ → Bool) (again : (t : ℕ) → u (t + allPeriods) ≡ u t) (base : (q t : ℕ) → u (t + q * 640) ≡ u t)
-    (table : Timetable) (S : Serves ms table) where
-  pub lone-goes : (whose : Whose) (units n : ℕ) (w : Wants) → Apart table whose units n → 0 < units → Goes ms u table n w (loneStride u table whose units n) false
-  lone-goes =
-      subst (λ (tb : Timetable). (whose : Whose) (units n : ℕ) (w : Wants) → Apart tb whose units n → 0 < units → Goes ms u tb n w (loneStride u tb whose units n) false) (sym (S .1))
-      (λ whose units n w A some.
-      let tb : Timetable = timetableOf ms in
-      let e : beginOf tb (n + units) ≡ beginOf tb n + tb .unit * units = omega (arith, mul-add (tb .unit) n units) in
-      record {
-        length = tb .unit * units;
-        ends = e;
-        evenly = λ h. absurd (omega (arith, ap boolByte h));
-        all =
-            omega (
-              arith,
-              alone-count ms (S .0) u again whose units n A some base,
-              rank-count (remaining ms u) (tb .unit * units) (beginOf tb n),
-              ap (rank (remaining ms u)) e,
-            );
-        exact = alone-exact ms (S .0) u again whose units n A some;
-      })
+    pub lone-goes : (w : Wants) → Goes ms u table n w (loneStride u table whose units n) false
+    lone-goes w =
+        let e : beginOf table (n + units) ≡ beginOf table n + table .unit * units = omega (arith, mul-add (table .unit) n units) in
+        let P = passed units (omega arith) in
+        record {
+          length = table .unit * units;
+          ends = e;
+          evenly = λ h. absurd (omega (arith, ap boolByte h));
+          all =
+              omega (
+                arith,
+                P .1,
+                ap (loneRest u table l n) (A .window),
+                same-alone u table l ranged (turned-at table Z whose) base n (A .opens) (l .window) (omega arith) .1,
+                rank-count rest (table .unit * units) (beginOf table n),
+                ap (rank rest) e,
+              );
+          exact = subst (Exact ms u table (n + units)) (ap (only whose) ended ∙ only-none whose) (P .0);
+        }

@@ -1,29 +1,30 @@
 -- Units passed at once, and the subframe that is found in them.
-use mathlib.Core.Bool.{Bool, true, false, _&&_}
+use mathlib.Core.Bool.{Bool, true, false, cond, _&&_}
 use mathlib.Core.Path.{_≡_, refl, sym, ap, subst, _∙_}
 use mathlib.Core.Logic.{_⊎_, ⊎-elim}
 use Prim.Native.Nat.{ℕ, zero, suc, _+_, _-_, _*_, _/_, _%_, _≤_, _<_}
 use native.Mathlib.Nat.{mod-lt, div-add-mod', mul-comm, mul-add, mul-one, mul-le-mul-right}
 use native.Mathlib.Omega.{arith}
 use mir.Val.{boolByte}
-use borrow.Author.Tests.{le-ltb, le-leb}
+use lib.Dec.{ltb}
+use borrow.Author.Tests.{lt-ltb, le-ltb, le-leb, ltb-true, ltb-false}
 use Rattle.counting.specs.Counting.{rank, count, Nth}
-use Rattle.counting.proofs.Facts.{order, byte-le}
+use Rattle.counting.proofs.Facts.{order}
 use Rattle.counting.proofs.Rank.{rank-count, count-same, count-between, rank-later}
 use Rattle.counting.proofs.Select.{nth-of}
 use Rattle.messages.specs.declared.Messages.{Messages}
 use Rattle.units.specs.declared.Lane.{Lane}
 use Rattle.units.specs.declared.Timetable.{Timetable}
 use Rattle.units.specs.declared.Wants.{Wants}
+use Rattle.units.specs.declared.Sight.{Sight}
 use Rattle.strides.specs.declared.Stride.{Stride}
-use Rattle.messages.specs.Messages.{allPeriods, areListed, after1, after2, after3, remaining}
-use Rattle.units.specs.Quick.{wantsAt, timetableOf, Sized, beginOf, placeOf, needOf, unitStepOf, unitNeed, noWants, laneStepOf, Serves, Exact}
-use Rattle.strides.specs.Quick.{Quiet, Evenly, Passes, Here}
+use Rattle.strides.specs.declared.Kept.{Kept}
+use Rattle.messages.specs.Messages.{allPeriods, after1, after2, after3, remaining}
+use Rattle.units.specs.Quick.{wantsAt, Sized, beginOf, placeOf, needOf, unitStepOf, unitNeed, noWants, Seen, Ran, wantsFrom, Serves, Exact}
+use Rattle.strides.specs.Quick.{Quiet, Evenly, Goes, Strode, Here, heldAt, goneBy, pastOf, Leapt}
 use Rattle.messages.proofs.Queue.{count-last}
-use Rattle.units.proofs.Lanes.{step-shut}
-use Rattle.units.proofs.Timetables.{sized}
-use Rattle.units.proofs.Running.{AllRun, all-run}
-use Rattle.units.proofs.Walking.{far1, far2, far3, unit-remaining, remains-in-unit, exact-next, step-remaining}
+use Rattle.units.proofs.Lanes.{step-shut, count-most, unit-most}
+use Rattle.units.proofs.Walking.{served-run, served-sized, far1, far2, far3, unit-remaining, remains-in-unit, step-remaining, run-exact}
 
 pub need-shut : (l : Lane) (n w : ℕ) → l .window ≤ placeOf l n → needOf l n w ≡ 0
 unfolding needOf
@@ -41,15 +42,13 @@ quiet-need table n w q =
       need-shut (table .l4) n (w .w4) (q .q4),
     )
 
-module _ (ms : Messages) (ok : areListed ms ≡ true) (u : ℕ → Bool) (again : (t : ℕ) → u (t + allPeriods) ≡ u t) where
-  abbrev table : Timetable
-  table = timetableOf ms
+-- a stretch of quiet units
+abbrev pub quietStride : (ℕ → Bool) → Timetable → ℕ → ℕ → Stride
+quietStride u table n d = record { n = n + d; wants = noWants; free = rank u (beginOf table (n + d)); remaining = rank u (beginOf table (n + d)) - rank u (beginOf table n) }
 
-  R : AllRun ms table
-  R = all-run ms ok
-
+module _ (ms : Messages) (u : ℕ → Bool) (again : (t : ℕ) → u (t + allPeriods) ≡ u t) (table : Timetable) (S : Serves ms table) where
   Z : Sized table
-  Z = sized ms ok
+  Z = served-sized ms table S
 
   abbrev rest : ℕ → Bool
   rest = remaining ms u
@@ -68,27 +67,33 @@ module _ (ms : Messages) (ok : areListed ms ≡ true) (u : ℕ → Bool) (again 
 
   -- ---- one unit
 
-  pub unit-evenly : (n : ℕ) (w : Wants) → Exact ms u table n w → Evenly ms u table n w (table .unit)
-  unit-evenly n w X = record { counted = unit-remaining ms ok u again n w X }
+  unit-here : (n k : ℕ) (w : Wants) → Exact ms u table n w → k < unitStepOf table n w (count u (beginOf table n) (table .unit)) .remaining → Here ms u table n w k
+  unit-here n k w X h = record {
+    length = table .unit;
+    evenly = record { counted = unit-remaining ms u again table S n w X };
+    enough = omega (arith, h, step-remaining ms u again table S n w X);
+  }
 
   -- ---- a stretch of units in which no window is open
 
   quiet-unit : (n : ℕ) → Quiet table n → (z : ℕ) → z < table .unit → rest (beginOf table n + z) ≡ u (beginOf table n + z)
   quiet-unit n q z l =
-      remains-in-unit ms ok u again n (known n) (known-exact n) z l
+      remains-in-unit ms u again table S n (known n) (known-exact n) z l
       ∙ rw (quiet-need table n (known n) q, le-leb 0 (count u (beginOf table n) z) (omega arith)) (and-one (u (beginOf table n + z)))
     where
       and-one : (b : Bool) → (b && true) ≡ b
       and-one true = refl
       and-one false = refl
 
-  pub quiet-next : (n : ℕ) → Quiet table n → Exact ms u table (n + 1) noWants
-  quiet-next n q = record {
-    x1 = sym (R .r1 .next u again n ∙ step-shut (table .l1) (Z .r1) n _ _ (omega (arith, q .q1)));
-    x2 = sym (R .r2 .next (after1 ms u) (far1 ms ok u again) n ∙ step-shut (table .l2) (Z .r2) n _ _ (omega (arith, q .q2)));
-    x3 = sym (R .r3 .next (after2 ms u) (far2 ms ok u again) n ∙ step-shut (table .l3) (Z .r3) n _ _ (omega (arith, q .q3)));
-    x4 = sym (R .r4 .next (after3 ms u) (far3 ms ok u again) n ∙ step-shut (table .l4) (Z .r4) n _ _ (omega (arith, q .q4)));
-  }
+  quiet-next : (n : ℕ) → Quiet table n → Exact ms u table (n + 1) noWants
+  quiet-next n q =
+      let R = served-run ms table S in
+      record {
+        x1 = sym (R .r1 .next u again n ∙ step-shut (table .l1) (Z .r1) n _ _ (omega (arith, q .q1)));
+        x2 = sym (R .r2 .next (after1 ms u) (far1 ms u again table S) n ∙ step-shut (table .l2) (Z .r2) n _ _ (omega (arith, q .q2)));
+        x3 = sym (R .r3 .next (after2 ms u) (far2 ms u again table S) n ∙ step-shut (table .l3) (Z .r3) n _ _ (omega (arith, q .q3)));
+        x4 = sym (R .r4 .next (after3 ms u) (far3 ms u again table S) n ∙ step-shut (table .l4) (Z .r4) n _ _ (omega (arith, q .q4)));
+      }
 
   module _ (n d : ℕ) (q : (i : ℕ) → i < d → Quiet table (n + i)) where
     abbrev U : ℕ
@@ -104,23 +109,33 @@ module _ (ms : Messages) (ok : areListed ms ≡ true) (u : ℕ → Bool) (again 
         let f : beginOf table n + y ≡ beginOf table (n + i) + z = omega (arith, e, mul-add U n i, mul-comm i U) in
         ap rest f ∙ quiet-unit (n + i) (q i early) z (mod-lt y some) ∙ ap u (sym f)
 
-    pub quiet-evenly : 0 < d → (w : Wants) → Evenly ms u table n w (U * d)
+    quiet-evenly : 0 < d → (w : Wants) → Evenly ms u table n w (U * d)
     quiet-evenly p w = record {
       counted = λ y l.
           let z : unitNeed table n w ≡ 0 = quiet-need table n w (subst (Quiet table) (omega arith) (q 0 p)) in
           count-same rest u y (beginOf table n) (beginOf table n) (λ i h. quiet-at i (omega arith)) ∙ omega (arith, z);
     }
 
-    pub quiet-exact : 0 < d → Exact ms u table (n + d) noWants
-    quiet-exact p =
-        let e : n + (d - 1) + 1 ≡ n + d = omega arith in
-        subst (λ (m : ℕ). Exact ms u table m noWants) e (quiet-next (n + (d - 1)) (q (d - 1) (omega arith)))
+    pub quiet-goes : (w : Wants) → 0 < d → Goes ms u table n w (quietStride u table n d) true
+    quiet-goes w p =
+        let b : ℕ = beginOf table n in
+        let e : beginOf table (n + d) ≡ b + U * d = omega (arith, mul-add U n d) in
+        let E = quiet-evenly p w in
+        let z : unitNeed table n w ≡ 0 = quiet-need table n w (subst (Quiet table) (omega arith) (q 0 p)) in
+        let last : n + (d - 1) + 1 ≡ n + d = omega arith in
+        record {
+          length = U * d;
+          ends = e;
+          evenly = λ h. E;
+          all = omega (arith, E .counted (U * d) (omega arith), z, rank-count u (U * d) b, ap (rank u) e);
+          exact = subst (λ (m : ℕ). Exact ms u table m noWants) last (quiet-next (n + (d - 1)) (q (d - 1) (omega arith)));
+        }
 
   -- ---- the k-th remaining one, where the free ones are counted
 
-  pub landed : (n k : ℕ) (w : Wants) → Here ms u table n w k → (t : ℕ) → u t ≡ true → rank u t ≡ rank u (beginOf table n) + unitNeed table n w + k
+  pub lands : (n k : ℕ) (w : Wants) → Here ms u table n w k → (t : ℕ) → u t ≡ true → rank u t ≡ rank u (beginOf table n) + unitNeed table n w + k
       → Nth rest (beginOf table n) k t
-  landed n k w H t y e =
+  lands n k w H t y e =
       let b : ℕ = beginOf table n in
       let need : ℕ = unitNeed table n w in
       let late : b ≤ t = nth-of u b (need + k) t y (omega (arith, e)) .late in
@@ -142,69 +157,82 @@ module _ (ms : Messages) (ok : areListed ms ≡ true) (u : ℕ → Bool) (again 
       passes true h = refl
       passes false h = absurd (omega arith)
 
--- ---- as the code has them
+-- ---- past a stretch, or to where the k-th is in it
 
-pub count-most : (u : ℕ → Bool) (n f : ℕ) → count u f n ≤ n
-unfolding count
-count-most u zero f = omega arith
-count-most u (suc n) f = omega (arith, count-most u n (suc f), byte-le (u f))
+no : {A : Type 0} → true ≡ false → A
+no e = absurd (omega (arith, ap boolByte e))
 
-pub step-most : (table : Timetable) (n free : ℕ) (w : Wants) → unitStepOf table n w free .remaining ≤ free
-unfolding unitStepOf laneStepOf
-step-most table n free w = omega arith
+pub past-keeps : (s : Sight) (r : Stride) (even : Bool) (kept : Kept) → (pastOf s r even kept .kept ≡ kept) × (pastOf s r even kept .even ≡ even)
+unfolding pastOf
+past-keeps s r even kept = by (ltb (s .k) (r .remaining))
+  where
+    by : (b : Bool) → (cond b (heldAt s even kept) (goneBy s r even kept) .kept ≡ kept)
+        × (cond b (heldAt s even kept) (goneBy s r even kept) .even ≡ even)
+    by true = (refl, refl)
+    by false = (refl, refl)
 
-pub unit-most : (u : ℕ → Bool) (table : Timetable) (n : ℕ) (w : Wants)
-    → unitStepOf table n w (count u (beginOf table n) (table .unit)) .remaining ≤ table .unit
-unit-most u table n w =
-    omega (arith, step-most table n (count u (beginOf table n) (table .unit)) w, count-most u (table .unit) (beginOf table n))
+module _ (table : Timetable) (u : ℕ → Bool) (s : Sight) (end : ℕ) (kept : Kept) where
+  pub past-leaps : (even : Bool) (r : Stride) → Seen table u s → Strode table u (s .n) end even r → Leapt table u s end (pastOf s r even kept)
+  unfolding pastOf
+  past-leaps even r Z R = ⊎-elim inside beyond (order (s .k) (r .remaining))
+    where
+      inside : s .k < r .remaining → Leapt table u s end (cond (ltb (s .k) (r .remaining)) (heldAt s even kept) (goneBy s r even kept))
+      inside h =
+          rw (lt-ltb (s .k) (r .remaining) h)
+          (record {
+            most = omega (arith, R .on, R .most);
+            seen = Z;
+            less = omega arith;
+            near = λ f. omega (arith, h, R .few);
+            on = λ f. no f;
+            onward = λ ms S X.
+                let G = R .goes ms (s .wants) S X in
+                record { same = refl; exact = X; here = λ f e. record { length = G .length; evenly = G .evenly e; enough = omega (arith, h, G .all) } };
+          })
 
--- one unit, and a stretch of quiet ones
-abbrev pub unitStride : (ℕ → Bool) → Timetable → ℕ → Wants → ℕ → Stride
-unitStride u table n w free = record {
-  n = n + 1;
-  wants = unitStepOf table n w (count u (beginOf table n) (table .unit)) .wants;
-  free = free;
-  remaining = unitStepOf table n w (count u (beginOf table n) (table .unit)) .remaining;
-}
+      beyond : r .remaining ≤ s .k → Leapt table u s end (cond (ltb (s .k) (r .remaining)) (heldAt s even kept) (goneBy s r even kept))
+      beyond h =
+          rw (le-ltb (s .k) (r .remaining) h)
+          (record {
+            most = R .most;
+            seen = record { small = R .small; free = R .free };
+            less = omega arith;
+            near = λ f. no (sym f);
+            on = λ f. R .on;
+            onward = λ ms S X.
+                let G = R .goes ms (s .wants) S X in
+                let rest = remaining ms u in
+                record {
+                  same = omega (arith, h, G .all, rank-count rest (G .length) (beginOf table (s .n)), ap (rank rest) (G .ends));
+                  exact = G .exact;
+                  here = λ f. no (sym f);
+                };
+          })
 
-abbrev pub quietStride : (ℕ → Bool) → Timetable → ℕ → ℕ → Stride
-quietStride u table n d = record { n = n + d; wants = noWants; free = rank u (beginOf table (n + d)); remaining = rank u (beginOf table (n + d)) - rank u (beginOf table n) }
-
-module _ (ms : Messages) (u : ℕ → Bool) (again : (t : ℕ) → u (t + allPeriods) ≡ u t) (table : Timetable) (S : Serves ms table) where
-  begin-on : (n d : ℕ) → beginOf table (n + d) ≡ beginOf table n + table .unit * d
-  begin-on n d = omega (arith, mul-add (table .unit) n d)
-
-  pub unit-passes : (n : ℕ) (w : Wants) (free : ℕ) → Exact ms u table n w → Passes ms u table n w (unitStride u table n w free)
-  unit-passes =
-      subst (λ (tb : Timetable). (n : ℕ) (w : Wants) (free : ℕ) → Exact ms u tb n w → Passes ms u tb n w (unitStride u tb n w free)) (sym (S .1))
-      (λ n w free X. record {
-        length = timetableOf ms .unit;
-        ends = omega (arith, mul-add (timetableOf ms .unit) n 1, mul-one (timetableOf ms .unit));
-        evenly = unit-evenly ms (S .0) u again n w X;
-        all = step-remaining ms (S .0) u again n w X;
-        exact = exact-next ms (S .0) u again n w X;
-      })
-
-  pub quiet-passes : (n d : ℕ) (w : Wants) → 0 < d → ((i : ℕ) → i < d → Quiet table (n + i)) → Passes ms u table n w (quietStride u table n d)
-  quiet-passes =
-      subst (λ (tb : Timetable). (n d : ℕ) (w : Wants) → 0 < d → ((i : ℕ) → i < d → Quiet tb (n + i)) → Passes ms u tb n w (quietStride u tb n d)) (sym (S .1))
-      (λ n d w p q.
-      let tb : Timetable = timetableOf ms in
-      let b : ℕ = beginOf tb n in
-      let L : ℕ = tb .unit * d in
-      let e : beginOf tb (n + d) ≡ b + L = omega (arith, mul-add (tb .unit) n d) in
-      let E = quiet-evenly ms (S .0) u again n d q p w in
-      let z : unitNeed tb n w ≡ 0 = quiet-need tb n w (subst (Quiet tb) (omega arith) (q 0 p)) in
-      record {
-        length = L;
-        ends = e;
-        evenly = E;
-        all = omega (arith, E .counted L (omega arith), z, rank-count u L b, ap (rank u) e);
-        exact = quiet-exact ms (S .0) u again n d q p;
-      })
-
-  pub lands : (n k : ℕ) (w : Wants) → Here ms u table n w k → (t : ℕ) → u t ≡ true → rank u t ≡ rank u (beginOf table n) + unitNeed table n w + k
-      → Nth (remaining ms u) (beginOf table n) k t
-  lands =
-      subst (λ (tb : Timetable). (n k : ℕ) (w : Wants) → Here ms u tb n w k → (t : ℕ) → u t ≡ true → rank u t ≡ rank u (beginOf tb n) + unitNeed tb n w + k
-      → Nth (remaining ms u) (beginOf tb n) k t) (sym (S .1)) (landed ms (S .0) u again)
+  pub run-leaps : (again : (t : ℕ) → u (t + allPeriods) ≡ u t) (to : ℕ) (r : Sight) → Sized table → Ran table u s to r → s .n < to → to ≤ end
+      → Leapt table u s end (record { sight = r; found = ltb (r .n) to; even = true; kept = kept })
+  run-leaps again to r Z R l h = record {
+    most = omega (arith, R .most);
+    seen = R .seen;
+    less = omega (arith, R .counted);
+    near = λ f.
+        omega (
+          arith,
+          R .stops (ltb-true (r .n) to f),
+          unit-most table (r .n) (count u (beginOf table (r .n)) (table .unit)) (r .wants),
+          count-most u (table .unit) (beginOf table (r .n)),
+          Z .unit,
+        );
+    on = λ f. omega (arith, ltb-false (r .n) to f);
+    onward = λ ms S X.
+        let i : ℕ = r .n - s .n in
+        let e : s .n + i ≡ r .n = omega (arith, R .from) in
+        let I = run-exact ms u again table S (s .n) (s .wants) X i in
+        let Y : Exact ms u table (r .n) (r .wants) =
+        subst (Exact ms u table (r .n)) (sym (R .wanted)) (subst (λ (m : ℕ). Exact ms u table m (wantsFrom table u (s .n) (s .wants) i)) e (I .0)) in
+        record {
+          same = omega (arith, I .1, R .counted, ap (λ (n : ℕ). rank (remaining ms u) (beginOf table n)) e);
+          exact = Y;
+          here = λ f g. unit-here ms u again table S (r .n) (r .k) (r .wants) Y (R .stops (ltb-true (r .n) to f));
+        };
+  }

@@ -1,19 +1,25 @@
 -- What the quick code passes at once. No definition of 02 and no public contract cites this file.
-use mathlib.Core.Bool.{Bool, true}
+use mathlib.Core.Bool.{Bool, true, false, cond}
 use mathlib.Core.Path.{_≡_}
 use mathlib.Core.Logic.{_⊎_}
-use Prim.Native.Nat.{ℕ, zero, suc, _+_, _-_, _≤_, _<_}
-use Rattle.counting.specs.Counting.{count}
+use Prim.Native.Nat.{ℕ, zero, suc, _+_, _-_, _^_, _≤_, _<_}
+use lib.Dec.{ltb}
+use Rattle.counting.specs.Counting.{rank, count}
 use Rattle.units.specs.declared.Lane.{Lane}
 use Rattle.units.specs.declared.Timetable.{Timetable}
 use Rattle.units.specs.declared.Wants.{Wants}
+use Rattle.units.specs.declared.Sight.{Sight}
 use Rattle.strides.specs.declared.Stride.{Stride}
+use Rattle.strides.specs.declared.Stretch.{Stretch}
+use Rattle.strides.specs.declared.Stretch.the-variants.{Alone, Busy}
+use Rattle.strides.specs.declared.Stretch.the-variants as stretch
+use Rattle.strides.specs.declared.Leap.{Leap}
 use Rattle.strides.specs.declared.Kept.{Kept}
 use Rattle.strides.specs.declared.Whose.{Whose}
 use Rattle.strides.specs.declared.Whose.the-variants.{First, Second, Third, Fourth}
 use Rattle.messages.specs.declared.Messages.{Messages}
 use Rattle.messages.specs.Messages.{remaining}
-use Rattle.units.specs.Quick.{beginOf, placeOf, laneStepOf, unitNeed, Exact}
+use Rattle.units.specs.Quick.{beginOf, placeOf, laneStepOf, unitNeed, Small, Seen, Exact, Serves}
 
 -- no window is open at unit n
 pub record Quiet (table : Timetable) (n : ℕ) : Type 0 where
@@ -27,15 +33,7 @@ pub record Evenly (ms : Messages) (u : ℕ → Bool) (table : Timetable) (n : �
   pub counted : (y : ℕ) → y ≤ length
       → count (remaining ms u) (beginOf table n) y ≡ count u (beginOf table n) y - unitNeed table n w
 
--- units passed at once
-pub record Passes (ms : Messages) (u : ℕ → Bool) (table : Timetable) (n : ℕ) (w : Wants) (r : Stride) : Type 0 where
-  pub length : ℕ
-  pub ends : beginOf table (r .n) ≡ beginOf table n + length
-  pub evenly : Evenly ms u table n w length
-  pub all : r .remaining ≡ count (remaining ms u) (beginOf table n) length
-  pub exact : Exact ms u table (r .n) (r .wants)
-
--- and perhaps not evenly
+-- units passed at once, perhaps not evenly
 pub record Goes (ms : Messages) (u : ℕ → Bool) (table : Timetable) (n : ℕ) (w : Wants) (r : Stride) (even : Bool)
     : Type 0 where
   pub length : ℕ
@@ -43,6 +41,14 @@ pub record Goes (ms : Messages) (u : ℕ → Bool) (table : Timetable) (n : ℕ)
   pub evenly : even ≡ true → Evenly ms u table n w length
   pub all : r .remaining ≡ count (remaining ms u) (beginOf table n) length
   pub exact : Exact ms u table (r .n) (r .wants)
+
+pub record Strode (table : Timetable) (u : ℕ → Bool) (n end : ℕ) (even : Bool) (r : Stride) : Type 0 where
+  pub on : n < r .n
+  pub most : r .n ≤ end
+  pub small : Small table (r .n) (r .wants)
+  pub free : r .free ≡ rank u (beginOf table (r .n))
+  pub few : r .remaining < 2 ^ 29
+  pub goes : (ms : Messages) (w : Wants) → Serves ms table → Exact ms u table n w → Goes ms u table n w r even
 
 -- ---- a window that meets no other
 
@@ -117,3 +123,39 @@ pub record Here (ms : Messages) (u : ℕ → Bool) (table : Timetable) (n : ℕ)
   pub length : ℕ
   pub evenly : Evenly ms u table n w length
   pub enough : k < count (remaining ms u) (beginOf table n) length
+
+-- ---- past a stretch, or to where the k-th is in it
+
+abbrev pub Stretches : Timetable → ℕ → Bool → Stretch → Type 0
+Stretches table n far (stretch.Quiet d) = (0 < d) × ((i : ℕ) → i < d → Quiet table (n + i))
+Stretches table n far (Alone whose) = (far ≡ true) × (0 < laneAt table whose .window) × Apart table whose (laneAt table whose .window) n
+Stretches table n far (Busy d) = 0 < d
+
+abbrev pub heldAt : Sight → Bool → Kept → Leap
+heldAt s even kept = record { sight = s; found = true; even = even; kept = kept }
+
+abbrev pub goneBy : Sight → Stride → Bool → Kept → Leap
+goneBy s r even kept = record {
+  sight = record { n = r .n; wants = r .wants; free = r .free; k = s .k - r .remaining };
+  found = false;
+  even = even;
+  kept = kept;
+}
+
+unfoldable pub pastOf : Sight → Stride → Bool → Kept → Leap
+pastOf s r even kept = cond (ltb (s .k) (r .remaining)) (heldAt s even kept) (goneBy s r even kept)
+
+-- the same subframe is looked for; if it was found, it is at hand where what remains does so evenly
+pub record Onward (ms : Messages) (u : ℕ → Bool) (table : Timetable) (s : Sight) (r : Leap) : Type 0 where
+  pub same : rank (remaining ms u) (beginOf table (s .n)) + s .k
+      ≡ rank (remaining ms u) (beginOf table (r .sight .n)) + r .sight .k
+  pub exact : Exact ms u table (r .sight .n) (r .sight .wants)
+  pub here : r .found ≡ true → r .even ≡ true → Here ms u table (r .sight .n) (r .sight .wants) (r .sight .k)
+
+pub record Leapt (table : Timetable) (u : ℕ → Bool) (s : Sight) (end : ℕ) (r : Leap) : Type 0 where
+  pub most : r .sight .n ≤ end
+  pub seen : Seen table u (r .sight)
+  pub less : r .sight .k ≤ s .k
+  pub near : r .found ≡ true → r .sight .k < 2 ^ 29
+  pub on : r .found ≡ false → s .n < r .sight .n
+  pub onward : (ms : Messages) → Serves ms table → Exact ms u table (s .n) (s .wants) → Onward ms u table s r

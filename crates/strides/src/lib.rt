@@ -1,16 +1,16 @@
-// Units passed at once: those in which no window is open, a window that meets no other, or one unit; and how many
-// subframes of them remain.
+// Units passed at once: those in which no window is open, and a window that meets no other; others one by one. And how
+// many subframes of them remain.
 ghost use mathlib.Core.Bool.{true, false};
 ghost use mathlib.Core.Path.{_≡_};
 ghost use Prim.Native.Nat.{ℕ, _+_, _^_, _<_, _≤_};
 ghost use Rattle.counting.specs.Counting.{rank};
 ghost use Rattle.spans.specs.Pattern.{allows};
-ghost use Rattle.units.specs.Quick.{Ranged, Sized, beginOf, placeOf, Small, Allowing, Serves, Exact};
-ghost use Rattle.strides.specs.Quick.{Quiet, Passes, Goes, laneAt, Apart, aloneOf, noneKept, keptOf, keptWith};
-ghost use Rattle.strides.specs.Quick.{Keeps};
-use messages::Messages;
+ghost use Rattle.units.specs.Quick.{Ranged, Sized, beginOf, placeOf, Seen, Allowing};
+ghost use Rattle.strides.specs.Quick.{Quiet, Stretches, Strode, pastOf, Leapt, laneAt, Apart, aloneOf, noneKept};
+ghost use Rattle.strides.specs.Quick.{keptOf, keptWith, Keeps};
 use spans::Pattern;
 use units::Lane;
+use units::Sight;
 use units::Timetable;
 use units::Wants;
 
@@ -31,10 +31,12 @@ pub enum Whose {
     Fourth,
 }
 
-// A window that opens somewhere and meets no other: whose it is, and how many units it lasts; 0 if there is none.
-struct Lone {
-    whose: Whose,
-    units: u64,
+// What may be passed at once from a unit on: so many units in which no window is open; the window of an entry, which
+// opens there and meets no other; or, unit by unit, so many until a window closes.
+pub enum Stretch {
+    Quiet(u64),
+    Alone(Whose),
+    Busy(u64),
 }
 
 // One more than what a window of each entry leaves that meets no other; 0 if it was not counted yet.
@@ -45,11 +47,13 @@ pub struct Kept {
     pub k4: u64,
 }
 
-// A stride, and what is kept after it; whether what remains of it remains evenly.
-pub struct Far {
-    pub stride: Stride,
-    pub kept: Kept,
+// Past a stretch, or to where the k-th is in it, if it was found; whether what remains there remains evenly; and what
+// is kept.
+pub struct Leap {
+    pub sight: Sight,
+    pub found: bool,
     pub even: bool,
+    pub kept: Kept,
 }
 
 // How many units from unit n on have no window of the lane open.
@@ -66,47 +70,6 @@ fn quiet(l: Lane, n: u64) -> u64
         return 0;
     }
     counting::power_of_two(l.log) - x
-}
-
-// How many have none open at all.
-fn all_quiet(table: Timetable, n: u64) -> u64
-    requires { ⌜ Sized table × (n < 2 ^ 40) ⌝ }
-    ensures { λ r. ⌜ ((i : ℕ) → i < r → Quiet table (n + i)) × (r ≤ 2048) ⌝ }
-{
-    let front = units::least(quiet(table.l1, n), quiet(table.l2, n));
-    let back = units::least(quiet(table.l3, n), quiet(table.l4, n));
-    units::least(front, back)
-}
-
-// From unit n on, before which so many are free, over the units in which no window is open, but not past `end`; or
-// over one unit.
-fn stride_from(table: Timetable, p: Pattern, n: u64, w: Wants, free: u64, end: u64) -> Stride
-    requires { ⌜ Sized table × Allowing p × Small table n w × (free ≡ rank (allows p) (beginOf table n)) × (n < end)
-        × (end < 2 ^ 19) ⌝ }
-    ensures { λ r. ⌜ (n < r .n) × (r .n ≤ end) × Small table (r .n) (r .wants)
-        × (r .free ≡ rank (allows p) (beginOf table (r .n))) × (r .remaining < 2 ^ 29)
-        × ((ms : Messages) → Serves ms table → Exact ms (allows p) table n w → Passes ms (allows p) table n w r) ⌝ }
-{
-    let d = all_quiet(table, n);
-    if d == 0 {
-        let next = units::free_before(p, units::begin(table, n + 1));
-        let r = units::pass(table, n, w, next - free);
-        let wants = r.wants;
-        return Stride {
-            n: n + 1,
-            wants,
-            free: next,
-            remaining: r.remaining,
-        };
-    }
-    let to = n + units::least(d, end - n);
-    let then = units::free_before(p, units::begin(table, to));
-    Stride {
-        n: to,
-        wants: units::no_wants(),
-        free: then,
-        remaining: then - free,
-    }
 }
 
 pub fn none_kept() -> Kept
@@ -177,56 +140,64 @@ fn lane_at(table: Timetable, whose: Whose) -> Lane
 // A window opens at unit n that lasts at most so many units.
 fn opens(l: Lane, n: u64, units: u64) -> bool
     requires { ⌜ Ranged l × (n < 2 ^ 40) ⌝ }
-    ensures { λ r. ⌜ (r ≡ true → (placeOf l n ≡ 0) × (l .window ≤ units)) ⌝ }
+    ensures { λ r. ⌜ (r ≡ true → (placeOf l n ≡ 0) × (0 < l .window) × (l .window ≤ units)) ⌝ }
 {
-    (units::place(l, n) == 0) & (l.window <= units)
+    (units::place(l, n) == 0) & ((0 < l.window) & (l.window <= units))
 }
 
-// The window that opens at unit n and during which no other is open, if it may go so far.
-fn lone_at(table: Timetable, n: u64, far: bool) -> Lone
-    requires { ⌜ Sized table × (n < 2 ^ 40) ⌝ }
-    ensures { λ r. ⌜ (0 < r .units → (far ≡ true) × Apart table (r .whose) (r .units) n) ⌝ }
+// How many units from unit n on the window lasts that is open there.
+fn lasts(l: Lane, n: u64) -> u64
+    requires { ⌜ Ranged l × (n < 2 ^ 40) ⌝ }
+    ensures { λ r. ⌜ 0 < r ⌝ }
 {
+    let x = units::place(l, n);
+    let window = l.window;
+    if x < window {
+        return window - x;
+    }
+    2048
+}
+
+// How many until one closes.
+fn busy(table: Timetable, n: u64) -> u64
+    requires { ⌜ Sized table × (n < 2 ^ 40) ⌝ }
+    ensures { λ r. ⌜ 0 < r ⌝ }
+{
+    let front = units::least(lasts(table.l1, n), lasts(table.l2, n));
+    units::least(front, units::least(lasts(table.l3, n), lasts(table.l4, n)))
+}
+
+// What may be passed at once from unit n on; a window by itself, if it may go so far.
+fn stretch_at(table: Timetable, n: u64, far: bool) -> Stretch
+    requires { ⌜ Sized table × (n < 2 ^ 40) ⌝ }
+    ensures { λ r. ⌜ Stretches table n far r ⌝ }
+{
+    let q1 = quiet(table.l1, n);
+    let q2 = quiet(table.l2, n);
+    let q3 = quiet(table.l3, n);
+    let q4 = quiet(table.l4, n);
+    let back = units::least(q3, q4);
+    let front = units::least(q1, q2);
+    let d = units::least(front, back);
+    if 0 < d {
+        return Stretch::Quiet(d);
+    }
     if far {
-        let q1 = quiet(table.l1, n);
-        let q2 = quiet(table.l2, n);
-        let q3 = quiet(table.l3, n);
-        let q4 = quiet(table.l4, n);
-        let back = units::least(q3, q4);
-        let front = units::least(q1, q2);
         if opens(table.l1, n, units::least(q2, back)) {
-            return Lone {
-                whose: Whose::First,
-                units: table.l1.window,
-            };
+            return Stretch::Alone(Whose::First);
         }
         if opens(table.l2, n, units::least(q1, back)) {
-            return Lone {
-                whose: Whose::Second,
-                units: table.l2.window,
-            };
+            return Stretch::Alone(Whose::Second);
         }
         if opens(table.l3, n, units::least(q4, front)) {
-            return Lone {
-                whose: Whose::Third,
-                units: table.l3.window,
-            };
+            return Stretch::Alone(Whose::Third);
         }
         if opens(table.l4, n, units::least(q3, front)) {
-            return Lone {
-                whose: Whose::Fourth,
-                units: table.l4.window,
-            };
+            return Stretch::Alone(Whose::Fourth);
         }
-        return Lone {
-            whose: Whose::First,
-            units: 0,
-        };
+        return Stretch::Busy(busy(table, n));
     }
-    Lone {
-        whose: Whose::First,
-        units: 0,
-    }
+    Stretch::Busy(busy(table, n))
 }
 
 // How many subframes of a window of the lane remain if it meets no other, counted from unit `start` on.
@@ -262,47 +233,101 @@ fn keep(table: Timetable, p: Pattern, kept: Kept, whose: Whose) -> Kept
     kept
 }
 
-// As stride_from; and over a window that meets no other, if it may go so far.
-pub fn stride_over(
-    table: Timetable,
-    p: Pattern,
-    n: u64,
-    w: Wants,
-    free: u64,
-    kept: Kept,
-    end: u64,
-    far: bool,
-) -> Far
-    requires { ⌜ Sized table × Allowing p × Small table n w × (free ≡ rank (allows p) (beginOf table n)) × (n < end)
-        × (end < 2 ^ 19) × Keeps table (allows p) kept ⌝ }
-    ensures { λ r. ⌜ (n < r .stride .n) × (r .stride .n ≤ end) × Small table (r .stride .n) (r .stride .wants)
-        × (r .stride .free ≡ rank (allows p) (beginOf table (r .stride .n))) × (r .stride .remaining < 2 ^ 29)
-        × ((ms : Messages) → Serves ms table → Exact ms (allows p) table n w
-        → Goes ms (allows p) table n w (r .stride) (r .even))
-        × Keeps table (allows p) (r .kept) × (far ≡ false → r .even ≡ true) ⌝ }
+// Over d units in which no window is open, but not past `end`.
+fn stride_quiet(table: Timetable, p: Pattern, n: u64, free: u64, d: u64, end: u64) -> Stride
+    requires { ⌜ Sized table × Allowing p × (free ≡ rank (allows p) (beginOf table n)) × (n < end) × (end < 2 ^ 19)
+        × (0 < d) × ((i : ℕ) → i < d → Quiet table (n + i)) ⌝ }
+    ensures { λ r. ⌜ Strode table (allows p) n end true r ⌝ }
 {
-    let lone = lone_at(table, n, far);
-    let whose = lone.whose;
-    let units = lone.units;
-    if (0 < units) & (units <= end - n) {
-        let to = n + units;
-        let k = keep(table, p, kept, whose);
-        let stride = Stride {
-            n: to,
-            wants: units::no_wants(),
-            free: units::free_before(p, units::begin(table, to)),
-            remaining: kept_of(k, whose) - 1,
-        };
-        return Far {
-            stride,
-            kept: k,
-            even: false,
+    let to = n + units::least(d, end - n);
+    let then = units::free_before(p, units::begin(table, to));
+    Stride {
+        n: to,
+        wants: units::no_wants(),
+        free: then,
+        remaining: then - free,
+    }
+}
+
+// Over a window of so many units that meets no other and leaves `rest`.
+fn stride_alone(table: Timetable, p: Pattern, n: u64, whose: Whose, units: u64, rest: u64) -> Stride
+    requires { ⌜ Sized table × Allowing p × (n + units < 2 ^ 19) × (0 < units) × Apart table whose units n
+        × (rest ≡ aloneOf table (allows p) (laneAt table whose)) ⌝ }
+    ensures { λ r. ⌜ Strode table (allows p) n (n + units) false r ⌝ }
+{
+    let to = n + units;
+    Stride {
+        n: to,
+        wants: units::no_wants(),
+        free: units::free_before(p, units::begin(table, to)),
+        remaining: rest,
+    }
+}
+
+// Past a stride, or the k-th is in it.
+fn past(s: Sight, r: Stride, even: bool, kept: Kept) -> Leap
+    ensures { λ l. ⌜ l ≡ pastOf s r even kept ⌝ }
+{
+    let k = s.k;
+    let remaining = r.remaining;
+    if k < remaining {
+        return Leap {
+            sight: s,
+            found: true,
+            even,
+            kept,
         };
     }
-    let stride = stride_from(table, p, n, w, free, end);
-    Far {
-        stride,
+    let wants = r.wants;
+    let sight = Sight {
+        n: r.n,
+        wants,
+        free: r.free,
+        k: k - remaining,
+    };
+    Leap {
+        sight,
+        found: false,
+        even,
         kept,
+    }
+}
+
+// Unit by unit, so many of them, but not past `end`.
+fn run_over(table: Timetable, p: Pattern, s: Sight, d: u64, end: u64, kept: Kept) -> Leap
+    requires { ⌜ Sized table × Allowing p × Seen table (allows p) s × (s .n < end) × (end < 2 ^ 19) × (0 < d) ⌝ }
+    ensures { λ r. ⌜ Leapt table (allows p) s end r × (r .kept ≡ kept) × (r .even ≡ true) ⌝ }
+{
+    let to = s.n + units::least(d, end - s.n);
+    let sight = units::run(table, p, s, to);
+    Leap {
+        sight,
+        found: sight.n < to,
         even: true,
+        kept,
+    }
+}
+
+// Past the stretch that begins where the sight is, but not past `end`; or to where the k-th is in it.
+pub fn leap_from(table: Timetable, p: Pattern, s: Sight, kept: Kept, end: u64, far: bool) -> Leap
+    requires { ⌜ Sized table × Allowing p × Seen table (allows p) s × (s .n < end) × (end < 2 ^ 19)
+        × Keeps table (allows p) kept ⌝ }
+    ensures { λ r. ⌜ Leapt table (allows p) s end r × Keeps table (allows p) (r .kept)
+        × (far ≡ false → r .even ≡ true) ⌝ }
+{
+    let n = s.n;
+    let free = s.free;
+    match stretch_at(table, n, far) {
+        Stretch::Quiet(d) => past(s, stride_quiet(table, p, n, free, d, end), true, kept),
+        Stretch::Alone(whose) => {
+            let units = lane_at(table, whose).window;
+            if units <= end - n {
+                let k = keep(table, p, kept, whose);
+                let r = stride_alone(table, p, n, whose, units, kept_of(k, whose) - 1);
+                return past(s, r, false, k);
+            }
+            run_over(table, p, s, units, end, kept)
+        }
+        Stretch::Busy(d) => run_over(table, p, s, d, end, kept),
     }
 }

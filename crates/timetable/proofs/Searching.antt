@@ -15,7 +15,7 @@ use Rattle.spans.specs.declared.Pattern.{Pattern}
 use Rattle.spans.specs.Pattern.{allows, Regular}
 use Rattle.messages.specs.declared.Messages.{Messages}
 use Rattle.units.specs.declared.Timetable.{Timetable}
-use Rattle.timetable.specs.declared.Sight.{Sight}
+use Rattle.units.specs.declared.Sight.{Sight}
 use Rattle.units.specs.declared.Wants.{Wants}
 use Rattle.units.specs.declared.Spot.{Spot}
 use Rattle.timetable.specs.declared.Sought.{Sought}
@@ -24,8 +24,8 @@ use Rattle.messages.specs.Messages.{allPeriods, areListed, remaining}
 use Rattle.units.specs.Quick.{timetableOf, beginOf, unitNeed, wantsIn, Serves, Exact, Allowing, SpotAt}
 use Rattle.timetable.specs.Quick.{Scanned, SightAt, moved, Hits, Sighted, Struck, SoughtAt}
 use Rattle.messages.proofs.Repeating.{repeats-at-last, remaining-free}
-use Rattle.units.proofs.Finding.{base-repeats, far, allowing, near, remaining-again}
-use Rattle.units.proofs.Walking.{walk-exact, unit-remaining, remains-in-unit}
+use Rattle.units.proofs.Finding.{base-repeats, far, allowing, remaining-again}
+use Rattle.units.proofs.Walking.{walk-exact, unit-remaining}
 
 module _ (ms : Messages) (p : Pattern) (reg : Regular p) (table : Timetable) (S : Serves ms table) where
   abbrev u : ℕ → Bool
@@ -40,9 +40,8 @@ module _ (ms : Messages) (p : Pattern) (reg : Regular p) (table : Timetable) (S 
   abbrev R : ℕ
   R = rank rest Q
 
-  pub rest-again : (t : ℕ) → rest (t + Q) ≡ rest t
-  rest-again =
-      subst (λ (tb : Timetable). (t : ℕ) → rest (t + tb .unit * tb .units) ≡ rest t) (sym (S .1)) (remaining-again ms (S .0) p reg)
+  rest-again : (t : ℕ) → rest (t + Q) ≡ rest t
+  rest-again = remaining-again ms p reg table S
 
   pub turned : (n : ℕ) → rank rest (beginOf table (n + table .units)) ≡ rank rest (beginOf table n) + R
   turned n =
@@ -68,15 +67,6 @@ module _ (ms : Messages) (p : Pattern) (reg : Regular p) (table : Timetable) (S 
   passed-all s r end C many near h b =
       ⊎-elim (λ l. absurd (omega (arith, C .same, many, near l, b, rank-le rest (beginOf table (r .n))))) (λ l. omega (arith, h, l)) (order (r .n) end)
 
-  -- what is found from a later unit on was looked for
-  pub same-found : {even : Bool} (s r : Sight) (end t : ℕ) → Scanned ms u table s end even r → Nth rest (beginOf table (r .n)) (r .k) t → Nth rest (beginOf table (s .n)) (s .k) t
-  same-found s r end t C N = nth-of rest (beginOf table (s .n)) (s .k) t (N .passes) (omega (arith, N .before, C .same))
-
-  -- and whole periods later
-  pub later : (b j t q : ℕ) → Nth rest b j t → Nth rest b (j + q * R) (t + q * Q)
-  later b j t q N =
-      nth-of rest b (j + q * R) (t + q * Q) (repeats-times rest Q rest-again q t ∙ N .passes) (omega (arith, N .before, rank-periods rest Q rest-again q t))
-
   -- the rest of a division, and all again
   pub whole-again : (k left q : ℕ) → k ≡ R + left → 0 < R → q ≡ left / R → (q * R ≤ left) × (left - q * R < R) × (left - q * R + (q + 1) * R ≡ k)
   whole-again k left q e some d =
@@ -86,57 +76,29 @@ module _ (ms : Messages) (p : Pattern) (reg : Regular p) (table : Timetable) (S 
   -- ---- where the search begins
 
   pub walked : (n : ℕ) → 4 * table .units ≤ n → Exact ms u table n (wantsIn table u n)
-  walked = subst (λ (tb : Timetable). (n : ℕ) → 4 * tb .units ≤ n → Exact ms u tb n (wantsIn tb u n)) (sym (S .1)) (walk-exact ms (S .0) u (far p reg))
+  walked = walk-exact ms u (far p reg) table S
 
-  pub sight-is : (t : ℕ) (r : Spot) → SpotAt table t r
-      → SightAt ms u table t (record {
-        n = r .n;
-        wants = wantsIn table u (r .n);
-        k = count u (beginOf table (r .n)) (r .y) - unitNeed table (r .n) (wantsIn table u (r .n));
-      })
-  sight-is =
-      subst (λ (tb : Timetable). (t : ℕ) (r : Spot) → SpotAt tb t r → SightAt ms u tb t (record {
-        n = r .n;
-        wants = wantsIn tb u (r .n);
-        k = count u (beginOf tb (r .n)) (r .y) - unitNeed tb (r .n) (wantsIn tb u (r .n));
-      })) (sym (S .1))
-      (λ t r A.
-      let tb : Timetable = timetableOf ms in
-      let n : ℕ = r .n in
-      let X = walk-exact ms (S .0) u (far p reg) n (A .late) in
+  -- what remains of a unit's first y subframes
+  pub first-count : (n y : ℕ) (w : Wants) → Exact ms u table n w → y ≤ table .unit
+      → rank rest (beginOf table n) + (count u (beginOf table n) y - unitNeed table n w) ≡ rank rest (beginOf table n + y)
+  first-count n y w X l = omega (arith, unit-remaining ms u (far p reg) table S n w X y l, rank-count rest y (beginOf table n))
+
+  pub sight-is : (t : ℕ) (o : Spot) (r : Sight) → SpotAt table t o → r .n ≡ o .n → r .wants ≡ wantsIn table u (o .n)
+      → r .k ≡ count u (beginOf table (r .n)) (o .y) - unitNeed table (r .n) (r .wants) → SightAt ms u table t r
+  sight-is t o r A e f g =
+      let X : Exact ms u table (r .n) (r .wants) = subst (λ (n : ℕ). Exact ms u table n (r .wants)) (sym e) (subst (Exact ms u table (o .n)) (sym f) (walked (o .n) (A .late))) in
       record {
         exact = X;
         same =
             omega (
               arith,
-              unit-remaining ms (S .0) u (far p reg) n (wantsIn tb u n) X (r .y) (omega (arith, A .inside)),
-              rank-count rest (r .y) (beginOf tb n),
-              ap (rank rest) (A .there),
+              g,
+              first-count (r .n) (o .y) (r .wants) X (omega (arith, A .inside)),
+              ap (λ (n : ℕ). rank rest (beginOf table n + o .y)) e ∙ ap (rank rest) (A .there),
             );
-      })
+      }
 
   -- ---- counting
-
-  -- what remains of a unit's first y subframes
-  pub first-count : (n y : ℕ) (w : Wants) → Exact ms u table n w → y ≤ table .unit
-      → rank rest (beginOf table n) + (count u (beginOf table n) y - unitNeed table n w) ≡ rank rest (beginOf table n + y)
-  first-count =
-      subst (λ (tb : Timetable). (n y : ℕ) (w : Wants) → Exact ms u tb n w → y ≤ tb .unit
-      → rank rest (beginOf tb n) + (count u (beginOf tb n) y - unitNeed tb n w) ≡ rank rest (beginOf tb n + y)) (sym (S .1))
-      (λ n y w X l. omega (arith, unit-remaining ms (S .0) u (far p reg) n w X y l, rank-count rest y (beginOf (timetableOf ms) n)))
-
-  -- whether subframe y of a unit does, asked of the first periods
-  pub remains-here : (n y t : ℕ) (w : Wants) → Exact ms u table n w → y < table .unit → beginOf table n + y ≡ t + 5 * Q
-      → (u t && leb (unitNeed table n w) (count u (beginOf table n) y)) ≡ rest t
-  remains-here =
-      subst (λ (tb : Timetable). (n y t : ℕ) (w : Wants) → Exact ms u tb n w → y < tb .unit → beginOf tb n + y ≡ t + 5 * (tb .unit * tb .units)
-      → (u t && leb (unitNeed tb n w) (count u (beginOf tb n) y)) ≡ rest t) (sym (S .1))
-      (λ n y t w X l e.
-      let tb : Timetable = timetableOf ms in
-      let five : (test : ℕ → Bool) → ((t : ℕ) → test (t + tb .unit * tb .units) ≡ test t) → test (beginOf tb n + y) ≡ test t =
-      λ test again. ap test e ∙ repeats-times test (tb .unit * tb .units) again 5 t in
-      sym (sym (five rest (remaining-again ms (S .0) p reg)) ∙ remains-in-unit ms (S .0) u (far p reg) n w X y l
-      ∙ ap (λ (b : Bool). b && leb (unitNeed tb n w) (count u (beginOf tb n) y)) (five u (near ms (S .0) p reg))))
 
   -- a part of a period, and whole ones
   pub count-is : (from t part : ℕ) → from ≤ t → rank rest (from % Q + 5 * Q) + part ≡ rank rest (from % Q + (t - from) % Q + 5 * Q)
@@ -206,7 +168,7 @@ module _ (ms : Messages) (p : Pattern) (reg : Regular p) (table : Timetable) (S 
 
   -- and from there on
   pub hits-on : (s : Sight) (j more : ℕ) (a b : Hit) → Hits ms u table (moved s j) a → Hits ms u table (moved (a .sight) more) b
-      → Hits ms u table (moved s (j + more)) (record { sight = b .sight; later = a .later + b .later })
+      → Hits ms u table (moved s (j + more)) (record { sight = b .sight; later = a .later + b .later; kept = b .kept })
   hits-on s j more a b A B = record {
     exact = B .exact;
     here = B .here;
@@ -233,7 +195,7 @@ module _ (ms : Messages) (ok : areListed ms ≡ true) (p : Pattern) (reg : Regul
 
     -- a period has some
     pub period-some : (table : Timetable) → Serves ms table → 0 < table .unit * table .units → 0 < rank all (table .unit * table .units)
-    period-some table S h = some-of all (table .unit * table .units) (rest-again ms p reg table S) (select all allPeriods 0 0) h (first-is .passes)
+    period-some table S h = some-of all (table .unit * table .units) (remaining-again ms p reg table S) (select all allPeriods 0 0) h (first-is .passes)
 
     pub found-is : (from j t : ℕ) → Nth all from j t → t ≡ select all allPeriods from j
     found-is = is-select all allPeriods all-again some

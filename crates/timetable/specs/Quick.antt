@@ -7,13 +7,13 @@ use Rattle.spans.specs.declared.Pattern.{Pattern}
 use Rattle.spans.specs.Pattern.{allows}
 use Rattle.units.specs.declared.Timetable.{Timetable}
 use Rattle.units.specs.declared.Wants.{Wants}
-use Rattle.timetable.specs.declared.Sight.{Sight}
+use Rattle.units.specs.declared.Sight.{Sight}
 use Rattle.timetable.specs.declared.Sought.{Sought}
 use Rattle.timetable.specs.declared.Hit.{Hit}
 use Rattle.timetable.specs.declared.Part.{Part}
 use Rattle.messages.specs.declared.Messages.{Messages}
 use Rattle.messages.specs.Messages.{remaining}
-use Rattle.units.specs.Quick.{Sized, beginOf, Small, Exact, Allowing, Serves}
+use Rattle.units.specs.Quick.{Sized, beginOf, Seen, Exact, Allowing, Serves}
 use Rattle.strides.specs.Quick.{Here}
 
 -- the same subframe is looked for from a later unit; before `end` it is at hand, if what remains there does so evenly
@@ -42,14 +42,14 @@ pub record SoughtAt (ms : Messages) (p : Pattern) (from : ℕ) (r : Sought) : Ty
   pub sized : Sized (r .table)
   pub allowing : Allowing p
   pub some : 0 < rank (remaining ms (allows p)) (r .table .unit * r .table .units)
-  pub small : Small (r .table) (r .sight .n) (r .sight .wants)
+  pub seen : Seen (r .table) (allows p) (r .sight)
   pub early : r .sight .n < 2 ^ 14
   pub few : r .sight .k ≤ 160
   pub sight : SightAt ms (allows p) (r .table) (from % (r .table .unit * r .table .units)) (r .sight)
 
 -- the subframe after j more
 abbrev pub moved : Sight → ℕ → Sight
-moved s j = record { n = s .n; wants = s .wants; k = s .k + j }
+moved s j = record { n = s .n; wants = s .wants; free = s .free; k = s .k + j }
 
 -- the same subframe is at hand from a later unit on, whole periods before
 pub record Hits (ms : Messages) (u : ℕ → Bool) (table : Timetable) (s : Sight) (h : Hit) : Type 0 where
@@ -70,12 +70,6 @@ pub record Struck (table : Timetable) (u : ℕ → Bool) (from : ℕ) (h : Hit) 
   pub sight : SightAt ms u table (from % (table .unit * table .units)) s
   pub hits : Hits ms u table (moved s j) h
 
--- how many lie between the sight's subframe and t, five periods on, and whether t remains
-pub record Parted (ms : Messages) (u : ℕ → Bool) (table : Timetable) (s : Sight) (t : ℕ) (r : Part) : Type 0 where
-  pub before : rank (remaining ms u) (beginOf table (s .n)) + s .k + r .before
-      ≡ rank (remaining ms u) (t + 5 * (table .unit * table .units))
-  pub remains : r .remains ≡ remaining ms u t
-
 -- what is wanted at unit n is that of some messages
 pub record Exactly (table : Timetable) (u : ℕ → Bool) (n : ℕ) (w : Wants) : Type 0 where
   pub ms : Messages
@@ -86,6 +80,13 @@ pub record Exactly (table : Timetable) (u : ℕ → Bool) (n : ℕ) (w : Wants) 
 pub record Counted (ms : Messages) (u : ℕ → Bool) (table : Timetable) (n : ℕ) (r : Sight) : Type 0 where
   pub exact : Exact ms u table (r .n) (r .wants)
   pub count : rank (remaining ms u) (beginOf table n) + r .k ≡ rank (remaining ms u) (beginOf table (r .n))
+
+-- how many lie between the sight's subframe and t, five periods on, and whether t remains
+pub record Parted (ms : Messages) (u : ℕ → Bool) (table : Timetable) (s : Sight) (t : ℕ) (r : Part) : Type 0 where
+  pub before : rank (remaining ms u) (beginOf table (s .n)) + s .k + r .before
+      ≡ rank (remaining ms u) (t + 5 * (table .unit * table .units))
+  pub remains : r .remains ≡ remaining ms u t
+  pub here : Counted ms u table (s .n) (r .here)
 
 -- the table of some listed messages
 pub record Served (table : Timetable) : Type 0 where

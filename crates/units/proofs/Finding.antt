@@ -12,11 +12,11 @@ use Rattle.spans.specs.Pattern.{span, spansOf, allows, periodOf, Regular}
 use Rattle.spans.proofs.Laws.{repeats, some-spans}
 use Rattle.messages.specs.declared.Messages.{Messages}
 use Rattle.units.specs.declared.Timetable.{Timetable}
-use Rattle.units.specs.declared.Spot.{Spot}
-use Rattle.messages.specs.Messages.{allPeriods, areListed, remaining}
-use Rattle.units.specs.Quick.{timetableOf, Sized, beginOf, unitNeed, wantsIn, Allowing, SpotAt}
-use Rattle.units.proofs.Timetables.{split, sized}
-use Rattle.units.proofs.Walking.{walk-exact, remains-in-unit, repeats-all}
+use Rattle.units.specs.declared.Wants.{Wants}
+use Rattle.messages.specs.Messages.{allPeriods, remaining}
+use Rattle.units.specs.Quick.{Sized, beginOf, unitNeed, Exact, Allowing, SpotAt, Serves}
+use Rattle.units.proofs.Timetables.{split}
+use Rattle.units.proofs.Walking.{served-sized, remains-in-unit, repeats-all}
 
 -- ---- the pattern repeats after 64 frames, and after whole times of them
 
@@ -68,37 +68,31 @@ module _ (table : Timetable) (Z : Sized table) (t : ℕ) (inside : t < 2 * (tabl
 
 -- ---- what remains
 
-module _ (ms : Messages) (ok : areListed ms ≡ true) (p : Pattern) (reg : Regular p) where
-  abbrev table : Timetable
-  table = timetableOf ms
-
+module _ (ms : Messages) (p : Pattern) (reg : Regular p) (table : Timetable) (S : Serves ms table) where
   abbrev u : ℕ → Bool
   u = allows p
 
   abbrev Q : ℕ
   Q = table .unit * table .units
 
-  Z : Sized table
-  Z = sized ms ok
-
   pub near : (t : ℕ) → u (t + Q) ≡ u t
-  near t = ap (λ (x : ℕ). u (t + x)) (sym (Z .whole)) ∙ base-repeats p reg (Z .turns) t
+  near t = let Z = served-sized ms table S in ap (λ (x : ℕ). u (t + x)) (sym (Z .whole)) ∙ base-repeats p reg (Z .turns) t
 
   pub remaining-again : (t : ℕ) → remaining ms u (t + Q) ≡ remaining ms u t
-  remaining-again = repeats-all ms ok u near
+  remaining-again = repeats-all ms u table S near
 
-  some-units : 0 < Q
-  some-units = omega (arith, Z .long)
+  -- whether subframe y of a unit remains, asked of the first periods
+  pub remains-here : (n y t : ℕ) (w : Wants) → Exact ms u table n w → y < table .unit → beginOf table n + y ≡ t + 5 * Q
+      → (u t && leb (unitNeed table n w) (count u (beginOf table n) y)) ≡ remaining ms u t
+  remains-here n y t w X l e =
+      let five : (test : ℕ → Bool) → ((t : ℕ) → test (t + Q) ≡ test t) → test (beginOf table n + y) ≡ test t = λ test again. ap test e ∙ repeats-times test Q again 5 t in
+      sym (sym (five (remaining ms u) remaining-again) ∙ remains-in-unit ms u (far p reg) table S n w X y l
+      ∙ ap (λ (b : Bool). b && leb (unitNeed table n w) (count u (beginOf table n) y)) (five u near))
 
-  -- the same at t and where it was looked for
-  same-at : (test : ℕ → Bool) → ((t : ℕ) → test (t + Q) ≡ test t) → (t : ℕ) (r : Spot) → SpotAt table (t % Q) r → test t ≡ test (beginOf table (r .n) + r .y)
-  same-at test again t r S = test-split test Q again t ∙ sym (repeats-times test Q again 5 (t % Q)) ∙ ap test (sym (S .there))
-
-  pub remains-found : (t : ℕ) (r : Spot) → SpotAt table (t % Q) r → u t ≡ true
-      → leb (unitNeed table (r .n) (wantsIn table u (r .n))) (count u (beginOf table (r .n)) (r .y)) ≡ remaining ms u t
-  remains-found t r S h =
-      let n : ℕ = r .n in
-      let w = wantsIn table u n in
-      sym (same-at (remaining ms u) remaining-again t r S
-      ∙ remains-in-unit ms ok u (far p reg) n w (walk-exact ms ok u (far p reg) n (S .late)) (r .y) (S .inside)
-      ∙ ap (λ (b : Bool). b && leb (unitNeed table n w) (count u (beginOf table n) (r .y))) (sym (same-at u near t r S) ∙ h))
+  -- and of any
+  pub remains-found : (t n y : ℕ) (w : Wants) → Exact ms u table n w → y < table .unit → beginOf table n + y ≡ t % Q + 5 * Q → u t ≡ true
+      → leb (unitNeed table n w) (count u (beginOf table n) y) ≡ remaining ms u t
+  remains-found t n y w X l e h =
+      let a : u (t % Q) ≡ true = sym (test-split u Q near t) ∙ h in
+      ap (λ (b : Bool). b && leb (unitNeed table n w) (count u (beginOf table n) y)) (sym a) ∙ remains-here n y (t % Q) w X l e
+      ∙ sym (test-split (remaining ms u) Q remaining-again t)

@@ -2,19 +2,21 @@
 use mathlib.Core.Bool.{Bool, true, false, cond}
 use mathlib.Core.Path.{_≡_, refl, ap, _∙_, sym}
 use mathlib.Core.Logic.{_⊎_, inl, inr, ⊎-elim}
-use Prim.Native.Nat.{ℕ, suc, _+_, _-_, _*_, _/_, _%_, _^_, _≤_, _<_}
-use native.Mathlib.Nat.{mod-lt, div-add-mod', add-mul, zero-mod, add-mul-mod-self-right, mul-add, mul-one}
+use Prim.Native.Nat.{ℕ, zero, suc, _+_, _-_, _*_, _/_, _%_, _^_, _≤_, _<_}
+use native.Mathlib.Nat.{mod-lt, add-zero, div-add-mod', add-mul, zero-mod, add-mul-mod-self-right, mul-add, mul-one}
 use native.Mathlib.Omega.{arith}
 use lib.Arith.{digits-mod}
 use lib.Dec.{eqb, ltb}
 use lib.Pow.{pow-pos, pow-mono}
 use borrow.Author.Tests.{lt-ltb, le-ltb}
-use Rattle.counting.proofs.Facts.{order}
+use Rattle.counting.proofs.Facts.{order, byte-le}
 use Rattle.units.specs.declared.Lane.{Lane}
 use Rattle.counting.specs.Counting.{rank, count}
 use Rattle.counting.proofs.Rank.{rank-count}
 use Rattle.units.specs.declared.Timetable.{Timetable}
-use Rattle.units.specs.Quick.{Ranged, placeOf, needOf, laneStepOf, beginOf, unitStepOf, Small, noWants, wantsAfter, openedOf}
+use Rattle.units.specs.declared.Wants.{Wants}
+use Rattle.units.specs.declared.UnitStep.{UnitStep}
+use Rattle.units.specs.Quick.{Ranged, placeOf, needOf, laneStepOf, beginOf, unitStepOf, Small, noWants, wantsFrom, restFrom, openedOf}
 
 abbrev pub Fresh : Lane → ℕ → Type 0
 Fresh l n = (placeOf l n ≡ 0) ⊎ (l .window ≤ placeOf l n)
@@ -117,18 +119,27 @@ module _ (l : Lane) where
         by true = omega (arith, place-below n)
         by false = omega arith
 
+pub count-most : (u : ℕ → Bool) (n f : ℕ) → count u f n ≤ n
+unfolding count
+count-most u zero f = omega arith
+count-most u (suc n) f = omega (arith, count-most u n (suc f), byte-le (u f))
+
 module _ (table : Timetable) where
   pub none-small : (n : ℕ) → Small table n noWants
   none-small n = record { s1 = omega arith; s2 = omega arith; s3 = omega arith; s4 = omega arith }
 
-  -- one unit more
-  pub wants-on : (u : ℕ → Bool) (n i : ℕ) → wantsAfter table u n (suc i) ≡ unitStepOf table (n + i) (wantsAfter table u n i) (count u (beginOf table (n + i)) (table .unit)) .wants
-  unfolding wantsAfter
-  wants-on u n i = refl
+  module _ (u : ℕ → Bool) (n : ℕ) (w : Wants) where
+    abbrev stepAfter : ℕ → UnitStep
+    stepAfter i = unitStepOf table (n + i) (wantsFrom table u n w i) (count u (beginOf table (n + i)) (table .unit))
 
-  pub wants-none : (u : ℕ → Bool) (n : ℕ) → wantsAfter table u n 0 ≡ noWants
-  unfolding wantsAfter
-  wants-none u n = refl
+    -- one unit more
+    pub run-on : (i : ℕ) → (wantsFrom table u n w (suc i) ≡ stepAfter i .wants) × (restFrom table u n w (suc i) ≡ restFrom table u n w i + stepAfter i .remaining)
+    unfolding wantsFrom restFrom
+    run-on i = (refl, refl)
+
+    pub run-none : (wantsFrom table u n w 0 ≡ w) × (restFrom table u n w 0 ≡ 0)
+    unfolding wantsFrom restFrom
+    run-none = (refl, refl)
 
   -- the next unit's begin, and how many are free before it
   pub next-begin : (n : ℕ) → beginOf table (n + 1) ≡ beginOf table n + table .unit
@@ -136,3 +147,21 @@ module _ (table : Timetable) where
 
   pub unit-free : (u : ℕ → Bool) (n : ℕ) → rank u (beginOf table (n + 1)) ≡ rank u (beginOf table n) + count u (beginOf table n) (table .unit)
   unit-free u n = ap (rank u) (next-begin n) ∙ sym (rank-count u (table .unit) (beginOf table n))
+
+  -- no more remain than are free
+  pub unit-most : (n free : ℕ) (w : Wants) → unitStepOf table n w free .remaining ≤ free
+  unfolding unitStepOf laneStepOf
+  unit-most n free w = omega arith
+
+  pub rest-most : (u : ℕ → Bool) (n : ℕ) (w : Wants) (i : ℕ) → rank u (beginOf table n) + restFrom table u n w i ≤ rank u (beginOf table (n + i))
+  rest-most u n w zero = rw (add-zero n) (omega (arith, run-none u n w .1))
+  rest-most u n w (suc i) =
+      let e : n + i + 1 ≡ n + suc i = omega arith in
+      omega (
+        arith,
+        rest-most u n w i,
+        run-on u n w i .1,
+        unit-most (n + i) (count u (beginOf table (n + i)) (table .unit)) (wantsFrom table u n w i),
+        unit-free u (n + i),
+        ap (λ (m : ℕ). rank u (beginOf table m)) e,
+      )

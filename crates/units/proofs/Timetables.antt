@@ -2,10 +2,10 @@
 use mathlib.Core.Bool.{Bool, true, false, _&&_}
 use mathlib.Core.Path.{_≡_, refl, sym, ap, subst, _∙_}
 use mathlib.Core.Logic.{_⊎_, ⊎-elim}
-use Prim.Native.Nat.{ℕ, _+_, _-_, _*_, _/_, _^_, _≤_}
+use Prim.Native.Nat.{ℕ, min, max, _+_, _-_, _*_, _/_, _^_, _≤_}
 use native.Mathlib.Nat.{mul-assoc, mul-comm, mod-lt, le-of-mul-le-mul-left}
 use native.Mathlib.Omega.{arith}
-use lib.Count.{ones}
+use lib.Count.{ones, trailingZeros}
 use lib.Dec.{T, eqb, leb, eqb→eq}
 use lib.Pow.{pow-add, pow-pos, pow-mono}
 use borrow.Author.Tests.{eqb-true, leb-true}
@@ -14,9 +14,10 @@ use Rattle.counting.proofs.Facts.{each, each-at, both-parts, truth}
 use Rattle.counting.proofs.Listed.{of-list}
 use Rattle.messages.specs.declared.Schedule.{Schedule}
 use Rattle.messages.specs.declared.Messages.{Messages}
+use Rattle.units.specs.declared.Logs.{Logs}
 use Rattle.units.specs.declared.Lane.{Lane}
 use Rattle.messages.specs.Messages.{windows, periods, distances, windowFrames, isListed, isRead, areListed}
-use Rattle.units.specs.Quick.{logIf, shortestOf, longestOf, InUnits, laneOf, timetableOf, Ranged, Turned, Sized}
+use Rattle.units.specs.Quick.{HasLog, logIf, logsWith, logsOf, shortestOf, longestOf, InUnits, laneOf, timetableOf, Ranged, Turned, Sized}
 use Rattle.messages.proofs.Repeating.{Turns, AllTurns}
 use Rattle.messages.proofs.Listing.{window, Numbers, numbers, Listed, listed}
 
@@ -32,25 +33,32 @@ ten-split k l h = mul-assoc 10 (2 ^ k) (2 ^ (l - k)) ∙ ap (λ (n : ℕ). 10 * 
 -- ---- which powers of two the listed numbers are
 
 abbrev isPower : ℕ → ℕ → ℕ → Bool
-isPower from to x = (leb from (ones (x - 1)) && leb (ones (x - 1)) to) && eqb (2 ^ ones (x - 1)) x
+isPower from to x = (leb from (ones (x - 1)) && leb (ones (x - 1)) to) && (eqb (2 ^ ones (x - 1)) x && eqb (trailingZeros 64 x) (ones (x - 1)))
 
 pub record Power (from to x : ℕ) : Type 0 where
   pub least : from ≤ ones (x - 1)
   pub most : ones (x - 1) ≤ to
   pub is : 2 ^ ones (x - 1) ≡ x
+  pub log : HasLog x
 
 power : (from to x : ℕ) → isPower from to x ≡ true → Power from to x
 power from to x h =
-    let a = both-parts (leb from (ones (x - 1)) && leb (ones (x - 1)) to) (eqb (2 ^ ones (x - 1)) x) h in
+    let a = both-parts (leb from (ones (x - 1)) && leb (ones (x - 1)) to) (eqb (2 ^ ones (x - 1)) x && eqb (trailingZeros 64 x) (ones (x - 1))) h in
     let b = both-parts (leb from (ones (x - 1))) (leb (ones (x - 1)) to) (a .0) in
-    record { least = leb-true from (ones (x - 1)) (b .0); most = leb-true (ones (x - 1)) to (b .1); is = eqb-true (2 ^ ones (x - 1)) x (a .1) }
+    let c = both-parts (eqb (2 ^ ones (x - 1)) x) (eqb (trailingZeros 64 x) (ones (x - 1))) (a .1) in
+    record {
+      least = leb-true from (ones (x - 1)) (b .0);
+      most = leb-true (ones (x - 1)) to (b .1);
+      is = eqb-true (2 ^ ones (x - 1)) x (c .0);
+      log = eqb-true (trailingZeros 64 x) (ones (x - 1)) (c .1);
+    }
 
 pub period-power : (p : ℕ) → isOneOf periods p ≡ true → Power 6 12 p
-unfolding ones
+unfolding ones trailingZeros
 period-power p h = power 6 12 p (of-list (isPower 6 12) periods refl p h)
 
 pub every-power : (e : ℕ) → isOneOf distances e ≡ true → Power 1 4 e
-unfolding ones
+unfolding ones trailingZeros
 every-power e h = power 1 4 e (of-list (isPower 1 4) distances refl e h)
 
 -- windows last whole units
@@ -84,8 +92,8 @@ module _ (ms : Messages) (s : Schedule) (k : ℕ) (E : Entry ms s k) where
 
   pub in-units : InUnits s k
   in-units = record {
-    period = omega (arith, E .numbers .periodFrom);
-    every = omega (arith, E .numbers .everyFrom);
+    period = E .period .log;
+    every = E .every .log;
     periodUnits = omega (arith, E .few, E .every .most, E .period .least);
     periodSmall = E .period .most;
     everyUnits = E .few;
@@ -120,12 +128,37 @@ unread-ranged s before w k = record {
 
 -- ---- all four
 
-log-within : (r : Bool) (x other from to : ℕ) → (r ≡ true → Power from to x) → from ≤ other → other ≤ to → (from ≤ logIf r x other) × (logIf r x other ≤ to)
-log-within true x other from to h a b = (h refl .least, h refl .most)
-log-within false x other from to h a b = (a, b)
+-- where the logarithms of listed numbers lie
+record Within (l : Logs) : Type 0 where
+  from : 1 ≤ l .shortest
+  to : l .shortest ≤ 4
+  least : 6 ≤ l .longest
+  most : l .longest ≤ 12
 
-log-read : (r : Bool) (x other : ℕ) → r ≡ true → logIf r x other ≡ ones (x - 1)
-log-read r x other h = rw h refl
+-- one more schedule
+module _ (l : Logs) (read : Bool) (s : Schedule) where
+  with-within : Within l → (read ≡ true → Power 1 4 (s .every) × Power 6 12 (s .period)) → Within (logsWith l read s)
+  unfolding logsWith
+  with-within W = by read
+    where
+      by : (b : Bool) → (b ≡ true → Power 1 4 (s .every) × Power 6 12 (s .period))
+          → Within (record { shortest = min (l .shortest) (logIf b (s .every) (l .shortest)); longest = max (l .longest) (logIf b (s .period) (l .longest)) })
+      by true h =
+          let e = h refl .0 in
+          let p = h refl .1 in
+          record { from = omega (arith, W .from, e .least); to = omega (arith, W .to); least = omega (arith, W .least); most = omega (arith, W .most, p .most) }
+      by false h = record { from = omega (arith, W .from); to = omega (arith, W .to); least = omega (arith, W .least); most = omega (arith, W .most) }
+
+  with-more : (logsWith l read s .shortest ≤ l .shortest) × (l .longest ≤ logsWith l read s .longest)
+  unfolding logsWith
+  with-more = (omega arith, omega arith)
+
+  with-read : read ≡ true → (logsWith l read s .shortest ≤ ones (s .every - 1)) × (ones (s .period - 1) ≤ logsWith l read s .longest)
+  unfolding logsWith
+  with-read r = (omega (arith, log-read (s .every) (l .shortest) r), omega (arith, log-read (s .period) (l .longest) r))
+    where
+      log-read : (x other : ℕ) → read ≡ true → logIf read x other ≡ ones (x - 1)
+      log-read x other h = rw h refl
 
 module _ (ms : Messages) (ok : areListed ms ≡ true) where
   L : Listed ms
@@ -137,43 +170,69 @@ module _ (ms : Messages) (ok : areListed ms ≡ true) where
   abbrev frames : ℕ
   frames = windowFrames ms
 
-  every-of : (j : ℕ) (s : Schedule) → (isRead ms j ≡ true → isListed frames s ≡ true) → (1 ≤ logIf (isRead ms j) (s .every) 4) × (logIf (isRead ms j) (s .every) 4 ≤ 4)
-  every-of j s h = log-within (isRead ms j) (s .every) 4 1 4 (λ r. every-power (s .every) (numbers frames s (h r) .inDistances)) (omega arith) (omega arith)
+  pub powers : (s : Schedule) → isListed frames s ≡ true → Power 1 4 (s .every) × Power 6 12 (s .period)
+  powers s h = let n = numbers frames s h in (every-power (s .every) (n .inDistances), period-power (s .period) (n .inPeriods))
 
-  period-of : (j : ℕ) (s : Schedule) → (isRead ms j ≡ true → isListed frames s ≡ true) → (6 ≤ logIf (isRead ms j) (s .period) 6) × (logIf (isRead ms j) (s .period) 6 ≤ 12)
-  period-of j s h = log-within (isRead ms j) (s .period) 6 6 12 (λ r. period-power (s .period) (numbers frames s (h r) .inPeriods)) (omega arith) (omega arith)
+  -- those of none, one, two and three schedules
+  abbrev none : Logs
+  none = record { shortest = 4; longest = 6 }
+
+  abbrev one : Logs
+  one = logsWith none (isRead ms 1) (ms .s1)
+
+  abbrev two : Logs
+  two = logsWith one (isRead ms 2) (ms .s2)
+
+  abbrev three : Logs
+  three = logsWith two (isRead ms 3) (ms .s3)
+
+  within : Within (logsOf ms)
+  unfolding logsOf
+  within =
+      with-within three (isRead ms 4) (ms .s4)
+      (with-within two (isRead ms 3) (ms .s3)
+      (with-within one (isRead ms 2) (ms .s2)
+      (with-within none (isRead ms 1) (ms .s1) (record { from = omega arith; to = omega arith; least = omega arith; most = omega arith })
+      (λ r. powers (ms .s1) (L .l1 r))) (λ r. powers (ms .s2) (L .l2 r))) (λ r. powers (ms .s3) (L .l3 r))) (λ r. powers (ms .s4) (L .l4 r))
 
   pub shortest-from : 1 ≤ shortestOf ms
-  unfolding shortestOf
-  shortest-from = omega (arith, every-of 1 (ms .s1) (L .l1) .0, every-of 2 (ms .s2) (L .l2) .0, every-of 3 (ms .s3) (L .l3) .0, every-of 4 (ms .s4) (L .l4) .0)
+  shortest-from = within .from
 
   pub shortest-to : shortestOf ms ≤ 4
-  unfolding shortestOf
-  shortest-to = omega (arith, every-of 1 (ms .s1) (L .l1) .1, every-of 2 (ms .s2) (L .l2) .1, every-of 3 (ms .s3) (L .l3) .1, every-of 4 (ms .s4) (L .l4) .1)
+  shortest-to = within .to
 
   pub longest-from : 6 ≤ longestOf ms
-  unfolding longestOf
-  longest-from = omega (arith, period-of 1 (ms .s1) (L .l1) .0, period-of 2 (ms .s2) (L .l2) .0, period-of 3 (ms .s3) (L .l3) .0, period-of 4 (ms .s4) (L .l4) .0)
+  longest-from = within .least
 
   pub longest-to : longestOf ms ≤ 12
-  unfolding longestOf
-  longest-to = omega (arith, period-of 1 (ms .s1) (L .l1) .1, period-of 2 (ms .s2) (L .l2) .1, period-of 3 (ms .s3) (L .l3) .1, period-of 4 (ms .s4) (L .l4) .1)
+  longest-to = within .most
 
-  few-1 : isRead ms 1 ≡ true → (shortestOf ms ≤ ones (ms .s1 .every - 1)) × (ones (ms .s1 .period - 1) ≤ longestOf ms)
-  unfolding shortestOf longestOf
-  few-1 r = (omega (arith, log-read (isRead ms 1) (ms .s1 .every) 4 r), omega (arith, log-read (isRead ms 1) (ms .s1 .period) 6 r))
+  -- what bounds the logarithms of so many schedules bounds those of all
+  abbrev Bounds : Schedule → Logs → Type 0
+  Bounds s l = (l .shortest ≤ ones (s .every - 1)) × (ones (s .period - 1) ≤ l .longest)
 
-  few-2 : isRead ms 2 ≡ true → (shortestOf ms ≤ ones (ms .s2 .every - 1)) × (ones (ms .s2 .period - 1) ≤ longestOf ms)
-  unfolding shortestOf longestOf
-  few-2 r = (omega (arith, log-read (isRead ms 2) (ms .s2 .every) 4 r), omega (arith, log-read (isRead ms 2) (ms .s2 .period) 6 r))
+  from-three : (s : Schedule) → Bounds s three → Bounds s (logsOf ms)
+  unfolding logsOf
+  from-three s b = let m = with-more three (isRead ms 4) (ms .s4) in (omega (arith, b .0, m .0), omega (arith, b .1, m .1))
 
-  few-3 : isRead ms 3 ≡ true → (shortestOf ms ≤ ones (ms .s3 .every - 1)) × (ones (ms .s3 .period - 1) ≤ longestOf ms)
-  unfolding shortestOf longestOf
-  few-3 r = (omega (arith, log-read (isRead ms 3) (ms .s3 .every) 4 r), omega (arith, log-read (isRead ms 3) (ms .s3 .period) 6 r))
+  from-two : (s : Schedule) → Bounds s two → Bounds s (logsOf ms)
+  from-two s b = let m = with-more two (isRead ms 3) (ms .s3) in from-three s (omega (arith, b .0, m .0), omega (arith, b .1, m .1))
 
-  few-4 : isRead ms 4 ≡ true → (shortestOf ms ≤ ones (ms .s4 .every - 1)) × (ones (ms .s4 .period - 1) ≤ longestOf ms)
-  unfolding shortestOf longestOf
-  few-4 r = (omega (arith, log-read (isRead ms 4) (ms .s4 .every) 4 r), omega (arith, log-read (isRead ms 4) (ms .s4 .period) 6 r))
+  few-1 : isRead ms 1 ≡ true → Bounds (ms .s1) (logsOf ms)
+  few-1 r =
+      let b = with-read none (isRead ms 1) (ms .s1) r in
+      let m = with-more one (isRead ms 2) (ms .s2) in
+      from-two (ms .s1) (omega (arith, b .0, m .0), omega (arith, b .1, m .1))
+
+  few-2 : isRead ms 2 ≡ true → Bounds (ms .s2) (logsOf ms)
+  few-2 r = from-two (ms .s2) (with-read one (isRead ms 2) (ms .s2) r)
+
+  few-3 : isRead ms 3 ≡ true → Bounds (ms .s3) (logsOf ms)
+  few-3 r = from-three (ms .s3) (with-read two (isRead ms 3) (ms .s3) r)
+
+  few-4 : isRead ms 4 ≡ true → Bounds (ms .s4) (logsOf ms)
+  unfolding logsOf
+  few-4 r = with-read three (isRead ms 4) (ms .s4) r
 
   -- an entry that is read
   entry-of : (s : Schedule) → isListed frames s ≡ true → k ≤ ones (s .every - 1) → Entry ms s k

@@ -1,24 +1,23 @@
 -- What the walk finds at a unit is what the entries want there: an entry's count is right from where its window opened.
-use mathlib.Core.Bool.{Bool, true, _&&_}
+use mathlib.Core.Bool.{Bool, _&&_}
 use mathlib.Core.Path.{_≡_, refl, sym, ap, ap₂, subst, _∙_}
 use mathlib.Core.Logic.{_⊎_, ⊎-elim}
 use Prim.Native.Nat.{ℕ, zero, suc, _+_, _-_, _*_, _/_, _≤_, _<_}
 use native.Mathlib.Nat.{add-zero}
 use native.Mathlib.Omega.{arith}
 use lib.Dec.{leb}
-use Rattle.counting.specs.Counting.{count}
+use Rattle.counting.specs.Counting.{rank, count}
 use Rattle.counting.proofs.Facts.{order}
 use Rattle.messages.specs.declared.Schedule.{Schedule}
 use Rattle.messages.specs.declared.Messages.{Messages}
 use Rattle.units.specs.declared.Lane.{Lane}
 use Rattle.units.specs.declared.Timetable.{Timetable}
 use Rattle.units.specs.declared.Wants.{Wants}
-use Rattle.messages.specs.Messages.{allPeriods, areListed, remains, after1, after2, after3, remaining}
-use Rattle.units.specs.Quick.{wantsAt, allNeed, timetableOf, Ranged, Sized, beginOf, needOf, laneStepOf, unitStepOf, unitNeed, noWants, wantsAfter, openedOf, walkFrom, wantsIn, Exact}
-use Rattle.messages.proofs.Repeating.{again1, again2, again3, remaining-repeats, sound, turns}
+use Rattle.messages.specs.Messages.{allPeriods, remains, after1, after2, after3, remaining}
+use Rattle.units.specs.Quick.{wantsAt, allNeed, Ranged, Sized, beginOf, needOf, laneStepOf, unitStepOf, unitNeed, noWants, wantsFrom, restFrom, openedOf, walkFrom, wantsIn, Exact, Serves}
+use Rattle.messages.proofs.Repeating.{AllTurns, again1, again2, again3, remaining-repeats, sound, turns}
 use Rattle.units.proofs.Entries.{UnitOf, entry-count, all-count, remaining-at}
-use Rattle.units.proofs.Lanes.{Fresh, fresh-step, step-shut, opened-fresh, opened-most, opened-least}
-use Rattle.units.proofs.Lanes as lanes
+use Rattle.units.proofs.Lanes.{Fresh, fresh-step, step-shut, opened-fresh, opened-most, opened-least, run-on, run-none, unit-free}
 use Rattle.units.proofs.Timetables.{sized, longest-turns}
 use Rattle.units.proofs.Running.{Runs, AllRun, all-run}
 
@@ -56,15 +55,20 @@ module _ (ms : Messages) (j : ℕ) (s : Schedule) (table : Timetable) (l : Lane)
 
 -- ---- all four
 
-module _ (ms : Messages) (ok : areListed ms ≡ true) (u : ℕ → Bool) (again : (t : ℕ) → u (t + allPeriods) ≡ u t) where
-  abbrev table : Timetable
-  table = timetableOf ms
+-- the table is that of the messages
+module _ (ms : Messages) (table : Timetable) (S : Serves ms table) where
+  pub served-run : AllRun ms table
+  served-run = subst (AllRun ms) (sym (S .1)) (all-run ms (S .0))
 
+  pub served-sized : Sized table
+  served-sized = subst Sized (sym (S .1)) (sized ms (S .0))
+
+module _ (ms : Messages) (u : ℕ → Bool) (again : (t : ℕ) → u (t + allPeriods) ≡ u t) (table : Timetable) (S : Serves ms table) where
   R : AllRun ms table
-  R = all-run ms ok
+  R = served-run ms table S
 
   Z : Sized table
-  Z = sized ms ok
+  Z = served-sized ms table S
 
   pub unit-at : (n : ℕ) → UnitOf ms (table .unit) (beginOf table n)
   unit-at n = record { u1 = R .r1 .unit n; u2 = R .r2 .unit n; u3 = R .r3 .unit n; u4 = R .r4 .unit n }
@@ -79,13 +83,13 @@ module _ (ms : Messages) (ok : areListed ms ≡ true) (u : ℕ → Bool) (again 
   u3 = after3 ms u
 
   pub far1 : (t : ℕ) → u1 (t + allPeriods) ≡ u1 t
-  far1 = again1 ms (sound ms ok) u allPeriods (turns ms ok) again
+  far1 = again1 ms (sound ms (S .0)) u allPeriods (turns ms (S .0)) again
 
   pub far2 : (t : ℕ) → u2 (t + allPeriods) ≡ u2 t
-  far2 = again2 ms (sound ms ok) u allPeriods (turns ms ok) again
+  far2 = again2 ms (sound ms (S .0)) u allPeriods (turns ms (S .0)) again
 
   pub far3 : (t : ℕ) → u3 (t + allPeriods) ≡ u3 t
-  far3 = again3 ms (sound ms ok) u allPeriods (turns ms ok) again
+  far3 = again3 ms (sound ms (S .0)) u allPeriods (turns ms (S .0)) again
 
   abbrev free : ℕ → ℕ
   free n = count u (beginOf table n) (table .unit)
@@ -127,12 +131,12 @@ module _ (ms : Messages) (ok : areListed ms ≡ true) (u : ℕ → Bool) (again 
               (laneStepOf (table .l3) n (w .w3) c .free) f4 (K .k4) (λ h. g3 (omega arith));
         }
 
-    known-after : (i : ℕ) → Known a1 a2 a3 a4 (a1 + i) (wantsAfter table u a1 i)
-    known-after zero = subst (λ (n : ℕ). Known a1 a2 a3 a4 n (wantsAfter table u a1 0)) (sym (add-zero a1)) (subst (Known a1 a2 a3 a4 a1) (sym (lanes.wants-none table u a1)) known-first)
+    known-after : (i : ℕ) → Known a1 a2 a3 a4 (a1 + i) (wantsFrom table u a1 noWants i)
+    known-after zero = subst (λ (n : ℕ). Known a1 a2 a3 a4 n (wantsFrom table u a1 noWants 0)) (sym (add-zero a1)) (subst (Known a1 a2 a3 a4 a1) (sym (run-none table u a1 noWants .0)) known-first)
     known-after (suc i) =
         let e : a1 + i + 1 ≡ a1 + suc i = omega arith in
-        subst (λ (n : ℕ). Known a1 a2 a3 a4 n (wantsAfter table u a1 (suc i))) e
-        (subst (Known a1 a2 a3 a4 (a1 + i + 1)) (sym (lanes.wants-on table u a1 i)) (known-next (a1 + i) (wantsAfter table u a1 i) (known-after i)))
+        subst (λ (n : ℕ). Known a1 a2 a3 a4 n (wantsFrom table u a1 noWants (suc i))) e
+        (subst (Known a1 a2 a3 a4 (a1 + i + 1)) (sym (run-on table u a1 noWants i .0)) (known-next (a1 + i) (wantsFrom table u a1 noWants i) (known-after i)))
 
   -- ---- what a walk finds is exact
 
@@ -158,7 +162,7 @@ module _ (ms : Messages) (ok : areListed ms ≡ true) (u : ℕ → Bool) (again 
       (opened-fresh (table .l3) (Z .r3) a4 (omega (arith, h, c4, Z .t3)))
       (opened-fresh (table .l4) (Z .r4) n (omega (arith, h, Z .t4)))
       b1 b2 b3 (n - a1) in
-      let K' : Known a1 a2 a3 a4 n (wantsAfter table u a1 (n - a1)) = subst (λ (m : ℕ). Known a1 a2 a3 a4 m (wantsAfter table u a1 (n - a1))) e K in
+      let K' : Known a1 a2 a3 a4 n (wantsFrom table u a1 noWants (n - a1)) = subst (λ (m : ℕ). Known a1 a2 a3 a4 m (wantsFrom table u a1 noWants (n - a1))) e K in
       record {
         x1 = K' .k1 (omega (arith, b1, b2, b3, b4));
         x2 = K' .k2 (omega (arith, b2, b3, b4));
@@ -183,7 +187,7 @@ module _ (ms : Messages) (ok : areListed ms ≡ true) (u : ℕ → Bool) (again 
     -- of its first y subframes those remain that are free past what is needed
     pub unit-remaining : (y : ℕ) → y ≤ table .unit → count (remaining ms u) (beginOf table n) y ≡ count u (beginOf table n) y - unitNeed table n w
     unit-remaining y l =
-        all-count ms (sound ms ok) u (turns ms ok) again (table .unit) (beginOf table n) (unit-at n) y l ∙ ap (λ (x : ℕ). count u (beginOf table n) y - x) (sym need-exact)
+        all-count ms (sound ms (S .0)) u (turns ms (S .0)) again (table .unit) (beginOf table n) (unit-at n) y l ∙ ap (λ (x : ℕ). count u (beginOf table n) y - x) (sym need-exact)
 
     -- and the next unit's are exact too
     pub exact-next : Exact ms u table (n + 1) (unitStepOf table n w (free n) .wants)
@@ -212,14 +216,39 @@ module _ (ms : Messages) (ok : areListed ms ≡ true) (u : ℕ → Bool) (again 
     -- subframe y of it remains if it is free and as many free ones lie before it as are needed
     pub remains-in-unit : (y : ℕ) → y < table .unit → remaining ms u (beginOf table n + y) ≡ (u (beginOf table n + y) && leb (unitNeed table n w) (count u (beginOf table n) y))
     remains-in-unit y l =
-        remaining-at ms (sound ms ok) u (turns ms ok) again (table .unit) (beginOf table n) (unit-at n) y l
+        remaining-at ms (sound ms (S .0)) u (turns ms (S .0)) again (table .unit) (beginOf table n) (unit-at n) y l
         ∙ ap (λ (x : ℕ). u (beginOf table n + y) && leb x (count u (beginOf table n) y)) (sym need-exact)
+
+  -- unit by unit they stay exact, and what remains is counted
+  pub run-exact : (n : ℕ) (w : Wants) → Exact ms u table n w → (i : ℕ) → Exact ms u table (n + i) (wantsFrom table u n w i)
+      × (rank (remaining ms u) (beginOf table (n + i)) ≡ rank (remaining ms u) (beginOf table n) + restFrom table u n w i)
+  run-exact n w X zero =
+      let o = run-none table u n w in (
+        subst (λ (m : ℕ). Exact ms u table m (wantsFrom table u n w 0)) (sym (add-zero n)) (subst (Exact ms u table n) (sym (o .0)) X),
+        omega (arith, ap (λ (m : ℕ). rank (remaining ms u) (beginOf table m)) (add-zero n), o .1),
+      )
+  run-exact n w X (suc i) =
+      let I = run-exact n w X i in
+      let m : ℕ = n + i in
+      let v = wantsFrom table u n w i in
+      let o = run-on table u n w i in
+      let e : m + 1 ≡ n + suc i = omega arith in (
+        subst (λ (k : ℕ). Exact ms u table k (wantsFrom table u n w (suc i))) e
+            (subst (Exact ms u table (m + 1)) (sym (o .0)) (exact-next m v (I .0))),
+        omega (
+          arith,
+          I .1,
+          o .1,
+          unit-free table (remaining ms u) m,
+          step-remaining m v (I .0),
+          ap (λ (k : ℕ). rank (remaining ms u) (beginOf table k)) e,
+        ),
+      )
 
 -- ---- all repeats after the longest period
 
-module _ (ms : Messages) (ok : areListed ms ≡ true) (u : ℕ → Bool) where
-  abbrev P : ℕ
-  P = timetableOf ms .unit * timetableOf ms .units
-
-  pub repeats-all : ((t : ℕ) → u (t + P) ≡ u t) → (t : ℕ) → remaining ms u (t + P) ≡ remaining ms u t
-  repeats-all = remaining-repeats ms (sound ms ok) u P (longest-turns ms ok)
+module _ (ms : Messages) (u : ℕ → Bool) (table : Timetable) (S : Serves ms table) where
+  pub repeats-all : ((t : ℕ) → u (t + table .unit * table .units) ≡ u t) → (t : ℕ) → remaining ms u (t + table .unit * table .units) ≡ remaining ms u t
+  repeats-all =
+      remaining-repeats ms (sound ms (S .0)) u (table .unit * table .units)
+      (subst (λ (tb : Timetable). AllTurns ms (tb .unit * tb .units)) (sym (S .1)) (longest-turns ms (S .0)))

@@ -3,16 +3,18 @@
 use mathlib.Core.Bool.{Bool, true, cond, _&&_}
 use mathlib.Core.Path.{_≡_}
 use Prim.Native.Nat.{ℕ, zero, suc, _+_, _-_, _*_, _/_, _%_, _^_, min, max, _≤_, _<_}
-use lib.Count.{ones}
+use lib.Count.{ones, trailingZeros}
 use lib.Dec.{eqb, ltb}
 use Rattle.counting.specs.Counting.{rank, count}
 use Rattle.spans.specs.declared.Pattern.{Pattern}
 use Rattle.spans.specs.Pattern.{allows, periodOf, Regular}
+use Rattle.units.specs.declared.Logs.{Logs}
 use Rattle.units.specs.declared.Lane.{Lane}
 use Rattle.units.specs.declared.Timetable.{Timetable}
 use Rattle.units.specs.declared.Wants.{Wants}
 use Rattle.units.specs.declared.LaneStep.{LaneStep}
 use Rattle.units.specs.declared.UnitStep.{UnitStep}
+use Rattle.units.specs.declared.Sight.{Sight}
 use Rattle.units.specs.declared.Spot.{Spot}
 use Rattle.messages.specs.declared.Schedule.{Schedule}
 use Rattle.messages.specs.declared.Messages.{Messages}
@@ -40,26 +42,38 @@ allNeed ms u t =
 
 -- ---- messages in units: no window opens or closes and no copy begins but where a unit begins
 
+-- x is a power of two: its lowest one is its only one
+abbrev pub HasLog : ℕ → Type 0
+HasLog x = trailingZeros 64 x ≡ ones (x - 1)
+
 -- which power of two x is, if it is read
 abbrev pub logIf : Bool → ℕ → ℕ → ℕ
 logIf read x other = cond read (ones (x - 1)) other
 
--- the shortest distance of copies that is read is so many times doubled
-unfoldable pub shortestOf : Messages → ℕ
-shortestOf ms =
-    min (min (logIf (isRead ms 1) (ms .s1 .every) 4) (logIf (isRead ms 2) (ms .s2 .every) 4))
-    (min (logIf (isRead ms 3) (ms .s3 .every) 4) (logIf (isRead ms 4) (ms .s4 .every) 4))
+-- the shortest distance of copies and the longest period with one more schedule, if it is read
+unfoldable pub logsWith : Logs → Bool → Schedule → Logs
+logsWith logs read s = record {
+  shortest = min (logs .shortest) (logIf read (s .every) (logs .shortest));
+  longest = max (logs .longest) (logIf read (s .period) (logs .longest));
+}
 
--- and the longest period
-unfoldable pub longestOf : Messages → ℕ
-longestOf ms =
-    max (max (logIf (isRead ms 1) (ms .s1 .period) 6) (logIf (isRead ms 2) (ms .s2 .period) 6))
-    (max (logIf (isRead ms 3) (ms .s3 .period) 6) (logIf (isRead ms 4) (ms .s4 .period) 6))
+-- those of all that are read
+unfoldable pub logsOf : Messages → Logs
+logsOf ms =
+    logsWith
+    (logsWith (logsWith (logsWith (record { shortest = 4; longest = 6 }) (isRead ms 1) (ms .s1)) (isRead ms 2) (ms .s2)) (isRead ms 3) (ms .s3))
+    (isRead ms 4) (ms .s4)
+
+abbrev pub shortestOf : Messages → ℕ
+shortestOf ms = logsOf ms .shortest
+
+abbrev pub longestOf : Messages → ℕ
+longestOf ms = logsOf ms .longest
 
 -- a schedule can be counted in units of 2^k frames
 pub record InUnits (s : Schedule) (k : ℕ) : Type 0 where
-  pub period : 0 < s .period
-  pub every : 0 < s .every
+  pub period : HasLog (s .period)
+  pub every : HasLog (s .every)
   pub periodUnits : k ≤ ones (s .period - 1)
   pub periodSmall : ones (s .period - 1) ≤ 12
   pub everyUnits : k ≤ ones (s .every - 1)
@@ -169,11 +183,32 @@ pub record Small (table : Timetable) (n : ℕ) (w : Wants) : Type 0 where
 abbrev pub noWants : Wants
 noWants = record { w1 = 0; w2 = 0; w3 = 0; w4 = 0 }
 
--- what is wanted i units on from a unit at which nothing is
-unfoldable pub wantsAfter : Timetable → (ℕ → Bool) → ℕ → ℕ → Wants
-wantsAfter table u n zero = noWants
-wantsAfter table u n (suc i) =
-    unitStepOf table (n + i) (wantsAfter table u n i) (count u (beginOf table (n + i)) (table .unit)) .wants
+-- what is wanted i units on from unit n, where w is; and how many subframes of these units remain
+unfoldable pub wantsFrom : Timetable → (ℕ → Bool) → ℕ → Wants → ℕ → Wants
+wantsFrom table u n w zero = w
+wantsFrom table u n w (suc i) =
+    unitStepOf table (n + i) (wantsFrom table u n w i) (count u (beginOf table (n + i)) (table .unit)) .wants
+
+unfoldable pub restFrom : Timetable → (ℕ → Bool) → ℕ → Wants → ℕ → ℕ
+restFrom table u n w zero = 0
+restFrom table u n w (suc i) =
+    restFrom table u n w i
+    + unitStepOf table (n + i) (wantsFrom table u n w i) (count u (beginOf table (n + i)) (table .unit)) .remaining
+
+-- a sight's numbers are those of its unit
+pub record Seen (table : Timetable) (u : ℕ → Bool) (s : Sight) : Type 0 where
+  pub small : Small table (s .n) (s .wants)
+  pub free : s .free ≡ rank u (beginOf table (s .n))
+
+-- unit by unit from s on, to unit `to` or to where the k-th is
+pub record Ran (table : Timetable) (u : ℕ → Bool) (s : Sight) (to : ℕ) (r : Sight) : Type 0 where
+  pub from : s .n ≤ r .n
+  pub most : r .n ≤ to
+  pub seen : Seen table u r
+  pub wanted : r .wants ≡ wantsFrom table u (s .n) (s .wants) (r .n - s .n)
+  pub counted : r .k + restFrom table u (s .n) (s .wants) (r .n - s .n) ≡ s .k
+  pub stops : r .n < to
+      → r .k < unitStepOf table (r .n) (r .wants) (count u (beginOf table (r .n)) (table .unit)) .remaining
 
 -- the unit in which the window opened that is open at unit n; else n
 unfoldable pub openedOf : Lane → ℕ → ℕ
@@ -184,7 +219,7 @@ unfoldable pub walkFrom : Timetable → ℕ → ℕ
 walkFrom table n = openedOf (table .l1) (openedOf (table .l2) (openedOf (table .l3) (openedOf (table .l4) n)))
 
 unfoldable pub wantsIn : Timetable → (ℕ → Bool) → ℕ → Wants
-wantsIn table u n = wantsAfter table u (walkFrom table n) (n - walkFrom table n)
+wantsIn table u n = wantsFrom table u (walkFrom table n) noWants (n - walkFrom table n)
 
 -- w is what the entries want where unit n begins
 pub record Exact (ms : Messages) (u : ℕ → Bool) (table : Timetable) (n : ℕ) (w : Wants) : Type 0 where

@@ -3,63 +3,16 @@
 ghost use mathlib.Core.Bool.{true};
 ghost use mathlib.Core.Path.{_≡_};
 ghost use Prim.Native.Nat.{_+_, _-_, _*_, _^_, min, max, _<_, _≤_};
+ghost use lib.Count.{ones};
 ghost use Rattle.counting.specs.Counting.{rank, count};
 ghost use Rattle.spans.specs.Pattern.{allows};
 ghost use Rattle.messages.specs.Messages.{areListed};
-ghost use Rattle.units.specs.Quick.{logIf, shortestOf, longestOf, InUnits, laneOf, timetableOf, Ranged, Sized};
-ghost use Rattle.units.specs.Quick.{beginOf, placeOf, needOf, laneStepOf, unitStepOf, unitNeed, Small, noWants};
-ghost use Rattle.units.specs.Quick.{wantsAfter, openedOf, wantsIn, Allowing, SpotAt};
+ghost use Rattle.units.specs.Quick.{HasLog, logsWith, logsOf, InUnits, laneOf, timetableOf, Ranged, Sized, beginOf};
+ghost use Rattle.units.specs.Quick.{placeOf, needOf, laneStepOf, unitStepOf, unitNeed, Small, Seen, Ran};
+ghost use Rattle.units.specs.Quick.{noWants, openedOf, wantsIn, Allowing, SpotAt};
 use messages::Messages;
 use messages::Schedule;
 use spans::Pattern;
-
-// A schedule in units: its windows last `window` units and repeat after 2^log units, one opens at unit `start`; a
-// copy of `size` subframes begins at every 2^every-th unit of a window. One that is not read has windows of no unit.
-pub struct Lane {
-    pub log: u64,
-    pub start: u64,
-    pub window: u64,
-    pub every: u64,
-    pub size: u64,
-}
-
-// Units of `unit` subframes from subframe `first` on: no window opens or closes and no copy begins but where one
-// begins. All repeats after `units` units.
-pub struct Timetable {
-    pub first: u64,
-    pub unit: u64,
-    pub units: u64,
-    pub l1: Lane,
-    pub l2: Lane,
-    pub l3: Lane,
-    pub l4: Lane,
-}
-
-// What the entries want where a unit begins, before copies begin there.
-pub struct Wants {
-    pub w1: u64,
-    pub w2: u64,
-    pub w3: u64,
-    pub w4: u64,
-}
-
-// One entry of a unit: what it wants at the next one, and how many subframes are free after it.
-pub struct LaneStep {
-    pub want: u64,
-    pub free: u64,
-}
-
-// A unit: what the entries want at the next one, and how many subframes of it remain.
-pub struct UnitStep {
-    pub wants: Wants,
-    pub remaining: u64,
-}
-
-// Subframe y of unit n.
-pub struct Spot {
-    pub n: u64,
-    pub y: u64,
-}
 
 pub fn least(a: u64, b: u64) -> u64
     ensures { λ r. ⌜ r ≡ min a b ⌝ }
@@ -89,49 +42,57 @@ pub fn monus(a: u64, b: u64) -> u64
     a - b
 }
 
-// Which power of two x is, if it is read.
-fn log_if(read: bool, x: u64, other: u64) -> u64
-    requires { ⌜ (read ≡ true → 0 < x) ⌝ }
-    ensures { λ r. ⌜ r ≡ logIf read x other ⌝ }
+// The shortest distance of copies that is read is 2^shortest frames, the longest period 2^longest.
+struct Logs {
+    shortest: u64,
+    longest: u64,
+}
+
+// Which power of two x is.
+fn log_of(x: u64) -> u64
+    requires { ⌜ HasLog x ⌝ }
+    ensures { λ r. ⌜ r ≡ ones (x - 1) ⌝ }
+{
+    u64::trailing_zeros(x) as u64
+}
+
+// The same with one more schedule, if it is read.
+fn with_schedule(logs: Logs, read: bool, s: Schedule) -> Logs
+    requires { ⌜ (read ≡ true → HasLog (s .every) × HasLog (s .period)) ⌝ }
+    ensures { λ r. ⌜ r ≡ logsWith logs read s ⌝ }
 {
     if read {
-        return counting::ones_of(x - 1);
+        return Logs {
+            shortest: least(logs.shortest, log_of(s.every)),
+            longest: most(logs.longest, log_of(s.period)),
+        };
     }
-    other
+    logs
 }
 
-// The shortest distance of copies that is read is 2^k frames.
-fn shortest(ms: Messages) -> u64
+fn logs_of(ms: Messages) -> Logs
     requires { ⌜ areListed ms ≡ true ⌝ }
-    ensures { λ r. ⌜ r ≡ shortestOf ms ⌝ }
+    ensures { λ r. ⌜ r ≡ logsOf ms ⌝ }
 {
     let count = ms.count;
-    let front = least(
-        log_if(1 <= count, ms.s1.every, 4),
-        log_if(2 <= count, ms.s2.every, 4),
-    );
-    let back = least(
-        log_if(3 <= count, ms.s3.every, 4),
-        log_if(4 <= count, ms.s4.every, 4),
-    );
-    least(front, back)
+    let none = Logs {
+        shortest: 4,
+        longest: 6,
+    };
+    let one = with_schedule(none, 1 <= count, ms.s1);
+    let two = with_schedule(one, 2 <= count, ms.s2);
+    let three = with_schedule(two, 3 <= count, ms.s3);
+    with_schedule(three, 4 <= count, ms.s4)
 }
 
-// The longest period that is read is 2^k frames.
-fn longest(ms: Messages) -> u64
-    requires { ⌜ areListed ms ≡ true ⌝ }
-    ensures { λ r. ⌜ r ≡ longestOf ms ⌝ }
-{
-    let count = ms.count;
-    let front = most(
-        log_if(1 <= count, ms.s1.period, 6),
-        log_if(2 <= count, ms.s2.period, 6),
-    );
-    let back = most(
-        log_if(3 <= count, ms.s3.period, 6),
-        log_if(4 <= count, ms.s4.period, 6),
-    );
-    most(front, back)
+// A schedule in units: its windows last `window` units and repeat after 2^log units, one opens at unit `start`; a
+// copy of `size` subframes begins at every 2^every-th unit of a window. One that is not read has windows of no unit.
+pub struct Lane {
+    pub log: u64,
+    pub start: u64,
+    pub window: u64,
+    pub every: u64,
+    pub size: u64,
 }
 
 // An entry with so many before it, in units of 2^k frames.
@@ -140,12 +101,12 @@ fn lane_of(read: bool, s: Schedule, before: u64, window: u64, k: u64) -> Lane
     ensures { λ r. ⌜ r ≡ laneOf read s before window k ⌝ }
 {
     if read {
-        let log = counting::ones_of(s.period - 1) - k;
+        let log = log_of(s.period) - k;
         return Lane {
             log,
             start: counting::low(before * window, log),
             window,
-            every: counting::ones_of(s.every - 1) - k,
+            every: log_of(s.every) - k,
             size: s.size,
         };
     }
@@ -158,18 +119,31 @@ fn lane_of(read: bool, s: Schedule, before: u64, window: u64, k: u64) -> Lane
     }
 }
 
+// Units of `unit` subframes from subframe `first` on: no window opens or closes and no copy begins but where one
+// begins. All repeats after `units` units.
+pub struct Timetable {
+    pub first: u64,
+    pub unit: u64,
+    pub units: u64,
+    pub l1: Lane,
+    pub l2: Lane,
+    pub l3: Lane,
+    pub l4: Lane,
+}
+
 // Listed messages in units.
 pub fn timetable_of(ms: Messages) -> Timetable
     requires { ⌜ areListed ms ≡ true ⌝ }
     ensures { λ r. ⌜ (r ≡ timetableOf ms) × Sized r ⌝ }
 {
     let count = ms.count;
-    let k = shortest(ms);
+    let logs = logs_of(ms);
+    let k = logs.shortest;
     let window = ms.window / 10 / counting::power_of_two(k);
     Timetable {
         first: 10 * ms.offset,
         unit: 10 * counting::power_of_two(k),
-        units: counting::power_of_two(longest(ms) - k),
+        units: counting::power_of_two(logs.longest - k),
         l1: lane_of(1 <= count, ms.s1, 0, window, k),
         l2: lane_of(2 <= count, ms.s2, 1, window, k),
         l3: lane_of(3 <= count, ms.s3, 2, window, k),
@@ -203,6 +177,12 @@ fn need(l: Lane, n: u64, want: u64) -> u64
     want
 }
 
+// One entry of a unit: what it wants at the next one, and how many subframes are free after it.
+pub struct LaneStep {
+    pub want: u64,
+    pub free: u64,
+}
+
 // One lane of a unit of which so many subframes are free.
 pub fn lay(l: Lane, n: u64, want: u64, free: u64) -> LaneStep
     requires { ⌜ Ranged l × (n < 2 ^ 40) × (want ≤ 8 * placeOf l n) ⌝ }
@@ -220,6 +200,20 @@ pub fn lay(l: Lane, n: u64, want: u64, free: u64) -> LaneStep
         want: monus(b, free),
         free: monus(free, b),
     }
+}
+
+// What the entries want where a unit begins, before copies begin there.
+pub struct Wants {
+    pub w1: u64,
+    pub w2: u64,
+    pub w3: u64,
+    pub w4: u64,
+}
+
+// A unit: what the entries want at the next one, and how many subframes of it remain.
+pub struct UnitStep {
+    pub wants: Wants,
+    pub remaining: u64,
 }
 
 // A unit of which so many subframes are free before messages.
@@ -293,20 +287,39 @@ fn opened(l: Lane, n: u64) -> u64
     n
 }
 
-// What is wanted at unit `to`, from a unit on at which nothing is wanted of what counts there.
-fn walk(table: Timetable, p: Pattern, from: u64, to: u64) -> Wants
-    requires { ⌜ Sized table × Allowing p × (from ≤ to) × (to < 2 ^ 19) ⌝ }
-    ensures { λ r. ⌜ (r ≡ wantsAfter table (allows p) from (to - from)) × Small table to r ⌝ }
+// The k-th remaining subframe from where unit n begins, with what is wanted there and how many are free before it.
+pub struct Sight {
+    pub n: u64,
+    pub wants: Wants,
+    pub free: u64,
+    pub k: u64,
+}
+
+// Unit by unit from a sight on: to unit `to`, or to where the k-th is.
+pub fn run(table: Timetable, p: Pattern, s: Sight, to: u64) -> Sight
+    requires { ⌜ Sized table × Allowing p × Seen table (allows p) s × (s .n ≤ to) × (to < 2 ^ 19) ⌝ }
+    ensures { λ r. ⌜ Ran table (allows p) s to r ⌝ }
 {
-    let mut n = from;
-    let mut w1: u64 = 0;
-    let mut w2: u64 = 0;
-    let mut w3: u64 = 0;
-    let mut w4: u64 = 0;
-    let mut free = free_before(p, begin(table, from));
+    let mut n = s.n;
+    let mut w1 = s.wants.w1;
+    let mut w2 = s.wants.w2;
+    let mut w3 = s.wants.w3;
+    let mut w4 = s.wants.w4;
+    let mut free = s.free;
+    let mut k = s.k;
     while n < to {
         let next = free_before(p, begin(table, n + 1));
         let r = pass(table, n, Wants { w1, w2, w3, w4 }, next - free);
+        let remaining = r.remaining;
+        if k < remaining {
+            return Sight {
+                n,
+                wants: Wants { w1, w2, w3, w4 },
+                free,
+                k,
+            };
+        }
+        k -= remaining;
         w1 = r.wants.w1;
         w2 = r.wants.w2;
         w3 = r.wants.w3;
@@ -314,22 +327,42 @@ fn walk(table: Timetable, p: Pattern, from: u64, to: u64) -> Wants
         free = next;
         n += 1;
     }
-    Wants { w1, w2, w3, w4 }
+    Sight {
+        n,
+        wants: Wants { w1, w2, w3, w4 },
+        free,
+        k,
+    }
 }
 
-// What the entries want at unit n: from where the first entry's window opened that bears on the second's, and so on.
-pub fn wants_at(table: Timetable, p: Pattern, n: u64) -> Wants
+// Where unit n begins: what the entries want, from where the first entry's window opened that bears on the second's,
+// and so on.
+pub fn sight_at(table: Timetable, p: Pattern, n: u64) -> Sight
     requires { ⌜ Sized table × Allowing p × (4 * table .units ≤ n) × (n < 2 ^ 19) ⌝ }
-    ensures { λ r. ⌜ (r ≡ wantsIn table (allows p) n) × Small table n r ⌝ }
+    ensures { λ r. ⌜ (r .n ≡ n) × (r .wants ≡ wantsIn table (allows p) n) × Seen table (allows p) r ⌝ }
 {
     let a4 = opened(table.l4, n);
     let a3 = opened(table.l3, a4);
     let a2 = opened(table.l2, a3);
     let a1 = opened(table.l1, a2);
+    let wants = no_wants();
+    let free = free_before(p, begin(table, a1));
+    let from = Sight {
+        n: a1,
+        wants,
+        free,
+        k: 0x8000_0000,
+    };
     if a1 == n {
-        return no_wants();
+        return from;
     }
-    walk(table, p, a1, n)
+    run(table, p, from, n)
+}
+
+// Subframe y of unit n.
+pub struct Spot {
+    pub n: u64,
+    pub y: u64,
 }
 
 // Where subframe t of the first two periods lies, five periods on, so that four periods may be walked back.
@@ -345,11 +378,10 @@ pub fn spot_of(table: Timetable, t: u64) -> Spot
     Spot { n, y: x - n * unit }
 }
 
-// How many of the first y subframes of unit n are free before messages.
-pub fn free_first(table: Timetable, p: Pattern, n: u64, y: u64) -> u64
-    requires { ⌜ Sized table × Allowing p × (n < 2 ^ 20) × (y ≤ 160) ⌝ }
+// How many of the first y subframes of unit n are free before messages; so many are before it.
+pub fn free_first(table: Timetable, p: Pattern, n: u64, free: u64, y: u64) -> u64
+    requires { ⌜ Sized table × Allowing p × (n < 2 ^ 20) × (y ≤ 160) × (free ≡ rank (allows p) (beginOf table n)) ⌝ }
     ensures { λ r. ⌜ r ≡ count (allows p) (beginOf table n) y ⌝ }
 {
-    let from = begin(table, n);
-    free_before(p, from + y) - free_before(p, from)
+    free_before(p, begin(table, n) + y) - free
 }

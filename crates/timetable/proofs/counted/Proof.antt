@@ -4,11 +4,10 @@ use native.Mathlib.Nat.{mul-le-mul}
 use native.Mathlib.Omega.{arith}
 use Rattle.spans.specs.Pattern.{allows}
 use Rattle.messages.specs.declared.Messages.{Messages}
-use Rattle.timetable.specs.declared.Sight.{Sight}
+use Rattle.units.specs.declared.Sight.{Sight}
 use Rattle.counting.specs.Counting.{rank}
 use Rattle.messages.specs.Messages.{remaining}
 use Rattle.units.specs.Quick.{beginOf, Serves, Exact, Small}
-use Rattle.strides.specs.Quick.{Keeps}
 use Rattle.timetable.specs.Quick.{Scanned}
 use Rattle.strides.proofs.Apart.{none-keeps}
 use Rattle.timetable.proofs.Searching.{passed-all}
@@ -23,14 +22,14 @@ module _ (c : tie.After-scan) where
   r = c .scan .result .sight
 
   abbrev from : Sight
-  from = record { n = s .args .n; wants = s .args .w; k = 2147483648 }
+  from = record { n = s .args .s .n; wants = s .args .s .wants; free = s .args .s .free; k = 2147483648 }
 
   near : beginOf (s .args .table) (r .n) < 2 ^ 29
   near =
       let h : r .n ≤ 2 ^ 15 = omega (arith, c .scan .ensures .0, s .pre .4) in
       omega (arith, s .pre .0 .first, mul-le-mul (s .pre .0 .unit) h)
 
-  module _ (ms : Messages) (S : Serves ms (s .args .table)) (X : Exact ms (allows (s .args .p)) (s .args .table) (s .args .n) (s .args .w)) where
+  module _ (ms : Messages) (S : Serves ms (s .args .table)) (X : Exact ms (allows (s .args .p)) (s .args .table) (s .args .s .n) (s .args .s .wants)) where
     scanned : Scanned ms (allows (s .args .p)) (s .args .table) from (s .args .end) (c .scan .result .even) r
     scanned = c .scan .ensures .4 ms S X
 
@@ -42,18 +41,13 @@ module _ (c : tie.After-scan) where
 
 returns : tie.Need-returns
 returns c =
-    let d = c .before .before .before in
-    let z = s d in (
-      refl,
-      subst (λ (n : ℕ). Small (z .args .table) n (r d .wants)) (ends d) (d .scan .ensures .1),
+    let d = c .before .before in
+    let z = s d in
+    let e = d .scan .ensures in (
+      ends d,
+      record { small = e .1 .small; free = e .1 .free },
       omega arith,
-      λ ms S X.
-          let C = scanned d ms S X in
-          let u = allows (z .args .p) in
-          record {
-            exact = subst (λ (n : ℕ). Exact ms u (z .args .table) n (r d .wants)) (ends d) (C .exact);
-            count = omega (arith, C .same, d .scan .ensures .2, ap (λ (n : ℕ). rank (remaining ms u) (beginOf (z .args .table) n)) (ends d));
-          },
+      λ ms S X. let C = scanned d ms S X in record { exact = C .exact; count = omega (arith, C .same, e .2) },
     )
 
 pub counted-spec : {M : Type 1} → statement M
@@ -63,6 +57,6 @@ counted-spec =
     (λ c κs. tt)
     (λ c κs.
     let z = c .before in
-    (z .pre .0, z .pre .1, z .pre .2, z .pre .3, omega (arith, z .pre .4), subst (Keeps (z .args .table) (allows (z .args .p))) (sym (c .none-kept .ensures)) (none-keeps (z .args .table) (allows (z .args .p)))))
-    (λ c. c .before .before .before .scan .ensures .2)
+    (z .pre .0, z .pre .1, record { small = z .pre .2 .small; free = z .pre .2 .free }, z .pre .3, omega (arith, z .pre .4), none-keeps (z .args .table) (allows (z .args .p)) (c .none-kept .result) (c .none-kept .ensures)))
+    (λ c. c .before .before .scan .ensures .2)
     returns)

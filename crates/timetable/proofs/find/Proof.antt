@@ -7,11 +7,9 @@ use Rattle.counting.proofs.Rank.{rank-le}
 use Rattle.spans.specs.Pattern.{allows}
 use Rattle.messages.specs.declared.Messages.{Messages}
 use Rattle.messages.specs.Messages.{remaining}
-use Rattle.timetable.specs.declared.Sight.{Sight}
+use Rattle.units.specs.declared.Sight.{Sight}
 use Rattle.units.specs.Quick.{beginOf, Serves, Exact}
-use Rattle.strides.specs.Quick.{Keeps}
 use Rattle.timetable.specs.Quick.{moved}
-use Rattle.strides.proofs.Apart.{none-keeps}
 use Rattle.timetable.proofs.Searching.{passed, found-early, whole-again}
 use Rattle.timetable.proofs.find.Statement.{statement}
 use Rattle.timetable.proofs.find.Tie as tie
@@ -23,7 +21,7 @@ module _ (c : tie.Else1) where
   o = c .before .before .before .before
 
   abbrev s : tie.Start
-  s = o .before .before .before .before .before
+  s = o .before .before .before .before
 
   abbrev from : Sight
   from = moved (s .args .s) (s .args .j)
@@ -58,7 +56,7 @@ module _ (c : tie.Else1) where
 returns : tie.Need-returns
 returns c =
     let o = c .before .before .before .before in
-    let s = o .before .before .before .before .before in
+    let s = o .before .before .before .before in
     let e = o .reach .ensures in (
       e .1,
       c .if1 .taken,
@@ -75,6 +73,7 @@ returns c =
             later = sym (zero-mul Q);
             same = omega (arith, C .same, zero-mul R);
           },
+      e .5,
     )
 
 -- ---- a whole period was passed
@@ -100,7 +99,7 @@ module _ (c : tie.After-quotient) where
   once = let d = divided (s e .pre .6 .ms) (s e .pre .6 .serves) (s e .pre .6 .exact) in (d .0, d .1)
 
   abbrev again : Sight
-  again = record { n = s e .args .s .n; wants = s e .args .s .wants; k = left e - q * (k e - left e) }
+  again = record { n = s e .args .s .n; wants = s e .args .s .wants; free = s e .args .s .free; k = left e - q * (k e - left e) }
 
   -- so many periods fit
   few : (q + 1) * (s e .args .table .unit * s e .args .table .units) ≤ 2 ^ 49
@@ -125,7 +124,7 @@ module _ (c : tie.After-reach2) where
 
 returns-2 : tie.Need-returns-2
 returns-2 c =
-    let g = c .before .before in
+    let g = c .before .before .before in
     let r = g .reach2 .ensures in (
       r .1,
       soon g,
@@ -140,26 +139,26 @@ returns-2 c =
             later = refl;
             same = omega (arith, C .same, divided (h g) ms S X .2);
           },
+      r .5,
     )
 
 pub find-spec : {M : Type 1} → statement M
 find-spec =
     tie.close
     (tie.spec
-    (λ c. let z = c .before .before in omega (arith, z .pre .4, z .pre .5))
+    (λ c. let z = c .before in omega (arith, z .pre .4, z .pre .5))
     (λ c. let z = c .before .before .before in omega (arith, z .pre .0 .units, z .pre .3))
-    (λ c κs. tt)
     (λ c κs.
-    let z = c .before .before .before .before in
-    (z .pre .0, z .pre .1, z .pre .2, omega arith, omega (arith, z .pre .0 .units, z .pre .3), subst (Keeps (z .args .table) (allows (z .args .p))) (sym (c .none-kept .ensures)) (none-keeps (z .args .table) (allows (z .args .p)))))
+    let z = c .before .before .before in
+    (z .pre .0, z .pre .1, record { small = z .pre .2 .small; free = z .pre .2 .free }, omega arith, omega (arith, z .pre .0 .units, z .pre .3), z .pre .7))
     returns
     (λ c. o c .reach .ensures .2)
     (λ c κs. (omega (arith, o c .reach .ensures .2, s c .pre .4, s c .pre .5), known c .0, omega (arith, known c .1)))
     (λ c. o (e c) .reach .ensures .2)
     (λ c. omega (arith, once c .0, o (e c) .reach .ensures .2, s (e c) .pre .4, s (e c) .pre .5))
     (λ c. once c .0)
-    (λ c κs. let z = s (e c) in (z .pre .0, z .pre .1, z .pre .2, omega arith, omega (arith, z .pre .0 .units, z .pre .3), o (e c) .reach .ensures .5))
-    (λ c. let y = h (c .before) in omega (arith, few y, once y .0, s (e y) .pre .4, s (e y) .pre .5, o (e y) .reach .ensures .2, mul-le-mul-left (q y) (known (e y) .0)))
-    (λ c. omega (arith, s (e (h (c .before .before))) .pre .0 .all))
-    (λ c. omega (arith, few (h (c .before .before))))
+    (λ c κs. let z = s (e c) in (z .pre .0, z .pre .1, record { small = z .pre .2 .small; free = z .pre .2 .free }, omega arith, omega (arith, z .pre .0 .units, z .pre .3), o (e c) .reach .ensures .5))
+    (λ c. let y = h (c .before .before) in omega (arith, few y, once y .0, s (e y) .pre .4, s (e y) .pre .5, o (e y) .reach .ensures .2, mul-le-mul-left (q y) (known (e y) .0)))
+    (λ c. omega (arith, s (e (h (c .before .before .before))) .pre .0 .all))
+    (λ c. omega (arith, few (h (c .before .before .before))))
     returns-2)

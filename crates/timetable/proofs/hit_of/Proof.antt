@@ -6,7 +6,7 @@ use Rattle.counting.specs.Counting.{Nth}
 use Rattle.spans.specs.Pattern.{allows}
 use Rattle.messages.specs.declared.Messages.{Messages}
 use Rattle.messages.specs.Messages.{remaining}
-use Rattle.timetable.specs.declared.Sight.{Sight}
+use Rattle.units.specs.declared.Sight.{Sight}
 use Rattle.units.specs.Quick.{Serves}
 use Rattle.timetable.specs.Quick.{SightAt, moved, Hits}
 use Rattle.timetable.proofs.Searching.{hit-is}

@@ -13,10 +13,9 @@ use Rattle.counting.proofs.Rank.{rank-count}
 use Rattle.spans.specs.Pattern.{allows, periodOf}
 use Rattle.messages.proofs.Listing.{listed}
 use Rattle.units.specs.declared.Timetable.{Timetable}
-use Rattle.timetable.specs.declared.Sight.{Sight}
+use Rattle.units.specs.declared.Sight.{Sight}
 use Rattle.messages.specs.Messages.{allPeriods, remaining}
-use Rattle.units.specs.Quick.{beginOf, Serves, Exact, Allowing}
-use Rattle.strides.specs.Quick.{Keeps}
+use Rattle.units.specs.Quick.{beginOf, wantsIn, Serves, Exact, Allowing}
 use Rattle.timetable.specs.Quick.{Scanned}
 use Rattle.strides.proofs.Apart.{none-keeps}
 use Rattle.timetable.proofs.Searching.{allows-some, period-some, passed, walked, none-anywhere}
@@ -49,8 +48,8 @@ some c =
 
 -- the scan of a period stopped before its end, or passed all of it
 module _ (c : tie.After-scan) where
-  abbrev v : tie.After-wants-at
-  v = c .before .before .before
+  abbrev v : tie.After-sight-at
+  v = c .before .before .before .before
 
   abbrev t : tie.After-timetable-of
   t = v .before .before .before .before
@@ -68,10 +67,10 @@ module _ (c : tie.After-scan) where
   table = t .timetable-of .result
 
   abbrev n : ℕ
-  n = 4 * table .units + s .args .ms .count * table .l1 .window
+  n = v .sight-at .result .n
 
   abbrev from : Sight
-  from = record { n = n; wants = v .wants-at .result; k = 0 }
+  from = record { n = n; wants = v .sight-at .result .wants; free = v .sight-at .result .free; k = 0 }
 
   abbrev end : ℕ
   end = n + table .units
@@ -82,7 +81,8 @@ module _ (c : tie.After-scan) where
   scanned : Scanned (s .args .ms) u table from end (c .scan .result .even) (c .scan .result .sight)
   scanned =
       c .scan .ensures .4 (s .args .ms) serves
-      (subst (Exact (s .args .ms) u table n) (sym (v .wants-at .ensures .0)) (walked (s .args .ms) (s .args .p) (s .pre .1) table serves n (omega arith)))
+      (subst (Exact (s .args .ms) u table n) (ap (wantsIn table u) (v .sight-at .ensures .0) ∙ sym (v .sight-at .ensures .1))
+      (walked (s .args .ms) (s .args .p) (s .pre .1) table serves n (omega (arith, v .sight-at .ensures .0))))
 
   stopped : c .scan .result .sight .n < end → eqb (c .scan .result .sight .n) end ≡ eqb (rank all allPeriods) 0
   stopped h =
@@ -125,11 +125,12 @@ is-empty-spec =
     (λ c. omega (arith, few (c .before .before .before)))
     (λ c. omega (arith, few (c .before .before .before)))
     (λ c κs. let t = c .before .before .before in (t .timetable-of .ensures .1, some (t .before), omega arith, omega (arith, few t)))
-    (λ c. omega (arith, few (c .before .before .before .before .before)))
+    (λ c. let v = c .before .before in omega (arith, v .sight-at .ensures .0, few (v .before .before .before .before)))
     (λ c κs. tt)
     (λ c κs.
-    let v = c .before .before in
+    let v = c .before .before .before in
     let t = v .before .before .before .before in
     let z = t .before .before .before in
-    (t .timetable-of .ensures .1, some (t .before), v .wants-at .ensures .1, omega arith, omega (arith, few t), subst (Keeps (t .timetable-of .result) (allows (z .args .p))) (sym (c .none-kept .ensures)) (none-keeps (t .timetable-of .result) (allows (z .args .p)))))
+    let e = v .sight-at .ensures in
+    (t .timetable-of .ensures .1, some (t .before), record { small = e .2 .small; free = e .2 .free }, omega arith, omega (arith, e .0, few t), none-keeps (t .timetable-of .result) (allows (z .args .p)) (c .none-kept .result) (c .none-kept .ensures)))
     returns-2)

@@ -1,5 +1,6 @@
 use native.Mathlib.Omega.{arith}
 use Rattle.spans.specs.Pattern.{allows}
+use Rattle.strides.proofs.Apart.{none-keeps}
 use Rattle.timetable.specs.Quick.{moved, Hits}
 use Rattle.timetable.proofs.Searching.{found-is, sighted, struck}
 use Rattle.timetable.proofs.nth.Statement.{statement}
@@ -7,7 +8,7 @@ use Rattle.timetable.proofs.nth.Tie as tie
 
 module _ (c : tie.After-find) where
   abbrev g : tie.After-seek-from
-  g = c .before
+  g = c .before .before
 
   abbrev s : tie.Start
   s = g .before
@@ -20,11 +21,13 @@ nth-spec =
     tie.close
     (tie.spec
     (λ c κs. (c .pre .0, c .pre .1, c .pre .2))
+    (λ c κs. tt)
     (λ c κs.
-    let B = c .seek-from .ensures in
-    let r = c .seek-from .result in
-    let z = c .before in
-    (B .sized, B .allowing, B .small, omega (arith, B .early), omega (arith, B .few), z .pre .4, sighted (z .args .ms) (z .args .p) (z .args .from) r B (r .sight .n) (r .sight .wants) (B .sight .exact)))
+    let o = c .before in
+    let B = o .seek-from .ensures in
+    let r = o .seek-from .result in
+    let z = o .before in
+    (B .sized, B .allowing, B .seen, omega (arith, B .early), omega (arith, B .few), z .pre .4, sighted (z .args .ms) (z .args .p) (z .args .from) r B (r .sight .n) (r .sight .wants) (B .sight .exact), none-keeps (r .table) (allows (z .args .p)) (c .none-kept .result) (c .none-kept .ensures)))
     (λ c κs.
     let B = g c .seek-from .ensures in
     let z = s c in

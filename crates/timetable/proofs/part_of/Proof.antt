@@ -11,8 +11,9 @@ use Rattle.spans.specs.Pattern.{allows}
 use Rattle.messages.specs.declared.Messages.{Messages}
 use Rattle.messages.specs.Messages.{remaining}
 use Rattle.units.specs.Quick.{beginOf, unitNeed, Serves, Exact}
-use Rattle.timetable.proofs.Searching.{first-count, remains-here}
-use Rattle.strides.proofs.Striding.{count-most}
+use Rattle.timetable.proofs.Searching.{first-count}
+use Rattle.units.proofs.Lanes.{count-most}
+use Rattle.units.proofs.Finding.{remains-here}
 use Rattle.timetable.proofs.part_of.Statement.{statement}
 use Rattle.timetable.proofs.part_of.Tie as tie
 
@@ -31,16 +32,16 @@ later c =
 
 module _ (c : tie.After-monus) where
   abbrev o : tie.After-spot-of
-  o = c .before .before .before .before .before .before
+  o = c .before .before .before .before
 
   abbrev s : tie.Start
   s = o .before
 
   abbrev h : tie.After-counted
-  h = c .before .before .before .before
+  h = c .before .before .before
 
   abbrev m : ℕ
-  m = o .spot-of .result .n
+  m = h .counted .result .n
 
   last-is : c .monus .result ≡ count (allows (s .args .p)) (beginOf (s .args .table) m) (o .spot-of .result .y) - unitNeed (s .args .table) m (h .counted .result .wants)
   last-is = c .monus .ensures ∙ ap₂ (λ (a b : ℕ). a - b) (c .before .before .free-first .ensures) (c .before .all-need .ensures .0)
@@ -48,9 +49,12 @@ module _ (c : tie.After-monus) where
   last-small : c .monus .result ≤ 160
   last-small = omega (arith, last-is, count-most (allows (s .args .p)) (o .spot-of .result .y) (beginOf (s .args .table) m), o .spot-of .ensures .inside, s .pre .0 .unit)
 
+  begins : beginOf (s .args .table) m + o .spot-of .result .y ≡ s .args .t + 5 * (s .args .table .unit * s .args .table .units)
+  begins = ap (λ (n : ℕ). beginOf (s .args .table) n + o .spot-of .result .y) (h .counted .ensures .0) ∙ o .spot-of .ensures .there
+
   module _ (ms : Messages) (S : Serves ms (s .args .table)) (X : Exact ms (allows (s .args .p)) (s .args .table) (s .args .s .n) (s .args .s .wants)) where
     there : Exact ms (allows (s .args .p)) (s .args .table) m (h .counted .result .wants)
-    there = subst (λ (n : ℕ). Exact ms (allows (s .args .p)) (s .args .table) n (h .counted .result .wants)) (h .counted .ensures .0) (h .counted .ensures .3 ms S X .exact)
+    there = h .counted .ensures .3 ms S X .exact
 
     reached : rank (remaining ms (allows (s .args .p))) (beginOf (s .args .table) (s .args .s .n)) + (h .counted .result .k + c .monus .result)
         ≡ rank (remaining ms (allows (s .args .p))) (s .args .t + 5 * (s .args .table .unit * s .args .table .units))
@@ -60,10 +64,9 @@ module _ (c : tie.After-monus) where
         omega (
           arith,
           h .counted .ensures .3 ms S X .count,
-          ap (λ (n : ℕ). rank (remaining ms u) (beginOf tb n)) (h .counted .ensures .0),
           last-is,
           first-count ms (s .args .p) (s .pre .1 .regular) tb S m (o .spot-of .result .y) (h .counted .result .wants) there (omega (arith, o .spot-of .ensures .inside)),
-          ap (rank (remaining ms u)) (o .spot-of .ensures .there),
+          ap (rank (remaining ms u)) begins,
         )
 
     -- t itself
@@ -71,7 +74,7 @@ module _ (c : tie.After-monus) where
     remains a e =
         ap₂ (λ (x y : Bool). x && y) e (ap₂ leb (c .before .all-need .ensures .0) (c .before .before .free-first .ensures))
         ∙ remains-here ms (s .args .p) (s .pre .1 .regular) (s .args .table) S m (o .spot-of .result .y) (s .args .t) (h .counted .result .wants) there
-        (o .spot-of .ensures .inside) (o .spot-of .ensures .there)
+        (o .spot-of .ensures .inside) begins
 
   enough : s .args .s .k ≤ h .counted .result .k + c .monus .result
   enough = omega (arith, reached (s .pre .5 .ms) (s .pre .5 .serves) (s .pre .5 .exact), s .pre .5 .early)
@@ -82,23 +85,30 @@ part-of-spec =
     (tie.spec
     (λ c κs. (c .pre .0, c .pre .3))
     (λ c κs.
+    let z = c .before in
+    (z .pre .0, z .pre .1, z .pre .2, later c, omega (arith, c .spot-of .ensures .early), record { ms = z .pre .5 .ms; serves = z .pre .5 .serves; exact = z .pre .5 .exact }))
+    (λ c κs.
     let v = c .before in
     let z = v .before in
-    (z .pre .0, z .pre .1, z .pre .2, later v, omega (arith, v .spot-of .ensures .early), record { ms = z .pre .5 .ms; serves = z .pre .5 .serves; exact = z .pre .5 .exact }))
+    let e = c .counted .ensures in
+    (z .pre .0, z .pre .1, omega (arith, e .0, v .spot-of .ensures .early), omega (arith, v .spot-of .ensures .inside, z .pre .0 .unit), e .1 .free))
     (λ c κs.
-    let v = c .before .before .before in
-    let z = v .before in
-    (z .pre .0, z .pre .1, omega (arith, v .spot-of .ensures .early), omega (arith, v .spot-of .ensures .inside, z .pre .0 .unit)))
-    (λ c κs.
-    let k = c .before .before in
-    let v = k .before .before in
-    (v .before .pre .0, omega (arith, v .spot-of .ensures .early), k .counted .ensures .1))
+    let k = c .before in
+    let v = k .before in
+    (v .before .pre .0, omega (arith, k .counted .ensures .0, v .spot-of .ensures .early), k .counted .ensures .1 .small))
     (λ c κs. tt)
-    (λ c κs. s (c) .pre .1 .regular)
+    (λ c κs. s c .pre .1 .regular)
     (λ c. let q = c .before .before in omega (arith, last-small q, h q .counted .ensures .2))
     (λ c. enough (c .before .before .before))
     (λ c.
     let q = c .before .before .before in (
       omega (arith, last-small q, h q .counted .ensures .2),
-      λ ms S X. record { before = omega (arith, reached q ms S X, enough q); remains = remains q ms S X _ (c .before .before .is-allowed .ensures) },
+      h q .counted .ensures .1,
+      h q .counted .ensures .2,
+      omega (arith, begins q),
+      λ ms S X. record {
+        before = omega (arith, reached q ms S X, enough q);
+        remains = remains q ms S X _ (c .before .before .is-allowed .ensures);
+        here = h q .counted .ensures .3 ms S X;
+      },
     )))

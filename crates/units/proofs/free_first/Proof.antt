@@ -8,16 +8,14 @@ use Rattle.units.specs.Quick.{beginOf}
 use Rattle.units.proofs.free_first.Statement.{statement}
 use Rattle.units.proofs.free_first.Tie as tie
 
--- the ranks at both ends
-counted : (c : tie.After-free-before2)
-    → c .before .free-before .result ≡ c .free-before2 .result + count (allows (c .before .before .before .args .p)) (beginOf (c .before .before .before .args .table) (c .before .before .before .args .n)) (c .before .before .before .args .y)
+counted : (c : tie.After-free-before) → c .free-before .result ≡ c .before .before .args .free
+    + count (allows (c .before .before .args .p)) (beginOf (c .before .before .args .table) (c .before .before .args .n)) (c .before .before .args .y)
 counted c =
-    let f = c .before in
-    let b = f .before in
+    let b = c .before in
     let a = b .before .args in
     let u = allows (a .p) in
-    f .free-before .ensures ∙ ap (λ (x : ℕ). rank u (x + a .y)) (b .begin .ensures .0)
-    ∙ omega (arith, rank-count u (a .y) (beginOf (a .table) (a .n)), c .free-before2 .ensures, ap (rank u) (b .begin .ensures .0))
+    c .free-before .ensures ∙ ap (λ (x : ℕ). rank u (x + a .y)) (b .begin .ensures .0)
+    ∙ omega (arith, rank-count u (a .y) (beginOf (a .table) (a .n)), b .before .pre .4)
 
 pub free-first-spec : {M : Type 1} → statement M
 free-first-spec =
@@ -26,6 +24,5 @@ free-first-spec =
     (λ c κs. (c .pre .0, c .pre .2))
     (λ c. omega (arith, c .begin .ensures .1, c .before .pre .3))
     (λ c κs. (c .before .pre .1, omega (arith, c .begin .ensures .1, c .before .pre .3)))
-    (λ c κs. (c .before .before .pre .1, omega (arith, c .before .begin .ensures .1)))
     (λ c. omega (arith, counted c))
     (λ c. omega (arith, counted c)))

@@ -12,16 +12,16 @@ known c = c .before .pre .3 (c .if1 .taken)
 returns : tie.Need-returns
 unfolding laneOf
 returns c =
-    let l = c .before .before in
+    let l = c .before in
     let o = l .before in
-    let e = o .before .before in
+    let e = o .before in
     let a = e .before .args in
     rw (e .if1 .taken)
     (λ i. record {
-      log = o .ones-of .ensures i - a .k;
-      start = (l .low .ensures ∙ ap (λ (x : ℕ). a .before * a .window % 2 ^ (x - a .k)) (o .ones-of .ensures)) i;
+      log = o .log-of .ensures i - a .k;
+      start = (l .low .ensures ∙ ap (λ (x : ℕ). a .before * a .window % 2 ^ (x - a .k)) (o .log-of .ensures)) i;
       window = a .window;
-      every = c .ones-of2 .ensures i - a .k;
+      every = c .log-of2 .ensures i - a .k;
       size = a .s .size;
     })
 
@@ -33,14 +33,12 @@ pub lane-of-spec : {M : Type 1} → statement M
 lane-of-spec =
     tie.close
     (tie.spec
-    (λ c. known (c .before) .period)
-    (λ c κs. tt)
-    (λ c. omega (arith, c .ones-of .ensures, known (c .before .before) .periodUnits))
-    (λ c. let s = c .before .before .before in let h : s .args .before * s .args .window ≤ 3 * 160 = mul-le-mul (s .pre .0) (s .pre .1) in omega (arith, h))
-    (λ c κs. omega (arith, c .ones-of .ensures, known (c .before .before) .periodSmall))
-    (λ c. known (c .before .before .before .before) .every)
-    (λ c κs. tt)
-    (λ c. omega (arith, c .ones-of2 .ensures, known (c .before .before .before .before .before) .everyUnits))
+    (λ c κs. known c .period)
+    (λ c. omega (arith, c .log-of .ensures, known (c .before) .periodUnits))
+    (λ c. let s = c .before .before in let h : s .args .before * s .args .window ≤ 3 * 160 = mul-le-mul (s .pre .0) (s .pre .1) in omega (arith, h))
+    (λ c κs. omega (arith, c .log-of .ensures, known (c .before) .periodSmall))
+    (λ c κs. known (c .before .before) .every)
+    (λ c. omega (arith, c .log-of2 .ensures, known (c .before .before .before) .everyUnits))
     returns
     (λ c. omega (arith, c .before .pre .2))
     returns-2)

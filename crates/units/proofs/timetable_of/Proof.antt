@@ -5,10 +5,11 @@ use native.Mathlib.Omega.{arith}
 use lib.Pow.{pow-pos, pow-mono, shr-le}
 use Rattle.messages.specs.declared.Messages.{Messages}
 use Rattle.messages.specs.declared.Schedule.{Schedule}
+use Rattle.units.specs.declared.Logs.{Logs}
 use Rattle.units.specs.declared.Lane.{Lane}
 use Rattle.units.specs.declared.Timetable.{Timetable}
 use Rattle.messages.specs.Messages.{windowFrames, isRead}
-use Rattle.units.specs.Quick.{shortestOf, InUnits, laneOf, timetableOf, Sized}
+use Rattle.units.specs.Quick.{shortestOf, longestOf, InUnits, laneOf, timetableOf, Sized}
 use Rattle.messages.proofs.Listing.{window, listed}
 use Rattle.units.proofs.Timetables.{Entry, shortest-to, longest-from, longest-to, in-units, entry-1, entry-2, entry-3, entry-4, sized}
 use Rattle.units.proofs.timetable_of.Statement.{statement}
@@ -20,10 +21,10 @@ module _ (c : tie.After-power-of-two) where
   ms = c .before .before .before .args .ms
 
   abbrev k : ℕ
-  k = c .before .before .shortest .result
+  k = c .before .before .logs-of .result .shortest
 
   k-is : k ≡ shortestOf ms
-  k-is = c .before .before .shortest .ensures
+  k-is = ap (λ (l : Logs). l .shortest) (c .before .before .logs-of .ensures)
 
   k-small : k ≤ 4
   k-small = omega (arith, k-is, shortest-to ms (c .before .before .before .pre))
@@ -47,12 +48,15 @@ module _ (c : tie.After-power-of-two) where
   lane-is : (l : Lane) (read : Bool) (s : Schedule) (before : ℕ) → l ≡ laneOf read s before w k → l ≡ laneOf read s before (windowFrames ms / 2 ^ shortestOf ms) (shortestOf ms)
   lane-is l read s before e = e ∙ ap₂ (laneOf read s before) window-is k-is
 
-units-small : (c : tie.After-longest) → (c .before .before .before .before .before .shortest .result ≤ c .longest .result) × (c .longest .result ≤ 12)
+longest-is : (c : tie.After-logs-of) → c .logs-of .result .longest ≡ longestOf (c .before .args .ms)
+longest-is c = ap (λ (l : Logs). l .longest) (c .logs-of .ensures)
+
+units-small : (c : tie.After-power-of-two) → (k c ≤ c .before .before .logs-of .result .longest) × (c .before .before .logs-of .result .longest ≤ 12)
 units-small c =
-    let p = c .before .before .before in
-    let s = p .before .before .before in (
-      omega (arith, k-is p, c .longest .ensures, shortest-to (s .args .ms) (s .pre), longest-from (s .args .ms) (s .pre)),
-      omega (arith, c .longest .ensures, longest-to (s .args .ms) (s .pre)),
+    let o = c .before .before in
+    let s = o .before in (
+      omega (arith, k-is c, longest-is o, shortest-to (s .args .ms) (s .pre), longest-from (s .args .ms) (s .pre)),
+      omega (arith, longest-is o, longest-to (s .args .ms) (s .pre)),
     )
 
 made : (c : tie.After-lane-of4) → _≡_ {A = Timetable} (record {
@@ -77,7 +81,7 @@ made c =
     λ i. record {
       first = 10 * m .offset;
       unit = 10 * (d .power-of-two2 .ensures ∙ ap (λ (n : ℕ). 2 ^ n) (k-is p)) i;
-      units = (u .power-of-two3 .ensures ∙ ap₂ (λ (a b : ℕ). 2 ^ (a - b)) (g .longest .ensures) (k-is p)) i;
+      units = (u .power-of-two3 .ensures ∙ ap₂ (λ (a b : ℕ). 2 ^ (a - b)) (longest-is (p .before .before)) (k-is p)) i;
       l1 = lane-is p _ (isRead m 1) (m .s1) 0 (l1 .lane-of .ensures) i;
       l2 = lane-is p _ (isRead m 2) (m .s2) 1 (l2 .lane-of2 .ensures) i;
       l3 = lane-is p _ (isRead m 3) (m .s3) 2 (l3 .lane-of3 .ensures) i;
@@ -94,14 +98,13 @@ timetable-of-spec =
     tie.close
     (tie.spec
     (λ c κs. c .pre)
-    (λ c κs. let s = c .before .before in omega (arith, c .before .shortest .ensures, shortest-to (s .args .ms) (s .pre)))
+    (λ c κs. let o = c .before in omega (arith, ap (λ (l : Logs). l .shortest) (o .logs-of .ensures), shortest-to (o .before .args .ms) (o .before .pre)))
     (λ c. omega (arith, power-is c, pow-pos (shortestOf (ms c))))
     (λ c. let s = c .before .before .before .before in omega (arith, listed (s .args .ms) (s .pre) .offsetTo))
     (λ c κs. omega (arith, k-small (c .before)))
     (λ c. let p = c .before .before in omega (arith, c .power-of-two2 .ensures, pow-mono {i = k p} {j = 4} (k-small p)))
-    (λ c κs. c .before .before .before .before .before .pre)
-    (λ c. units-small c .0)
-    (λ c κs. omega (arith, units-small c .1))
+    (λ c. units-small (c .before .before .before) .0)
+    (λ c κs. omega (arith, units-small (c .before .before .before) .1))
     (λ c κs. let p = c .before .before .before .before in ready p (isRead (ms p) 1) (ms p .s1) 0 (omega arith) (entry-1 (ms p) (p .before .before .before .pre)))
     (λ c κs. let p = c .before .before .before .before .before in ready p (isRead (ms p) 2) (ms p .s2) 1 (omega arith) (entry-2 (ms p) (p .before .before .before .pre)))
     (λ c κs. let p = c .before .before .before .before .before .before in ready p (isRead (ms p) 3) (ms p .s3) 2 (omega arith) (entry-3 (ms p) (p .before .before .before .pre)))
