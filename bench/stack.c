@@ -8,10 +8,10 @@
 
 enum { STACK = 1 << 18, PAINT = 0xa5 };
 
-static uint64_t answer[8];
+static uint64_t answer[8], candidates[NBIOT_SEARCH_NUMBERS];
 static float output[336], pair[2];
 static const uint64_t cell[] = {1, 0, 5, 1, 4, 1, 1, 40}, down[] = {1000, 3, 64, 7, 9}, control[] = {1000, 64, 0, 1};
-static const uint64_t up[] = {1000, 1, 14, 5, 6, 2, 3}, ack[] = {1000, 1, 6, 5};
+static const uint64_t up[] = {1000, 1, 14, 5, 6, 2, 3}, ack[] = {1000, 1, 6, 5}, space[] = {1000, 64, 3, 1};
 static const uint64_t windows[17] = {3, 160, 8, 688128, 0, 320, 64, 786432, 20, 2560, 256, 6291456, 8};
 static const uint8_t anchor[] = {0xff, 0xf7, 0xdb, 0xff, 0xff}, other[5];
 static uint8_t bits[320];
@@ -45,6 +45,7 @@ static uint64_t backward_ack(void) { return nbiot_backward_ack(ack, 4, 2040, 0, 
 static uint64_t backward_ack_windows(void) { return nbiot_backward_ack_windows(ack, 4, WINDOWS, 2040, 0, 2, ANSWER); }
 static uint64_t backward_down(void) { return nbiot_backward_down(CELL, down, 5, 1100, 1, 2, 7, ANSWER); }
 static uint64_t backward_control(void) { return nbiot_backward_control(CELL, control, 4, 1011, 1, 2, 7, ANSWER); }
+static uint64_t search(void) { return nbiot_search(CELL, space, 4, candidates, NBIOT_SEARCH_NUMBERS); }
 
 static uint64_t step_up(void) {
     uint64_t walk[8] = {100};
@@ -95,6 +96,7 @@ static uint64_t forward_down_messages(void) { return nbiot_forward_down(MESSAGES
 static uint64_t forward_control_messages(void) { return nbiot_forward_control(MESSAGES, control, 4, 100, ANSWER); }
 static uint64_t backward_down_messages(void) { return nbiot_backward_down(MESSAGES, down, 5, 1100, 1, 2, 7, ANSWER); }
 static uint64_t backward_control_messages(void) { return nbiot_backward_control(MESSAGES, control, 4, 1011, 1, 2, 7, ANSWER); }
+static uint64_t search_messages(void) { return nbiot_search(MESSAGES, space, 4, candidates, NBIOT_SEARCH_NUMBERS); }
 
 static uint64_t step_down_messages(void) {
     uint64_t walk[29] = {5000};
@@ -146,6 +148,7 @@ int main(void) {
         {"forward up", forward_up}, {"forward ack", forward_ack}, {"forward down", forward_down}, {"forward control", forward_control},
         {"backward up", backward_up}, {"backward ack", backward_ack}, {"backward down", backward_down}, {"backward control", backward_control},
         {"step up", step_up}, {"step ack", step_ack}, {"step down", step_down}, {"step control", step_control}, {"fill", fill}, {"element", element},
+        {"search", search},
         {"plan up, windows", plan_up_windows}, {"plan ack, windows", plan_ack_windows},
         {"forward up, windows", forward_up_windows}, {"forward ack, windows", forward_ack_windows},
         {"backward up, windows", backward_up_windows}, {"backward ack, windows", backward_ack_windows},
@@ -155,7 +158,7 @@ int main(void) {
         {"forward down, messages", forward_down_messages}, {"forward control, messages", forward_control_messages},
         {"backward down, messages", backward_down_messages}, {"backward control, messages", backward_control_messages},
         {"step down, messages", step_down_messages}, {"step control, messages", step_control_messages},
-        {"fill, messages", fill_messages}, {"element, messages", element_messages},
+        {"fill, messages", fill_messages}, {"element, messages", element_messages}, {"search, messages", search_messages},
     };
     uint64_t number;
     size_t base = depth(nothing, &number);

@@ -24,6 +24,8 @@
  *    10  a field above its largest number, or NCCE 1 with format 1
  *    11  subcarrier field 48 to 63 at 3.75 kHz, 19 to 63 at 15 kHz
  *    12  Rmax or NPDCCH copies not a power of two, 1 to 2048
+ *    22  a search space whose period is below 4 subframes
+ *    23  a search space whose offset is not below a hyperframe, 10240 subframes
  *    13  MCS 5 to 15
  *    19  a fifth random access window, a number of a window that is not listed, or its tones past 47
  *    20  the windows leave no group of slots ever free on the granted tones
@@ -31,7 +33,7 @@
  *    15  bits not ceil(N * E / 4) bytes, or output not 336 numbers
  *    16  level not from 2^-20 to 2^20
  *    17  fill asked for two ports
- *   255  a cell, grant, walk, windows, answer or amplitudes buffer is too short: judged first, and nothing is written
+ *   255  a cell, grant, walk, windows, search space, answer or amplitudes buffer is too short: judged first, and nothing is written
  *
  * A refused call answers its number and zeros in the answer; output and walk stay as they were. A buffer that is longer than
  * needed keeps its rest, so that a later version may answer more numbers.
@@ -143,6 +145,15 @@ enum {
     NBIOT_CONTROL_FORMAT, /* 0: one NCCE, 1: both */
     NBIOT_CONTROL_NCCE,
     NBIOT_CONTROL_NUMBERS
+};
+
+/* A UE-specific search space of NPDCCH, asked from subframe n on. G and the offset are fields, rmax is the number itself. */
+enum {
+    NBIOT_SPACE_N,
+    NBIOT_SPACE_RMAX,
+    NBIOT_SPACE_G,     /* 0 to 7: 1.5, 2, 4, 8, 16, 32, 48, 64; the period is rmax times it, in subframes */
+    NBIOT_SPACE_ALPHA, /* 0 to 3: the offset is 0, 1/8, 1/4 or 3/8 of the period, rounded down */
+    NBIOT_SPACE_NUMBERS
 };
 
 /*
@@ -389,6 +400,32 @@ uint64_t nbiot_step_control(uint64_t *walk, size_t walk_len,
                             const uint8_t *anchor, size_t anchor_len,
                             const uint8_t *other, size_t other_len,
                             uint64_t *answer, size_t answer_len);
+
+/*
+ * Where NPDCCH may start: the first start of the search space not before n, which need not be usable, and all candidates of format 1 from
+ * there on, by their first subframe and then by R. Candidate i, from 0, has its numbers from NBIOT_SEARCH_FIRST + i *
+ * NBIOT_CANDIDATE_NUMBERS on; past the count all are 0. A candidate's last subframe is the n of the grant that it orders.
+ */
+enum {
+    NBIOT_CANDIDATE_FIRST, /* first subframe: the n of an NPDCCH grant */
+    NBIOT_CANDIDATE_R,     /* how often it is sent: its r */
+    NBIOT_CANDIDATE_LAST,  /* last subframe */
+    NBIOT_CANDIDATE_NUMBERS
+};
+
+enum {
+    NBIOT_SEARCH_NO,
+    NBIOT_SEARCH_START,
+    NBIOT_SEARCH_COUNT, /* 1, 3, 7 or 15 */
+    NBIOT_SEARCH_FIRST,
+    NBIOT_SEARCH_NUMBERS = NBIOT_SEARCH_FIRST + 15 * NBIOT_CANDIDATE_NUMBERS
+};
+
+uint64_t nbiot_search(const uint64_t *cell, size_t cell_len,
+                      const uint8_t *anchor, size_t anchor_len,
+                      const uint8_t *other, size_t other_len,
+                      const uint64_t *space, size_t space_len,
+                      uint64_t *answer, size_t answer_len);
 
 /*
  * Fill transmitted subframe i of an NPDSCH on one port: QPSK from the codeword's bits, the first bit the highest of byte 0.

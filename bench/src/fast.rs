@@ -10,6 +10,7 @@ mod elements;
 mod fill;
 mod left;
 mod messages;
+mod search;
 mod timeline;
 mod timetable;
 mod uplink;
@@ -22,6 +23,7 @@ pub use elements::count;
 pub use downlink::{backward_control, backward_down, forward_control, forward_down, plan_control, plan_down, step_control, step_down};
 pub use fill::{element, fill};
 pub use messages::Messages;
+pub use search::search;
 pub use uplink::{
     backward_up, backward_up_windows, forward_up, forward_up_windows, plan_up, plan_up_windows, step_up, step_up_windows,
 };
@@ -31,6 +33,7 @@ pub type UpGrant = [u64; 7];
 pub type AckGrant = [u64; 4];
 pub type DownGrant = [u64; 5];
 pub type ControlGrant = [u64; 4];
+pub type SearchSpace = [u64; 4];
 pub type UpWalk = [u64; 8];
 pub type AckWalk = [u64; 5];
 pub type DownWalk<const N: usize = 14> = [u64; N];

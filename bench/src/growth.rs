@@ -1,5 +1,6 @@
 //! The second table: what a call costs as one number of its grant, or the bitmap's ones, change.
 
+use crate::fast;
 use crate::measure::versus;
 use crate::ours;
 use crate::scene::{Random, Scene};
@@ -102,5 +103,43 @@ pub fn table(r: &mut Random) {
     }
     for ones in [40, 20, 10, 5, 2, 1] {
         line("bitmap with ones", ones, times(&mut scenes(r, |s| s.sparse(ones))));
+    }
+}
+
+/// Search spaces of Rmax 2048 and G 4 on such anchors, with one change.
+fn spaces(r: &mut Random, change: impl Fn(&mut Scene)) -> Vec<Scene> {
+    let made = (0..SCENES).map(|_| {
+        let mut scene = Scene::accepted(r).with_space([100 + r.below(1000), 2048, 2, r.below(4)]);
+        scene.cell = [3, 0, r.below(504), 2, 0, 0, r.below(12), 0];
+        change(&mut scene);
+        scene
+    });
+    made.collect()
+}
+
+/// A line of search: nanoseconds a call of ours and of fast.
+macro_rules! search_line {
+    ($name:expr, $value:expr, $scenes:expr) => {{
+        let mut answer = [0; 48];
+        let (ours, fast) = versus(
+            &mut $scenes[..],
+            |s| ours::search(&s.cell, &s.anchor, &s.other, &s.space, &mut answer),
+            |s| fast::search(&s.cell, &s.anchor, &s.other, &s.space),
+        );
+        println!("| {} | {} | {ours:.1} | {fast:.1} |", $name, $value);
+    }};
+}
+pub(crate) use search_line;
+
+pub fn search_table(r: &mut Random) {
+    println!("\n| search grows by | to | ours, ns | fast, ns |\n|---|---|---|---|");
+    for log in 0..12 {
+        search_line!("Rmax", 1 << log, spaces(r, |s| s.space[1] = 1 << log));
+    }
+    for log in [0, 6, 12, 18, 24, 29] {
+        search_line!("n", 1 << log, spaces(r, |s| s.space[0] = 1 << log));
+    }
+    for ones in [40, 20, 10, 5, 2, 1] {
+        search_line!("bitmap with ones", ones, spaces(r, |s| s.sparse(ones)));
     }
 }

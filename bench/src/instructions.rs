@@ -1,7 +1,7 @@
 //! Calls whose instructions are counted, each C function once on each of the same accepted scenes. `bench/instructions` has them counted by
 //! valgrind's callgrind, part by part: a count is over all calls of a function in one run. The scenes do not depend on the library.
 
-use crate::fast::{ControlGrant, DownGrant};
+use crate::fast::{ControlGrant, DownGrant, SearchSpace};
 use crate::messages::Messaged;
 use crate::ours;
 use crate::questions::elements;
@@ -18,19 +18,20 @@ struct Downlink<'a> {
     lent: [&'a [u8]; 2],
     down: &'a DownGrant,
     control: &'a ControlGrant,
+    space: &'a SearchSpace,
     p: [u64; 2],
     at_down: [u64; 4],
     at_control: [u64; 4],
 }
 
 fn downlink(s: &Scene) -> Downlink<'_> {
-    let &Scene { ref cell, ref anchor, ref other, ref down, ref control, p: [_, p, q, _], at_down, at_control, .. } = s;
-    Downlink { cell, lent: [anchor, other], down, control, p: [p, q], at_down, at_control }
+    let &Scene { ref cell, ref anchor, ref other, ref down, ref control, ref space, p: [_, p, q, _], at_down, at_control, .. } = s;
+    Downlink { cell, lent: [anchor, other], down, control, space, p: [p, q], at_down, at_control }
 }
 
 fn downlink_with_messages(s: &Messaged) -> Downlink<'_> {
-    let &Messaged { ref cell, ref anchor, ref other, ref down, ref control, p, at_down, at_control, .. } = s;
-    Downlink { cell, lent: [anchor, other], down, control, p, at_down, at_control }
+    let &Messaged { ref cell, ref anchor, ref other, ref down, ref control, ref space, p, at_down, at_control, .. } = s;
+    Downlink { cell, lent: [anchor, other], down, control, space, p, at_down, at_control }
 }
 
 fn cell(s: &Downlink) -> [u64; 4] {
@@ -77,6 +78,11 @@ fn control(s: &Downlink) -> [u64; 3] {
         ours::forward_control(cell, anchor, other, s.control, s.p[1], &mut [0; 6]),
         ours::backward_control(cell, anchor, other, s.control, t, slot, l, k, &mut [0; 6]),
     ]
+}
+
+fn search(s: &Downlink) -> [u64; 1] {
+    let (cell, [anchor, other]) = (s.cell, s.lent);
+    [ours::search(cell, anchor, other, s.space, &mut [0; 48])]
 }
 
 /// The numbers of four steps, and how many of them finished.
@@ -138,6 +144,7 @@ fn unwindowed(s: &Scene) {
     expect(ack(s), 0);
     expect(down(&lent), 0);
     expect(control(&lent), 0);
+    expect(search(&lent), 0);
     assert_eq!(steps(s), ([0; 4], 0));
 }
 
@@ -147,6 +154,7 @@ fn with_messages(s: &Messaged) {
     expect(cell(&lent), 0);
     expect(down(&lent), 0);
     expect(control(&lent), 0);
+    expect(search(&lent), 0);
     let (mut walks, mut answer) = (s.clone(), [0; 7]);
     expect([ours::step_down(&mut walks.walk_down, &s.anchor, &s.other, &mut answer), answer[1]], 0);
     expect([ours::step_control(&mut walks.walk_control, &s.anchor, &s.other, &mut answer), answer[1]], 0);

@@ -17,16 +17,16 @@ use scene::{Random, Scene};
 const TIMED: usize = 512;
 const COMPARED: usize = 1 << 18;
 
-/// Accepted scenes, and the same with one port.
-fn accepted(r: &mut Random) -> (Vec<Scene>, Vec<Scene>) {
-    let timed: Vec<Scene> = (0..TIMED).map(|_| Scene::accepted(r)).collect();
+/// Accepted scenes, and the same with one port. Search spaces are drawn by a generator of their own.
+fn accepted(r: &mut Random, spaces: &mut Random) -> (Vec<Scene>, Vec<Scene>) {
+    let timed: Vec<Scene> = (0..TIMED).map(|_| Scene::accepted(r).with_space(scene::space(spaces))).collect();
     let ported = timed.iter().map(|s| s.clone().with_one_port(r)).collect();
     (timed, ported)
 }
 
-fn times(mut r: Random, mut w: Random, mut m: Random) {
-    let (mut timed, mut ported) = accepted(&mut r);
-    let mut compared: Vec<Scene> = (0..COMPARED).map(|_| Scene::any(&mut r)).collect();
+fn times(mut r: Random, mut w: Random, mut m: Random, mut spaces: Random) {
+    let (mut timed, mut ported) = accepted(&mut r, &mut spaces);
+    let mut compared: Vec<Scene> = (0..COMPARED).map(|_| Scene::any(&mut r).with_space(scene::any_space(&mut spaces))).collect();
     none::compare(&compared);
     messages::compare(&compared);
     questions::table(&mut timed, &mut ported, &mut compared);
@@ -35,33 +35,36 @@ fn times(mut r: Random, mut w: Random, mut m: Random) {
     questions::beside_windows(&mut timed, &mut compared);
     growth::table(&mut r);
     growth::uplink_table(&mut w);
-    messages_times(&mut m);
+    growth::search_table(&mut spaces);
+    messages_times(&mut m, &mut spaces);
 }
 
 /// The tables of cells with messages.
-fn messages_times(m: &mut Random) {
-    messages::table(m);
+fn messages_times(m: &mut Random, spaces: &mut Random) {
+    messages::table(m, spaces);
     messages::grown(m);
+    messages::search_grown(spaces);
 }
 
 /// Scenes as the times take them, but that there may be four windows.
-fn calls(mut r: Random, mut w: Random, part: &str) {
-    let (plain, ported) = accepted(&mut r);
+fn calls(mut r: Random, mut w: Random, mut spaces: Random, part: &str) {
+    let (plain, ported) = accepted(&mut r, &mut spaces);
     let beside: Vec<Scene> = plain.iter().map(|s| s.clone().beside_windows(&mut w, 4)).collect();
     instructions::call(part, &plain, &ported, &beside);
 }
 
 /// The same scenes with messages of a count of 0, or others with one schedule.
-fn messages_calls(mut r: Random, mut m: Random, part: &str) {
+fn messages_calls(mut r: Random, mut m: Random, mut spaces: Random, part: &str) {
     const NONE: fast::Messages = [160, 0, 0, 0, 0, 0, 0, 0, 0, 0, 0, 0, 0, 0, 0];
     let (plain, ported): (Vec<Messaged>, Vec<Messaged>);
     if part == "zero" {
-        let scenes = accepted(&mut r);
+        let scenes = accepted(&mut r, &mut spaces);
         plain = scenes.0.iter().map(|s| Messaged::of(s, &NONE)).collect();
         ported = scenes.1.iter().map(|s| Messaged::of(s, &NONE)).collect();
     } else {
         assert_eq!(part, "one", "no part");
-        plain = (0..TIMED).map(|_| Messaged::accepted(&mut m, Schedules::One)).collect();
+        let one = Schedules::One;
+        plain = (0..TIMED).map(|_| Messaged::accepted(&mut m, one).with_space(messages::space(&mut spaces, one))).collect();
         ported = plain.iter().map(|s| s.clone().with_one_port(&mut m)).collect();
     }
     instructions::call_with_messages(&plain, &ported);
@@ -69,14 +72,14 @@ fn messages_calls(mut r: Random, mut m: Random, part: &str) {
 
 fn main() {
     let (r, w) = (Random::new(0x9e37_79b9_7f4a_7c15), Random::new(0x2545_f491_4f6c_dd1d));
-    let mut m = Random::new(0xd1b5_4a32_d192_ed03);
+    let (mut m, mut spaces) = (Random::new(0xd1b5_4a32_d192_ed03), Random::new(0x8cb9_2ba7_2f3d_8dd7));
     let words: Vec<String> = std::env::args().skip(1).collect();
     match words.iter().map(String::as_str).collect::<Vec<_>>()[..] {
-        [] => times(r, w, m),
-        ["messages"] => messages_times(&mut m),
-        ["instructions"] => calls(r, w, "each"),
-        ["instructions", part] => calls(r, w, part),
-        ["instructions", "messages", part] => messages_calls(r, m, part),
+        [] => times(r, w, m, spaces),
+        ["messages"] => messages_times(&mut m, &mut spaces),
+        ["instructions"] => calls(r, w, spaces, "each"),
+        ["instructions", part] => calls(r, w, spaces, part),
+        ["instructions", "messages", part] => messages_calls(r, m, spaces, part),
         _ => panic!("expected nothing, or: messages, or: instructions [PART], or: instructions messages PART"),
     }
 }

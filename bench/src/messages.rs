@@ -7,7 +7,7 @@ mod lengths;
 mod scene;
 mod table;
 
-pub use growth::table as grown;
+pub use growth::{search_table as search_grown, table as grown};
 pub use lengths::compare;
-pub use scene::{Messaged, Schedules};
+pub use scene::{space, Messaged, Schedules};
 pub use table::table;

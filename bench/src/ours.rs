@@ -1,7 +1,7 @@
 //! The proved library, through its C functions. A call is safe: each buffer goes with its own length. A cell and a walk's record of the
 //! downlink may have any length, which says whether messages are lent.
 
-use crate::fast::{AckGrant, AckWalk, ControlGrant, DownGrant, UpGrant, UpWalk};
+use crate::fast::{AckGrant, AckWalk, ControlGrant, DownGrant, SearchSpace, UpGrant, UpWalk};
 
 extern "C" {
     fn nbiot_judge(cell: *const u64, cells: usize, anchor: *const u8, anchors: usize, other: *const u8, others: usize) -> u64;
@@ -64,6 +64,7 @@ downlink! {
     forward_control nbiot_forward_control (p) ControlGrant, 6;
     backward_down nbiot_backward_down (t, slot, l, k) DownGrant, 6;
     backward_control nbiot_backward_control (t, slot, l, k) ControlGrant, 6;
+    search nbiot_search () SearchSpace, 48;
 }
 
 /// Each question twice: without windows, and beside those that are lent.

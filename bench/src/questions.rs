@@ -44,6 +44,7 @@ pub fn table(timed: &mut [Scene], ported: &mut [Scene], compared: &mut [Scene]) 
     forwards(timed, compared);
     backwards(timed, compared);
     steps(timed, compared);
+    search(timed, compared);
     element(ported, compared);
     fill(ported, compared);
 }
@@ -275,6 +276,18 @@ fn steps_beside(timed: &mut [Scene], compared: &mut [Scene]) {
         |s, a| ours::step_ack_windows(&mut s.walk_ack, &s.windows[1], a),
         fast::step_ack_windows(&mut s.walk_ack, &s.windows[1])
     );
+}
+
+fn search(timed: &mut [Scene], compared: &mut [Scene]) {
+    line!(
+        "search", timed, compared, 48,
+        |s, a| ours::search(&s.cell, &s.anchor, &s.other, &s.space, a),
+        fast::search(&s.cell, &s.anchor, &s.other, &s.space)
+    );
+    let numbers: Vec<u64> = compared.iter().map(|s| fast::search(&s.cell, &s.anchor, &s.other, &s.space)[0]).collect();
+    let many = |no| numbers.iter().filter(|&&x| x == no).count();
+    assert!(2 * many(0) >= numbers.len(), "too few accepted search spaces");
+    assert!(many(22) > 0 && many(23) > 0, "no search space that is refused by itself");
 }
 
 /// The place of an element that is asked for.

@@ -1,6 +1,6 @@
 //! Inputs: cells and grants at random, accepted ones for the times and any for the comparison.
 
-use crate::fast::{self, AckGrant, AckWalk, Cell, ControlGrant, ControlWalk, DownGrant, DownWalk, UpGrant, UpWalk};
+use crate::fast::{self, AckGrant, AckWalk, Cell, ControlGrant, ControlWalk, DownGrant, DownWalk, SearchSpace, UpGrant, UpWalk};
 
 /// xorshift64*: the same numbers in every run.
 pub struct Random(u64);
@@ -36,8 +36,8 @@ impl Random {
     }
 }
 
-/// One cell and a grant of each kind, with a position, a place and a walk for each; the windows beside the two uplink grants; a transmitted
-/// subframe, and bits and a level to fill it.
+/// One cell and a grant of each kind, with a position, a place and a walk for each; the windows beside the two uplink grants; a search
+/// space; a transmitted subframe, and bits and a level to fill it.
 #[derive(Clone)]
 pub struct Scene {
     pub cell: Cell,
@@ -48,6 +48,7 @@ pub struct Scene {
     pub down: DownGrant,
     pub control: ControlGrant,
     pub windows: [Vec<u64>; 2],
+    pub space: SearchSpace,
     pub p: [u64; 4],
     pub at_up: [u64; 3],
     pub at_ack: [u64; 3],
@@ -106,6 +107,38 @@ pub fn control(r: &mut Random) -> ControlGrant {
     [r.below(1 << 30), 1 << r.below(12), format, if format == 0 { r.below(2) } else { 0 }]
 }
 
+/// Before one is drawn: search spaces have a generator of their own, so that those of the other inputs draw as if there were none.
+pub const NO_SPACE: SearchSpace = [0; 4];
+
+/// A search space, which may have a period too short or an offset too long.
+fn drawn_space(r: &mut Random) -> SearchSpace {
+    [r.below(1 << 30), 1 << r.below(12), r.below(8), r.below(4)]
+}
+
+/// A search space that is accepted: a period of 4 or more, and an offset in a hyperframe.
+pub fn space(r: &mut Random) -> SearchSpace {
+    loop {
+        let space = drawn_space(r);
+        let doubled = space[1] * [3, 4, 8, 16, 32, 64, 96, 128][space[2] as usize];
+        if doubled >= 8 && space[3] * (doubled / 2) / 8 < 10_240 {
+            return space;
+        }
+    }
+}
+
+/// Any search space: now and then one asked from one of the last subframes, or a number out of range.
+pub fn any_space(r: &mut Random) -> SearchSpace {
+    let mut space = drawn_space(r);
+    if r.below(16) == 0 {
+        space[0] = (1 << 30) - 1 - r.below(10_240);
+    }
+    let i = r.below(16) as usize;
+    if i < 4 {
+        space[i] = r.wild([1 << 30, 2049, 8, 4][i]);
+    }
+    space
+}
+
 /// One to so many windows that share a tone of 3.75 kHz.
 fn windows(r: &mut Random, tone: u64, most: u64) -> Vec<u64> {
     let count = 1 + r.below(most);
@@ -126,9 +159,9 @@ impl Scene {
         let (up, ack, down, control) = (up(r), ack(r), down(r), control(r));
         let (at_up, at_ack, at_down, at_control) = ([0; 3], [0; 3], [0; 4], [0; 4]);
         let (walk_up, walk_ack, walk_down, walk_control) = ([0; 8], [0; 5], [0; 14], [0; 13]);
-        let (i, bits, level) = (0, Vec::new(), 1.0);
+        let (space, i, bits, level) = (NO_SPACE, 0, Vec::new(), 1.0);
         Scene {
-            cell, anchor, other, up, ack, down, control, windows: [vec![], vec![]], p: [0; 4], at_up, at_ack, at_down, at_control,
+            cell, anchor, other, up, ack, down, control, windows: [vec![], vec![]], space, p: [0; 4], at_up, at_ack, at_down, at_control,
             walk_up, walk_ack, walk_down, walk_control, i, bits, level,
         }
     }
@@ -296,6 +329,11 @@ impl Scene {
         }
         scene.record();
         scene
+    }
+
+    pub fn with_space(mut self, space: SearchSpace) -> Scene {
+        self.space = space;
+        self
     }
 
     /// With one narrowband port, as a fill asks it.

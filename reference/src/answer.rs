@@ -7,6 +7,7 @@ use crate::grant::{self, Found, Grant, Plan, Step};
 use crate::laid::{Cells, Laid};
 use crate::lines::next_line;
 use crate::places::{Listing, Place};
+use crate::search::Space;
 use crate::text::{read_line, Fault, Kind, Question, Values};
 use crate::{refuse, Refusal};
 use std::io::{self, BufRead, Write};
@@ -25,6 +26,7 @@ pub enum Answer {
     Cause(Result<Option<Cause>, Refusal>),
     /// E.
     Count(Result<u64, Refusal>),
+    Search(Result<Space, Refusal>),
     Plan(Kind, Result<Plan, Refusal>),
     Forward(Kind, Result<Place, Refusal>),
     Backward(Kind, Result<Found, Refusal>),
@@ -84,6 +86,7 @@ impl Answerer {
             Question::Bitmap => Answer::Bitmap(self.bitmap()),
             Question::Cause => Answer::Cause(self.cause()),
             Question::Count => Answer::Count(self.count()),
+            Question::Search => Answer::Search(self.search()),
             Question::Plan(kind) => Answer::Plan(kind, self.plan(kind)),
             Question::Forward(kind) => Answer::Forward(kind, self.forward(kind)),
             Question::Backward(kind) => Answer::Backward(kind, self.backward(kind)),
@@ -131,6 +134,11 @@ impl Answerer {
 
     fn count(&mut self) -> Result<u64, Refusal> {
         Ok(elements::count(&self.cell()?.cell))
+    }
+
+    fn search(&mut self) -> Result<Space, Refusal> {
+        let cell = self.cell()?;
+        self.values.search().list(&cell)
     }
 
     fn plan(&mut self, kind: Kind) -> Result<Plan, Refusal> {

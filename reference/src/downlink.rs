@@ -40,12 +40,12 @@ pub struct Npdcch {
 }
 
 /// Rmax and NPDCCH copies: a power of two, 1 to 2048.
-fn is_listed_power(x: u64) -> bool {
+pub fn is_listed_power(x: u64) -> bool {
     (0..=11).any(|power| x == 1 << power)
 }
 
 /// The usable subframes from `from` on, the first `skip` of them left out.
-fn usable_from(cell: &Laid, from: u64, skip: u64, count: u64) -> Vec<u64> {
+pub fn usable_from(cell: &Laid, from: u64, skip: u64, count: u64) -> Vec<u64> {
     let mut list = Vec::new();
     let mut skipped = 0;
     let mut t = from;

@@ -5,6 +5,7 @@ use crate::aim::{
 };
 use crate::cell::Cell;
 use crate::drawn_messages::near_window;
+use crate::drawn_searches::search_words;
 use crate::faults::{bad_line, full_line};
 use crate::random::Random;
 use crate::scene::{cell_words, draw_cell, Scene, Word};
@@ -71,11 +72,13 @@ fn passing_value(name: &str) -> &'static str {
 fn draw_question(random: &mut Random, scene: &Scene) -> Question {
     let kind = scene.kind;
     let shares = match kind {
-        Kind::Down if scene.has_messages() => [70, 150, 215, 80, 40, 30, 230, 20, 25, 110, 30],
-        Kind::Control if scene.has_messages() => [80, 200, 265, 120, 30, 25, 230, 20, 0, 0, 30],
-        Kind::Down => [70, 160, 220, 80, 40, 30, 230, 20, 25, 120, 5],
-        Kind::Control => [80, 210, 280, 120, 30, 25, 230, 20, 0, 0, 5],
-        Kind::Up | Kind::Ack => [120, 300, 400, 180, 0, 0, 0, 0, 0, 0, 0],
+        Kind::Down if scene.has_messages() => [65, 125, 180, 70, 35, 25, 210, 15, 25, 90, 30, 130],
+        Kind::Control if scene.has_messages() => {
+            [75, 155, 205, 100, 25, 20, 210, 20, 0, 0, 30, 160]
+        }
+        Kind::Down => [65, 135, 185, 70, 35, 25, 210, 15, 25, 100, 5, 130],
+        Kind::Control => [75, 165, 220, 100, 25, 20, 210, 20, 0, 0, 5, 160],
+        Kind::Up | Kind::Ack => [120, 300, 400, 180, 0, 0, 0, 0, 0, 0, 0, 0],
     };
     let questions = [
         Question::Plan(kind),
@@ -89,6 +92,7 @@ fn draw_question(random: &mut Random, scene: &Scene) -> Question {
         Question::Fill,
         Question::Element,
         Question::Picture(kind),
+        Question::Search,
     ];
     let mut at = random.below(1000);
     for (question, share) in questions.into_iter().zip(shares) {
@@ -128,9 +132,9 @@ impl<W: Write> Generator<'_, W> {
         let kind = match self.only {
             Some(question) => question.kind().unwrap_or(Kind::Down),
             None => match self.random.below(100) {
-                0..=38 => Kind::Down,
-                39..=58 => Kind::Control,
-                59..=84 => Kind::Up,
+                0..=41 => Kind::Down,
+                42..=64 => Kind::Control,
+                65..=85 => Kind::Up,
                 _ => Kind::Ack,
             },
         };
@@ -237,6 +241,7 @@ impl<W: Write> Generator<'_, W> {
             }
             Question::Cell | Question::Bitmap | Question::Count => Vec::new(),
             Question::Cause => cause_words(random, scene),
+            Question::Search => search_words(random, scene),
             Question::Plan(_) if random.chance(50) => scene.other_grant(random).unwrap_or_default(),
             Question::Plan(_) => Vec::new(),
             Question::Forward(_) | Question::Step(_) => {

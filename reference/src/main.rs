@@ -1,15 +1,16 @@
 //! `reference answer`, `reference generate SEED COUNT [--only "forward up"]`, `reference counts`,
-//! `reference subframes SEED CELLS`, `reference table`.
+//! `reference spaces`, `reference subframes SEED CELLS`, `reference table`.
 
 use reference::generate::{generate, Wanted};
 use reference::text::{read_line, Question, Values};
-use reference::{answer, counts, subframes, table};
+use reference::{answer, counts, spaces, subframes, table};
 use std::io::{self, BufReader, BufWriter, Write};
 use std::process::ExitCode;
 
 const USAGE: &str = "usage: reference answer < questions
        reference generate SEED COUNT [--only \"QUESTION KIND\"]
        reference counts
+       reference spaces
        reference subframes SEED CELLS
        reference table < questions";
 
@@ -37,6 +38,7 @@ fn run(words: &[&str]) -> io::Result<bool> {
     match words {
         ["answer"] => answer::answer_all(&mut input, &mut out)?,
         ["counts"] => counts::write_counts(&mut out)?,
+        ["spaces"] => spaces::write_spaces(&mut out)?,
         ["table"] => {
             table::table_of(&mut input)?.write(&mut out)?;
             out.flush()?;

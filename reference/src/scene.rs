@@ -5,6 +5,7 @@ use crate::ack::{self, Ack};
 use crate::cell::{Cause, Cell, PERIOD};
 use crate::downlink::{self, Npdcch, Npdsch, LARGEST_N, SUBFRAMES};
 use crate::drawn_messages::{draw_messages, message_words, near_window};
+use crate::drawn_searches::{draw_own, own_words};
 use crate::drawn_windows::{draw_windows, window_words};
 use crate::elements;
 use crate::grant::Grant;
@@ -12,6 +13,7 @@ use crate::laid::{Cells, Laid};
 use crate::messages::{self, Messages};
 use crate::places::Listing;
 use crate::random::Random;
+use crate::search::Search;
 use crate::text::Kind;
 use crate::uplink::Npusch;
 use crate::windows::Windows;
@@ -28,8 +30,10 @@ pub struct Scene {
     pub cell: Cell,
     pub grant: Grant,
     pub listing: Listing,
+    /// A search space; an uplink scene doesn't ask for it.
+    pub search: Search,
     pub words: Vec<Word>,
-    share: Share,
+    pub share: Share,
 }
 
 /// Bits at which a bitmap meets synchronization and broadcast.
@@ -157,7 +161,7 @@ impl Share {
     }
 
     /// About how many subframes go by until so many usable ones have come.
-    fn steps(&self, usable: u64) -> u64 {
+    pub fn steps(&self, usable: u64) -> u64 {
         usable * self.period / self.usable
     }
 
@@ -167,7 +171,7 @@ impl Share {
     }
 }
 
-fn draw_n(random: &mut Random) -> u64 {
+pub fn draw_n(random: &mut Random) -> u64 {
     match random.below(10) {
         0..=4 => random.below(3 * PERIOD),
         5 => random.pick(&[0, 1, 2, 9, 10, 2559, 10235, 10239, 10240]),
@@ -188,12 +192,12 @@ fn draw_npdsch(random: &mut Random) -> Npdsch {
 }
 
 /// Is a scan short enough? Long ones are drawn seldom, very long ones never.
-fn bearable(random: &mut Random, steps: u64, long: u64) -> bool {
+pub fn bearable(random: &mut Random, steps: u64, long: u64) -> bool {
     steps < long || (random.chance(2) && steps < 4_000_000)
 }
 
 /// A begin near the messages' windows; none without messages.
-fn draw_n_near(random: &mut Random, cell: &Cell) -> Option<u64> {
+pub fn draw_n_near(random: &mut Random, cell: &Cell) -> Option<u64> {
     let near = near_window(random, &cell.messages)?;
     let turns = LARGEST_N / messages::PERIOD - 2;
     match random.below(4) {
@@ -310,7 +314,7 @@ fn draw_grant(random: &mut Random, kind: Kind, cell: &Cell, share: &Share) -> Gr
     }
 }
 
-fn number(name: &'static str, value: u64) -> Word {
+pub fn number(name: &'static str, value: u64) -> Word {
     (name, value.to_string())
 }
 
@@ -411,7 +415,6 @@ fn idle_words(random: &mut Random, kind: Kind) -> Vec<Word> {
         ],
         Kind::Control => &[
             "delay",
-            "rmax",
             "subframes",
             "copies",
             "spacing",
@@ -428,6 +431,8 @@ fn idle_words(random: &mut Random, kind: Kind) -> Vec<Word> {
             "siwindow",
             "messages",
             "rmax",
+            "g",
+            "alpha",
             "subframes",
             "r",
             "field",
@@ -438,6 +443,7 @@ fn idle_words(random: &mut Random, kind: Kind) -> Vec<Word> {
             "bits",
             "sioffset",
             "messages",
+            "g",
             "subframes",
             "r",
             "subcarrier",
@@ -472,7 +478,9 @@ impl Scene {
             Ok(listing) => listing,
             Err(no) => unreachable!("drawn to be accepted, refused with {no}"),
         };
+        let search = draw_own(random, &grant);
         let mut words = grant_words(random, &grant);
+        words.extend(own_words(&grant, &search));
         if !kind.is_uplink() {
             words.extend(cell_words(random, &cell));
         }
@@ -486,6 +494,7 @@ impl Scene {
             cell,
             grant,
             listing,
+            search,
             words,
             share,
         }

@@ -3,6 +3,7 @@
 use crate::ack;
 use crate::downlink;
 use crate::drawn_messages::{self, message_words};
+use crate::drawn_searches::refused_words;
 use crate::drawn_windows::{draw_never_free, draw_unlisted, window_words};
 use crate::grant::Grant;
 use crate::random::Random;
@@ -13,6 +14,9 @@ use crate::windows::Windows;
 
 const CELL: &[u64] = &[1, 2, 3, 4, 5, 6, 7, 21, 21, 8, 8, 18, 18];
 const PLAN: &[u64] = &[1, 2, 3, 4, 5, 6, 7, 21, 21, 8, 18, 9, 10, 12];
+const SEARCH: &[u64] = &[
+    1, 2, 3, 4, 5, 6, 7, 21, 8, 18, 9, 10, 10, 12, 22, 22, 22, 23, 23, 23,
+];
 const PLAN_UP: &[u64] = &[9, 10, 11, 13, 19, 20];
 const PLAN_ACK: &[u64] = &[9, 10, 19, 20];
 const PLACE: &[u64] = &[1, 2, 3, 4, 5, 6, 7, 21, 21, 8, 18, 9, 10, 12, 14];
@@ -56,6 +60,7 @@ pub fn numbers_of(question: Question) -> &'static [u64] {
     match question {
         Question::Set => &[],
         Question::Cell | Question::Bitmap | Question::Cause | Question::Count => CELL,
+        Question::Search => SEARCH,
         Question::Plan(Kind::Up) => PLAN_UP,
         Question::Plan(Kind::Ack) => PLAN_ACK,
         Question::Plan(_) => PLAN,
@@ -126,9 +131,11 @@ pub fn spoil(random: &mut Random, scene: &Scene, question: Question, no: u64) ->
         18 => all_taken(random, scene),
         9 if scene.kind == Kind::Ack => one_above(random, "n", ack::LARGEST_N),
         9 => one_above(random, "n", downlink::LARGEST_N),
+        10 if question == Question::Search => bad_search_field(random),
         10 => bad_field(random, scene),
         11 => bad_subcarrier(random, scene),
-        12 => bad_power(random, scene),
+        12 => bad_power(random, scene, question),
+        22 | 23 => refused_words(random, no),
         13 => vec![("mcs", random.between(5, 15).to_string())],
         19 => spoilt_windows(random, scene, draw_unlisted),
         20 => spoilt_windows(random, scene, draw_never_free),
@@ -258,6 +265,12 @@ fn bad_field(random: &mut Random, scene: &Scene) -> Vec<Word> {
     one_above(random, name, largest)
 }
 
+/// Number 10: G or the offset of a search space above its last field.
+fn bad_search_field(random: &mut Random) -> Vec<Word> {
+    let (name, largest) = random.pick(&[("g", 7), ("alpha", 3)]);
+    one_above(random, name, largest)
+}
+
 /// Number 11: a subcarrier field that the spacing doesn't have.
 fn bad_subcarrier(random: &mut Random, scene: &Scene) -> Vec<Word> {
     let end = match scene.grant {
@@ -273,9 +286,9 @@ fn bad_subcarrier(random: &mut Random, scene: &Scene) -> Vec<Word> {
 }
 
 /// Number 12: Rmax or NPDCCH copies not a power of two in range.
-fn bad_power(random: &mut Random, scene: &Scene) -> Vec<Word> {
+fn bad_power(random: &mut Random, scene: &Scene, question: Question) -> Vec<Word> {
     let name = match scene.kind {
-        Kind::Control => "r",
+        Kind::Control if question != Question::Search => "r",
         _ => "rmax",
     };
     let list = [0, 3, 5, 6, 7, 12, 96, 127, 129, 2047, 2049, 4096, 1 << 40];

@@ -6,8 +6,12 @@ use crate::fill::Shown;
 use crate::grant::Step;
 use crate::lines::next_line;
 use crate::message_counts::MessageCounts;
+use crate::search_counts::SearchCounts;
 use crate::text::{Fault, Kind, Question, Values};
 use std::io::{self, BufRead, Write};
+
+/// One more than the largest number of a refusal.
+pub const NUMBERS: usize = 24;
 
 /// What one row counts.
 #[derive(Clone, Copy, Debug, Default, PartialEq, Eq)]
@@ -21,7 +25,7 @@ pub struct Row {
     /// Causes named, in their order.
     pub causes: [u64; 6],
     /// By number; place 0 isn't used.
-    pub refused: [u64; 22],
+    pub refused: [u64; NUMBERS],
 }
 
 /// The whole table: a row for each question and kind.
@@ -32,6 +36,7 @@ pub struct Table {
     /// Uplink questions asked with a window or more.
     pub windowed: u64,
     pub messages: MessageCounts,
+    pub searches: SearchCounts,
 }
 
 impl Row {
@@ -102,6 +107,7 @@ impl Default for Table {
             faults: [0; 8],
             windowed: 0,
             messages: MessageCounts::default(),
+            searches: SearchCounts::default(),
         }
     }
 }
@@ -117,6 +123,7 @@ impl Table {
             self.windowed += 1;
         }
         self.messages.count(answer, values);
+        self.searches.count(answer, values);
         for (question, row) in &mut self.rows {
             if answer.question() == Some(*question) {
                 row.count(answer);
@@ -149,7 +156,7 @@ impl Table {
         for cause in Cause::ALL {
             write!(out, " {:>7}", cause.word())?;
         }
-        for no in 1..22 {
+        for no in 1..NUMBERS {
             write!(out, " {:>6}", format!("no{no}"))?;
         }
         writeln!(out)?;
@@ -159,6 +166,7 @@ impl Table {
         self.total().write(out, "all")?;
         writeln!(out, "uplink questions with windows: {}", self.windowed)?;
         self.messages.write(out)?;
+        self.searches.write(out)?;
         self.write_faults(out)
     }
 

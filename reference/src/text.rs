@@ -7,6 +7,7 @@ use crate::elements::Element;
 use crate::grant::Grant;
 use crate::lines::LONGEST_LINE;
 use crate::messages::Schedule;
+use crate::search::Search;
 use crate::uplink::Npusch;
 use crate::windows::{Window, Windows};
 
@@ -46,6 +47,7 @@ pub enum Question {
     Bitmap,
     Cause,
     Count,
+    Search,
     Plan(Kind),
     Forward(Kind),
     Backward(Kind),
@@ -63,6 +65,7 @@ impl Question {
             Question::Bitmap,
             Question::Cause,
             Question::Count,
+            Question::Search,
         ];
         for make in [
             Question::Plan,
@@ -97,6 +100,7 @@ impl Question {
             Question::Bitmap => "bitmap",
             Question::Cause => "cause",
             Question::Count => "count",
+            Question::Search => "search",
             Question::Plan(_) => "plan",
             Question::Forward(_) => "forward",
             Question::Backward(_) => "backward",
@@ -158,6 +162,8 @@ pub struct Values {
     pub n: u64,
     pub delay: u64,
     pub rmax: u64,
+    pub g: u64,
+    pub alpha: u64,
     pub subframes: u64,
     pub copies: u64,
     pub r: u64,
@@ -187,6 +193,8 @@ impl Default for Values {
             n: 0,
             delay: 0,
             rmax: 0,
+            g: 0,
+            alpha: 0,
             subframes: 0,
             copies: 0,
             r: 0,
@@ -255,6 +263,8 @@ impl Values {
             b"n" => &mut self.n,
             b"delay" => &mut self.delay,
             b"rmax" => &mut self.rmax,
+            b"g" => &mut self.g,
+            b"alpha" => &mut self.alpha,
             b"subframes" => &mut self.subframes,
             b"copies" => &mut self.copies,
             b"r" => &mut self.r,
@@ -310,6 +320,16 @@ impl Values {
                 copies: self.copies,
                 windows: self.windows,
             }),
+        }
+    }
+
+    /// The search space, made of the values in force.
+    pub fn search(&self) -> Search {
+        Search {
+            n: self.n,
+            rmax: self.rmax,
+            g: self.g,
+            alpha: self.alpha,
         }
     }
 
@@ -463,6 +483,7 @@ fn without_kind(word: &[u8]) -> Option<Question> {
         b"bitmap" => Some(Question::Bitmap),
         b"cause" => Some(Question::Cause),
         b"count" => Some(Question::Count),
+        b"search" => Some(Question::Search),
         b"fill" => Some(Question::Fill),
         b"element" => Some(Question::Element),
         _ => None,

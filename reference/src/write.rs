@@ -6,6 +6,7 @@ use crate::elements::Element;
 use crate::fill::Shown;
 use crate::grant::{Found, Plan, Step};
 use crate::places::Place;
+use crate::search::{Candidate, Space};
 use crate::text::{Kind, Question};
 use crate::Refusal;
 use std::io::{self, Write};
@@ -35,6 +36,7 @@ impl Answer {
             Answer::Bitmap(_) => Question::Bitmap,
             Answer::Cause(_) => Question::Cause,
             Answer::Count(_) => Question::Count,
+            Answer::Search(_) => Question::Search,
             Answer::Plan(kind, _) => Question::Plan(*kind),
             Answer::Forward(kind, _) => Question::Forward(*kind),
             Answer::Backward(kind, _) => Question::Backward(*kind),
@@ -53,6 +55,7 @@ impl Answer {
             Answer::Bitmap(a) => Some(split(a).0),
             Answer::Cause(a) => Some(split(a).0),
             Answer::Count(a) => Some(split(a).0),
+            Answer::Search(a) => Some(split(a).0),
             Answer::Plan(_, a) => Some(split(a).0),
             Answer::Forward(_, a) => Some(split(a).0),
             Answer::Backward(_, a) => Some(split(a).0),
@@ -72,6 +75,7 @@ impl Answer {
             Answer::Bitmap(a) => writeln!(out, "no={no} part={}", hex_text(&split(a).1)),
             Answer::Cause(a) => writeln!(out, "no={no} cause={}", cause_word(split(a).1)),
             Answer::Count(a) => writeln!(out, "no={no} e={}", split(a).1),
+            Answer::Search(a) => write_space(out, no, &split(a).1),
             Answer::Plan(kind, a) => write_plan(out, *kind, no, split(a).1),
             Answer::Forward(kind, a) => {
                 write!(out, "no={no}")?;
@@ -92,6 +96,16 @@ fn write_plan(out: &mut impl Write, kind: Kind, no: u64, plan: Plan) -> io::Resu
     write!(out, " copies={} places={}", plan.copies, plan.places)?;
     if kind.is_uplink() {
         write!(out, " size={} order={}", plan.size, plan.order)?;
+    }
+    writeln!(out)
+}
+
+/// The start, the number of candidates, then a word for each.
+fn write_space(out: &mut impl Write, no: u64, space: &Space) -> io::Result<()> {
+    let count = space.candidates.len();
+    write!(out, "no={no} start={} count={count}", space.start)?;
+    for Candidate { first, r, last } in &space.candidates {
+        write!(out, " {first},{r},{last}")?;
     }
     writeln!(out)
 }

@@ -1,10 +1,10 @@
-//! Every number 1 to 21, the bounds of the fields, and the generator's shares.
+//! Numbers 1 to 21 (22 and 23 are in search.rs), the bounds of the fields, and the generator's shares.
 
 mod common;
 use common::{ask, value};
 use reference::cell::Cause;
 use reference::generate::{generate, Wanted};
-use reference::table::table_of;
+use reference::table::{table_of, NUMBERS};
 use reference::text::{Kind, Question};
 
 const CELL: &str = "set mode=3 nports=1 rmax=1 r=1\n";
@@ -108,7 +108,7 @@ fn generated_questions_have_their_shares() {
     let faults: u64 = table.faults.iter().sum();
     assert_eq!(all.asked + faults, 20_000);
     assert!(all.accepted >= 10_000);
-    for no in 1..22 {
+    for no in 1..NUMBERS {
         assert!(all.refused[no] >= 20, "number {no}");
     }
     assert!(table.rows.iter().all(|(_, row)| row.asked > 0));
@@ -171,6 +171,26 @@ fn generated_messages() {
     let all = table.total();
     assert!(all.causes[Cause::Message as usize] >= 100);
     assert!(all.refused[21] >= 100 && all.refused[18] >= 100);
+}
+
+#[test]
+fn generated_searches() {
+    let mut file = Vec::new();
+    generate(Wanted::new(12, 20_000), &mut file).expect("memory takes all");
+    let table = table_of(&mut &file[..]).expect("memory gives all");
+    let row = table.row(Question::Search);
+    assert!(row.asked >= 1200, "at least 6 of a hundred");
+    assert!(row.refused[22] >= 20 && row.refused[23] >= 20);
+    for no in [1, 2, 3, 4, 5, 6, 7, 21, 8, 18, 9, 10, 12] {
+        assert!(row.refused[no] > 0, "number {no}");
+    }
+    let searches = &table.searches;
+    assert!(searches.candidates.iter().all(|&count| count >= 20));
+    assert!(searches.at_n >= 100 && searches.not_usable >= 100);
+    assert!(searches.with_factor_3 >= 100 && searches.once >= 100);
+    assert!(searches.past_turn >= 100 && searches.uneven >= 50);
+    assert!(searches.past_next >= 50 && searches.past_largest >= 50);
+    assert!(searches.beside_messages >= 100);
 }
 
 #[test]

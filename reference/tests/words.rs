@@ -75,6 +75,8 @@ fn error_kind() {
         "cell ack",
         "cause control",
         "count down",
+        "search down",
+        "search control n=1",
         "plan down\r",
     ] {
         fault(line.as_bytes(), "kind");
@@ -107,6 +109,8 @@ fn error_name() {
         "cell m0=64,2,8",
         "cell m5=64,2,8",
         "cell message=1",
+        "search G=2",
+        "search alfa=1",
     ] {
         fault(line.as_bytes(), "name");
     }
@@ -156,6 +160,8 @@ fn error_number() {
         fault(format!("cell m1={schedule}").as_bytes(), "number");
         fault(format!("cell m4={schedule}").as_bytes(), "number");
     }
+    fault(b"search g=1.5", "number");
+    fault(b"search alpha=1/8", "number");
     fault(b"cell siwindow=160ms", "number");
     fault(b"cell messages=-", "number");
     fault(b"set w1=40, 8,172032,0", "number");
@@ -267,6 +273,33 @@ cause m2=64,2,8 t=321");
             "no=0 cause=message",
             "no=21 cause=none",
             "no=0 cause=message",
+        ]
+    );
+}
+
+/// G and the offset start at 0; n and Rmax are those of the grants.
+#[test]
+fn searches_are_kept() {
+    let answers = ask("set mode=3 nports=1
+search n=21 rmax=4
+search alpha=3
+search rmax=1
+search g=2
+search g=3 alpha=x
+search alpha=0 n=22 g=9 g=2
+plan down n=22
+search");
+    assert_eq!(
+        answers,
+        [
+            "no=0 start=24 count=7 26,1,26 26,2,27 26,4,31 27,1,27 28,1,28 28,2,31 31,1,31",
+            "no=0 start=26 count=7 26,1,26 26,2,27 26,4,31 27,1,27 28,1,28 28,2,31 31,1,31",
+            "no=22 start=0 count=0",
+            "no=0 start=21 count=1 21,1,21",
+            "error=number",
+            "no=0 start=24 count=1 26,1,26",
+            "no=0 first=27 last=27 copies=1 places=160",
+            "no=0 start=24 count=1 26,1,26",
         ]
     );
 }

@@ -15,12 +15,12 @@ const HIGH: u64 = 0x8080_8080_8080_8080;
 
 /// The usable subframes: `1 << shift` spans to a period, with SIB1 in the four from `first` on.
 pub struct Pattern {
-    shift: u32,
-    first: u32,
-    plain: u64,
-    sib1: u64,
-    in_plain: u32,
-    in_sib1: u32,
+    pub shift: u32,
+    pub first: u32,
+    pub plain: u64,
+    pub sib1: u64,
+    pub in_plain: u32,
+    pub in_sib1: u32,
 }
 
 /// Refusals 1 to 6.
@@ -212,10 +212,16 @@ pub fn byte_counts(m: u64) -> u64 {
     (s + (s >> 4)) & 0x0f0f_0f0f_0f0f_0f0f
 }
 
+/// The ones of each byte of a mask and of those below it.
+#[inline(always)]
+pub fn prefix_sums(m: u64) -> u64 {
+    byte_counts(m).wrapping_mul(ONES)
+}
+
 /// The place of the k-th one of a mask: the byte by prefix sums of its bytes' counts, then a table.
 #[inline(always)]
 pub fn select(m: u64, k: u32) -> u32 {
-    let s = byte_counts(m).wrapping_mul(ONES);
+    let s = prefix_sums(m);
     let passed = ((k as u64 * ONES | HIGH) - s) & HIGH;
     let place = ((passed >> 7).wrapping_mul(ONES) >> 56) * 8;
     let rest = k as u64 - ((s << 8) >> place & 0xff);
@@ -223,7 +229,7 @@ pub fn select(m: u64, k: u32) -> u32 {
 }
 
 /// Place of the k-th one of a byte, at 8 times the byte plus k.
-const IN_BYTE: [u8; 2048] = {
+pub const IN_BYTE: [u8; 2048] = {
     let mut table = [0; 2048];
     let mut byte = 0;
     while byte < 256 {
@@ -241,7 +247,7 @@ const IN_BYTE: [u8; 2048] = {
 };
 
 /// Division of numbers below 640 by 1 to 40, as a product.
-const INVERSES: [u32; 41] = {
+pub const INVERSES: [u32; 41] = {
     let mut table = [0; 41];
     let mut n = 1;
     while n <= 40 {
@@ -253,7 +259,7 @@ const INVERSES: [u32; 41] = {
 
 impl Pattern {
     #[inline(always)]
-    fn mask(&self, span: u64) -> u64 {
+    pub fn mask(&self, span: u64) -> u64 {
         let x = span as u32 & ((1 << self.shift) - 1);
         if x.wrapping_sub(self.first) < 4 { self.sib1 } else { self.plain }
     }

@@ -21,7 +21,7 @@ pub struct Burst<S> {
 }
 
 #[inline(always)]
-fn is_repetition(x: u64) -> bool {
+pub fn is_repetition(x: u64) -> bool {
     x <= 2048 && x.is_power_of_two()
 }
 

@@ -6,7 +6,7 @@ use super::timetable::{Sight, Stand, Timetable};
 use super::Cell;
 
 pub struct Left {
-    pattern: Pattern,
+    pub pattern: Pattern,
     table: Timetable,
     /// How many are left in a period, once they have been counted.
     total: Option<u32>,
@@ -61,7 +61,7 @@ impl Left {
 
     /// The j-th from a given one on, and the subframe from which the search counts its time.
     #[inline(always)]
-    fn sight(&self, from: u64, j: u64) -> (Sight, u64) {
+    pub fn sight(&self, from: u64, j: u64) -> (Sight, u64) {
         let (_, within) = self.table.periods(from);
         let begin = within + self.table.lead();
         let (n, y) = self.table.unit_of(begin);
@@ -81,18 +81,25 @@ impl Left {
     /// The k-th subframe that is left; the search's time moves on by the periods that are jumped over.
     #[inline(always)]
     fn find(&mut self, g: &mut Sight, zero: &mut u64) -> u64 {
+        let free = self.free_before(g, zero, &mut 0);
+        zero.wrapping_add(self.pattern.at(free as u64))
+    }
+
+    /// How many are allowed before the k-th that is left; and how many are left of the stretch in which it lies, if no window is open
+    /// there.
+    #[inline(always)]
+    pub fn free_before(&mut self, g: &mut Sight, zero: &mut u64, quiet: &mut u32) -> u32 {
         if let Some(total) = self.total {
             *zero = zero.wrapping_add(self.jump(g, total));
         }
         let (limit, k) = (g.at.n + self.table.units(), g.k);
-        if !self.table.seek(g, limit) {
+        if !self.table.seek(g, limit, quiet) {
             let total = k - g.k;
             self.total = Some(total);
             *zero = zero.wrapping_add(self.jump(g, total));
-            self.table.seek(g, limit + self.table.units());
+            self.table.seek(g, limit + self.table.units(), quiet);
         }
-        let free = g.free.unwrap_or_else(|| self.table.kth_alone(&g.at, g.k));
-        zero.wrapping_add(self.pattern.at(free as u64))
+        g.free.unwrap_or_else(|| self.table.kth_alone(&g.at, g.k))
     }
 
     /// How many are left from a subframe on before a later one t, and whether a message takes t if it is allowed.
@@ -118,7 +125,7 @@ impl Left {
     #[inline(always)]
     fn stride_over(&mut self, at: &mut Stand, n: u32) -> u32 {
         let mut g = Sight { at: *at, k: u32::MAX, free: None };
-        self.table.seek(&mut g, n);
+        self.table.seek(&mut g, n, &mut 0);
         *at = g.at;
         u32::MAX - g.k
     }

@@ -285,12 +285,18 @@ impl Timetable {
         found
     }
 
-    /// Goes on to the stretch in which the k-th lies, if it lies before a limit.
+    /// Goes on to the stretch in which the k-th lies, if it lies before a limit; and how many are left of it, if no window is open there.
     #[inline(always)]
-    pub fn seek(&mut self, g: &mut Sight, limit: u32) -> bool {
+    pub fn seek(&mut self, g: &mut Sight, limit: u32, quiet: &mut u32) -> bool {
+        *quiet = 0;
         while g.at.n < limit {
             let found = match self.stretch(g.at.n, limit, self.read) {
-                Stretch::Quiet(units) => self.pass_quiet(&mut g.at, units, &mut g.k),
+                Stretch::Quiet(units) => {
+                    let left = self.free_before(g.at.n + units) - g.at.free;
+                    let found = self.pass_quiet(&mut g.at, units, &mut g.k);
+                    *quiet = if found.is_some() { left } else { 0 };
+                    found
+                }
                 Stretch::Busy(units, open) => self.pass_busy(&mut g.at, units, &open, &mut g.k),
                 Stretch::Alone(j) => {
                     let left = self.alone[j].unwrap_or_else(|| self.left_alone(&g.at, j));

@@ -3,6 +3,7 @@
 use super::scene::{Messaged, Schedules};
 use crate::fast;
 use crate::fast::Messages;
+use crate::growth::search_line;
 use crate::measure::versus;
 use crate::ours;
 use crate::scene::Random;
@@ -120,4 +121,27 @@ fn meeting(r: &mut Random, change: impl Fn(&mut Messaged)) -> Vec<Messaged> {
         aimed(scene, r)
     });
     made.collect()
+}
+
+/// Search spaces of Rmax 2048 and G 4 on such anchors.
+pub fn search_table(r: &mut Random) {
+    println!("\n| search with messages grows by | to | ours, ns | fast, ns |\n|---|---|---|---|");
+    for log in 0..12 {
+        search_line!("Rmax", 1 << log, spaces(scenes(r, SCENES, USUAL, |_| ()), 1 << log));
+    }
+    for count in 1..5 {
+        search_line!("schedules apart", count, spaces(scenes(r, SCENES, usual(2, count), |_| ()), 2048));
+    }
+    for count in 1..5 {
+        search_line!("schedules of the slowest", count, spaces(meeting(r, |s| s.cell[10] = count), 2048));
+    }
+}
+
+/// The scenes with a search space of G 4, asked from where the NPDSCH is.
+fn spaces(scenes: Vec<Messaged>, rmax: u64) -> Vec<Messaged> {
+    let with_space = |s: Messaged| {
+        let n = s.down[0];
+        s.with_space([n, rmax, 2, n % 4])
+    };
+    scenes.into_iter().map(with_space).collect()
 }

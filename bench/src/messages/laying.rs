@@ -2,7 +2,7 @@
 
 use super::scene::{Messaged, Schedules};
 use crate::fast::{self, Cell};
-use crate::scene::Random;
+use crate::scene::{self, Random};
 
 const PERIOD: i64 = 40_960;
 
@@ -152,6 +152,22 @@ fn check_grants(s: &Messaged, eight: &Cell, scanned: &Scanned, r: &mut Random) {
     check(scanned, &plain, &asked, &Span { from: g[0], skip: 0, sent: g[1] }, r);
 }
 
+/// A search space's candidates, each from its own R and the start.
+fn check_search(s: &Messaged, scanned: &Scanned, r: &mut Random) {
+    let space @ [n, rmax, g, alpha] = scene::space(r);
+    let period = rmax * [3, 4, 8, 16, 32, 64, 96, 128][g as usize] / 2;
+    let start = (n..).find(|t| t % 10_240 % period == alpha * period / 8).expect("a start");
+    let sizes = (0..4).map(|log| (rmax / 8).max(1) << log).filter(|&size| size <= rmax);
+    let candidates = sizes.flat_map(|size| (0..rmax / size).map(move |u| (u * size, size)));
+    let mut listed: Vec<[u64; 3]> =
+        candidates.map(|(j, size)| [scanned.nth(start, j), size, scanned.nth(start, j + size - 1)]).collect();
+    listed.sort();
+    let mut expected = vec![0, start, listed.len() as u64];
+    expected.extend(listed.as_flattened());
+    expected.resize(48, 0);
+    assert_eq!(fast::search(&s.cell, &s.anchor, &s.other, &space)[..], expected);
+}
+
 /// A cell of 8 numbers that is accepted, with listed messages: judged, asked for causes, and its grants.
 fn check_cell(s: &Messaged, r: &mut Random) -> u64 {
     let eight: &Cell = s.cell.first_chunk().expect("8 numbers");
@@ -165,6 +181,7 @@ fn check_cell(s: &Messaged, r: &mut Random) -> u64 {
     }
     if no == 0 {
         check_grants(s, eight, &scanned, r);
+        check_search(s, &scanned, r);
     }
     no
 }

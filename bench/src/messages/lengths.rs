@@ -17,7 +17,7 @@ fn answers(s: &Scene, cell: &[u64]) -> (Vec<u64>, [Vec<u64>; 2]) {
     let ([t, d1, d2, d3], [u, c1, c2, c3]) = (s.at_down, s.at_control);
     let (mut b, mut n, mut c) = ([0; 3], [0; 2], [0; 2]);
     let (mut pd, mut pc, mut fd, mut fc, mut bd, mut bc) = ([0; 5], [0; 5], [0; 6], [0; 6], [0; 6], [0; 6]);
-    let (mut sd, mut sc) = ([0; 7], [0; 7]);
+    let (mut sd, mut sc, mut ss) = ([0; 7], [0; 7], [0; 48]);
     let mut walks = [[&s.walk_down[..], more].concat(), [&s.walk_control[..], more].concat()];
     let mut all = vec![ours::judge(cell, a, o)];
     ours::bitmap(cell, a, o, &mut b);
@@ -31,7 +31,8 @@ fn answers(s: &Scene, cell: &[u64]) -> (Vec<u64>, [Vec<u64>; 2]) {
     ours::backward_control(cell, a, o, &s.control, u, c1, c2, c3, &mut bc);
     ours::step_down(&mut walks[0], a, o, &mut sd);
     ours::step_control(&mut walks[1], a, o, &mut sc);
-    for answer in [&b[..], &n, &c, &pd, &pc, &fd, &fc, &bd, &bc, &sd, &sc] {
+    ours::search(cell, a, o, &s.space, &mut ss);
+    for answer in [&b[..], &n, &c, &pd, &pc, &fd, &fc, &bd, &bc, &sd, &sc, &ss] {
         all.extend(answer);
     }
     walks[0].truncate(14);

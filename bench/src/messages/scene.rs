@@ -1,7 +1,7 @@
 //! Inputs whose cells have messages: a cell of 23 numbers, and walks with the 15 of its messages after the grant.
 
-use crate::fast::{self, Cell, ControlGrant, ControlWalk, DownGrant, DownWalk, Messages};
-use crate::scene::{bitmap, cell, control, down, joined, Random, Scene};
+use crate::fast::{self, Cell, ControlGrant, ControlWalk, DownGrant, DownWalk, Messages, SearchSpace};
+use crate::scene::{self, bitmap, cell, control, down, joined, Random, Scene, NO_SPACE};
 
 const WINDOWS: [u64; 7] = [160, 320, 480, 640, 960, 1280, 1600];
 
@@ -31,8 +31,8 @@ impl Schedules {
     }
 }
 
-/// A cell with messages and a grant of both downlink kinds, with a position, a place and a walk for each; a transmitted subframe, and bits and
-/// a level to fill it.
+/// A cell with messages and a grant of both downlink kinds, with a position, a place and a walk for each; a search space; a transmitted
+/// subframe, and bits and a level to fill it.
 #[derive(Clone)]
 pub struct Messaged {
     pub cell: Cell<23>,
@@ -40,6 +40,7 @@ pub struct Messaged {
     pub other: [u8; 5],
     pub down: DownGrant,
     pub control: ControlGrant,
+    pub space: SearchSpace,
     pub p: [u64; 2],
     pub at_down: [u64; 4],
     pub at_control: [u64; 4],
@@ -105,6 +106,12 @@ fn messages(r: &mut Random, schedules: Schedules) -> Messages {
     }
 }
 
+/// A search space that is accepted, of many copies where the answers are to be slow.
+pub fn space(r: &mut Random, schedules: Schedules) -> SearchSpace {
+    let [n, rmax, g, alpha] = scene::space(r);
+    if schedules == Schedules::Slowest { [n, 2048, g, 0] } else { [n, rmax, g, alpha] }
+}
+
 impl Messaged {
     fn plain(r: &mut Random, schedules: Schedules) -> Messaged {
         let eight = cell(r);
@@ -112,7 +119,7 @@ impl Messaged {
         let cell = joined(&[&eight, &messages(r, schedules)]);
         let (down, control) = (down(r), control(r));
         let mut made = Messaged {
-            cell, anchor, other, down, control, p: [0; 2], at_down: [0; 4], at_control: [0; 4],
+            cell, anchor, other, down, control, space: NO_SPACE, p: [0; 2], at_down: [0; 4], at_control: [0; 4],
             walk_down: [0; 29], walk_control: [0; 28], i: 0, bits: vec![], level: 1.0,
         };
         if schedules == Schedules::Slowest {
@@ -132,7 +139,7 @@ impl Messaged {
     pub fn of(s: &Scene, messages: &Messages) -> Messaged {
         let mut made = Messaged {
             cell: joined(&[&s.cell, messages]), anchor: s.anchor, other: s.other, down: s.down, control: s.control,
-            p: [s.p[1], s.p[2]], at_down: s.at_down, at_control: s.at_control,
+            space: s.space, p: [s.p[1], s.p[2]], at_down: s.at_down, at_control: s.at_control,
             walk_down: [0; 29], walk_control: [0; 28], i: s.i, bits: s.bits.clone(), level: s.level,
         };
         made.record();
@@ -259,6 +266,11 @@ impl Messaged {
         } else if r.below(8) == 0 {
             self.p = self.places();
         }
+    }
+
+    pub fn with_space(mut self, space: SearchSpace) -> Messaged {
+        self.space = space;
+        self
     }
 
     /// With one narrowband port, as a fill asks it.

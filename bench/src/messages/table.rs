@@ -1,11 +1,11 @@
 //! The first table's lines for cells with messages.
 
-use super::scene::{Messaged, Schedules};
+use super::scene::{space, Messaged, Schedules};
 use crate::fast;
 use crate::measure::versus;
 use crate::ours;
 use crate::questions::{element_line, elements, fill_line, judge_line, line, step};
-use crate::scene::Random;
+use crate::scene::{any_space, Random};
 
 /// How many accepted scenes are timed, and how many of any kind compared: fewer where an answer takes longer.
 fn many(schedules: Schedules) -> (usize, usize) {
@@ -29,22 +29,23 @@ fn remark(agrees: bool) -> &'static str {
     if agrees { "" } else { ", DIFFER" }
 }
 
-pub fn table(r: &mut Random) {
+/// Search spaces are drawn by a generator of their own.
+pub fn table(r: &mut Random, spaces: &mut Random) {
     if !ours::reads_messages() {
         println!("\nThe library reads 8 numbers of a cell: below it answers as if no messages were sent.");
         println!("Its answers differ, and its times are of another question.");
     }
     println!("\n| cell with messages | ours, ns | fast, ns | ours / fast | answers agree |\n|---|---|---|---|---|");
     for schedules in Schedules::ALL {
-        lines(r, schedules);
+        lines(r, spaces, schedules);
     }
 }
 
-fn lines(r: &mut Random, schedules: Schedules) {
+fn lines(r: &mut Random, spaces: &mut Random, schedules: Schedules) {
     let (timed, compared) = many(schedules);
-    let mut timed: Vec<Messaged> = (0..timed).map(|_| Messaged::accepted(r, schedules)).collect();
+    let mut timed: Vec<Messaged> = (0..timed).map(|_| Messaged::accepted(r, schedules).with_space(space(spaces, schedules))).collect();
     let mut ported: Vec<Messaged> = timed.iter().map(|s| s.clone().with_one_port(r)).collect();
-    let mut compared: Vec<Messaged> = (0..compared).map(|_| Messaged::any(r, schedules)).collect();
+    let mut compared: Vec<Messaged> = (0..compared).map(|_| Messaged::any(r, schedules).with_space(any_space(spaces))).collect();
     let (timed, compared) = (&mut timed[..], &mut compared[..]);
     let named = |question: &str| format!("{question}, {}", schedules.name());
     judge_line!(&named("judge"), timed, compared);
@@ -53,6 +54,7 @@ fn lines(r: &mut Random, schedules: Schedules) {
     forwards(timed, compared, &named);
     backwards(timed, compared, &named);
     steps(timed, compared, &named);
+    search(timed, compared, &named);
     element_line!(&named("element"), &mut ported[..], compared);
     fill_line!(&named("fill"), &mut ported[..], compared);
 }
@@ -125,5 +127,13 @@ fn steps(timed: &mut [Messaged], compared: &mut [Messaged], named: &impl Fn(&str
         &named("step control"), timed, compared, walk_control, 1,
         |s, a| ours::step_control(&mut s.walk_control, &s.anchor, &s.other, a),
         fast::step_control(&mut s.walk_control, &s.anchor, &s.other)
+    );
+}
+
+fn search(timed: &mut [Messaged], compared: &mut [Messaged], named: &impl Fn(&str) -> String) {
+    line!(
+        &named("search"), timed, compared, 48,
+        |s, a| ours::search(&s.cell, &s.anchor, &s.other, &s.space, a),
+        fast::search(&s.cell, &s.anchor, &s.other, &s.space)
     );
 }

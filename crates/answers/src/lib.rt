@@ -1,4 +1,4 @@
-// The answers' lines, put into a page of output. Each has at most 320 bytes, but a fill's and a picture's.
+// The answers' lines, put into a page of output. Each has at most 320 bytes, but a search's, a fill's and a picture's.
 ghost use Prim.Native.Nat.{_+_, _≤_};
 ghost use lib.ListN.{length};
 use cell::Cause;
@@ -8,6 +8,8 @@ use downlink::DownlinkBack;
 use downlink::DownlinkPlace;
 use downlink::DownlinkPlan;
 use questions::Fault;
+use search_space::Candidate;
+use search_space::SearchAnswer;
 use sending::Back;
 use symbol::ElementNumbers;
 use text::Page;
@@ -161,6 +163,44 @@ pub fn put_count(x: ElementCount, out: &mut Page, at: usize) -> usize
     let a = put_value(out, at, b"no=", x.no);
     let b = put_value(out, a, b" e=", x.e);
     put(out, b, b"\n")
+}
+
+// A candidate: its first subframe, R and its last subframe.
+fn put_candidate(x: Candidate, out: &mut Page, at: usize) -> usize
+    requires { ⌜ at + 96 ≤ 65536 ⌝ }
+    ensures { λ r. ⌜ r ≤ at + 96 ⌝ }
+{
+    let a = put_value(out, at, b" ", x.first);
+    let b = put_value(out, a, b",", x.r);
+    put_value(out, b, b",", x.last)
+}
+
+// The candidates before the count.
+fn put_candidates(x: SearchAnswer, out: &mut Page, at: usize) -> usize
+    requires { ⌜ at + 1440 ≤ 65536 ⌝ }
+    ensures { λ r. ⌜ r ≤ at + 1440 ⌝ }
+{
+    let mut to = at;
+    let mut k: usize = 0;
+    while k < 15 {
+        if k as u64 == x.count {
+            return to;
+        }
+        to = put_candidate(x.list[k], out, to);
+        k += 1;
+    }
+    to
+}
+
+pub fn put_search(x: SearchAnswer, out: &mut Page, at: usize) -> usize
+    requires { ⌜ at + 2048 ≤ 65536 ⌝ }
+    ensures { λ r. ⌜ r ≤ at + 2048 ⌝ }
+{
+    let a = put_value(out, at, b"no=", x.no);
+    let b = put_value(out, a, b" start=", x.start);
+    let c = put_value(out, b, b" count=", x.count);
+    let d = put_candidates(x, out, c);
+    put(out, d, b"\n")
 }
 
 fn put_back_values(x: Back, out: &mut Page, at: usize) -> usize

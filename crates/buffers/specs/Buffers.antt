@@ -2,7 +2,7 @@
 use mathlib.Core.Bool.{Bool, cond, _&&_, _||_, false}
 use mathlib.Core.List.{List, [], _∷_, _++_}
 use mathlib.Core.Path.{_≡_}
-use Prim.Native.Nat.{ℕ, _+_, _≤_}
+use Prim.Native.Nat.{ℕ, zero, suc, _+_, _≤_}
 use lib.Dec.{eqb, ltb}
 use lib.Ieee.{Float}
 use lib.ListN.{length, getD, drop}
@@ -33,6 +33,10 @@ use Rattle.walk.specs.declared.Walk.{Walk}
 use Rattle.walk.specs.declared.WalkPlace.{WalkPlace}
 use Rattle.walk.specs.declared.Stepped.{Stepped}
 use Rattle.walk.specs.Step.{refusedStep, finishedStep, Moved, onward, unmoved}
+use Rattle.search_space.specs.declared.SearchSpace.{SearchSpace}
+use Rattle.search_space.specs.declared.Candidate.{Candidate}
+use Rattle.search_space.specs.declared.SearchAnswer.{SearchAnswer}
+use Rattle.search_space.specs.Candidates.{room, blank}
 use Rattle.symbol.specs.declared.ElementNumbers.{ElementNumbers}
 
 -- ---- what is asked: records whose numbers stand from a place of a buffer on
@@ -117,6 +121,9 @@ npdschAt s i = record {
 abbrev pub npdcchAt : List ℕ → ℕ → NpdcchGrant
 npdcchAt s i = record { n = getD s i 0; r = getD s (i + 1) 0; format = getD s (i + 2) 0; ncce = getD s (i + 3) 0 }
 
+abbrev pub searchSpaceAt : List ℕ → ℕ → SearchSpace
+searchSpaceAt s i = record { n = getD s i 0; rmax = getD s (i + 1) 0; g = getD s (i + 2) 0; alpha = getD s (i + 3) 0 }
+
 -- a walk's record: the position, the eight numbers of a downlink grant's cell, the grant, and the cell's messages. An uplink walk has a cell
 -- of zeros, which is not looked at.
 abbrev pub walkOf : Cell → Grant → ℕ → Walk
@@ -161,6 +168,15 @@ countNumbers a = a .no ∷ a .e ∷ []
 
 abbrev pub causeNumbers : CauseAnswer → List ℕ
 causeNumbers a = a .no ∷ causeNumber (a .cause) ∷ []
+
+-- three numbers of each of n candidates, from candidate k on
+abbrev pub candidateNumbers : List Candidate → ℕ → ℕ → List ℕ
+candidateNumbers list k zero = []
+candidateNumbers list k (suc n) =
+    getD list k blank .first ∷ getD list k blank .r ∷ getD list k blank .last ∷ candidateNumbers list (suc k) n
+
+abbrev pub searchNumbers : SearchAnswer → List ℕ
+searchNumbers a = a .no ∷ a .start ∷ a .count ∷ candidateNumbers (a .list) 0 room
 
 abbrev pub stepNumbers : WalkPlace → List ℕ
 stepNumbers a = a .no ∷ a .finished ∷ a .t ∷ a .slot ∷ a .l ∷ a .k ∷ a .symbol ∷ []

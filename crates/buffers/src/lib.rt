@@ -3,14 +3,16 @@ ghost use mathlib.Core.List.{[], _∷_};
 ghost use mathlib.Core.Path.{_≡_};
 ghost use Prim.Native.Nat.{_+_, _^_, _≤_, _<_};
 ghost use lib.ListN.{length, getD};
+ghost use lib.Seq.{sets};
 ghost use Rattle.nprach.specs.Windows.{none};
+ghost use Rattle.search_space.specs.Candidates.{room};
 ghost use Rattle.symbol.specs.Outgoing.{numbersOf};
 ghost use Rattle.buffers.specs.Buffers.{configAt, scheduleAt, messagesAt, messagesFrom, cellIn};
 ghost use Rattle.buffers.specs.Buffers.{windowAt, windowsOf};
-ghost use Rattle.buffers.specs.Buffers.{npuschAt, harqAckAt, npdschAt, npdcchAt};
+ghost use Rattle.buffers.specs.Buffers.{npuschAt, harqAckAt, npdschAt, npdcchAt, searchSpaceAt};
 ghost use Rattle.buffers.specs.Buffers.{causeNumbers, countNumbers, uplinkPlanNumbers, downlinkPlanNumbers};
 ghost use Rattle.buffers.specs.Buffers.{uplinkPlaceNumbers, downlinkPlaceNumbers, backNumbers};
-ghost use Rattle.buffers.specs.Buffers.{downlinkBackNumbers};
+ghost use Rattle.buffers.specs.Buffers.{downlinkBackNumbers, candidateNumbers, searchNumbers};
 ghost use Rattle.buffers.specs.Buffers.{Short2, Short3, ShortBeside, put, putMoved, putElement, placeAt};
 ghost use Rattle.buffers.specs.Buffers.{movedBy, endOf};
 use cell::CauseAnswer;
@@ -28,6 +30,9 @@ use npdsch::NpdschGrant;
 use nprach::Window;
 use nprach::Windows;
 use npusch::NpuschGrant;
+use search_space::Candidate;
+use search_space::SearchAnswer;
+use search_space::SearchSpace;
 use sending::Back;
 use symbol::Element;
 use uplink::UplinkPlace;
@@ -243,6 +248,18 @@ pub fn npdcch_at(s: &[u64], i: usize) -> NpdcchGrant
     }
 }
 
+pub fn search_space_at(s: &[u64], i: usize) -> SearchSpace
+    requires { ⌜ i + 4 ≤ length (now s) ⌝ }
+    ensures { λ r. ⌜ r ≡ searchSpaceAt (now (s .entry)) i ⌝ }
+{
+    SearchSpace {
+        n: s[i],
+        rmax: s[i + 1],
+        g: s[i + 2],
+        alpha: s[i + 3],
+    }
+}
+
 // ---- numbers at the front of a buffer; the first is returned
 
 fn put2(s: &mut [u64], a: u64, b: u64) -> u64
@@ -379,6 +396,32 @@ pub fn put_downlink_back(s: &mut [u64], a: DownlinkBack) -> u64
         a.back.kind,
         number,
     )
+}
+
+// Three numbers of each candidate, from the fourth number on.
+fn put_candidates(s: &mut [u64], list: [Candidate; 15])
+    requires { ⌜ 48 ≤ length (now s) ⌝ }
+    ensures { λ _. ⌜ now (s .exit) ≡ sets (now (s .entry)) 3 (candidateNumbers list 0 room) ⌝ }
+{
+    let mut k: usize = 0;
+    while k < 15 {
+        let x = list[k];
+        let i = 3 * k + 3;
+        s[i] = x.first;
+        s[i + 1] = x.r;
+        s[i + 2] = x.last;
+        k += 1;
+    }
+}
+
+pub fn put_search(s: &mut [u64], a: SearchAnswer) -> u64
+    requires { ⌜ 48 ≤ length (now s) ⌝ }
+    ensures { λ r. ⌜ (r, now (s .exit)) ≡ put (searchNumbers a) (now (s .entry)) ⌝ }
+{
+    let list = a.list;
+    let no = put3(s, a.no, a.start, a.count);
+    put_candidates(s, list);
+    no
 }
 
 // The state, and the amplitudes beside it.

@@ -3,3 +3,4 @@ pub mod Usable
 pub mod Judge
 pub mod Layout
 pub mod Quick
+pub mod Cases

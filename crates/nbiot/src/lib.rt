@@ -35,6 +35,9 @@ pub use npdcch::backward as backward_control;
 pub use npdcch::forward as forward_control;
 pub use npdcch::plan as plan_control;
 
+// Where NPDCCH may start: the first start of the UE-specific search space from subframe n on, and its candidates.
+pub use search_space::search;
+
 // One step of a walk, the caller's record moved in place; and the same of a record by value.
 pub use inplace::step;
 pub use inplace::step_value;

@@ -12,15 +12,16 @@ use Rattle.npusch.specs.Questions as up
 use Rattle.harq_ack.specs.Questions as ack
 use Rattle.npdsch.specs.Questions as down
 use Rattle.npdcch.specs.Questions as control
+use Rattle.search_space.specs.Questions.{searchOf}
 use Rattle.walk.specs.Step.{steppedOf}
 use Rattle.symbol.specs.Outgoing.{numbersOf}
 use Rattle.fill.specs.Refusals.{fillRefusal}
 use Rattle.fill.specs.Fill.{outputOf}
 use Rattle.transmitted.specs.Element.{elementAnswer}
-use Rattle.buffers.specs.Buffers.{cellIn, windowsOf, npuschAt, harqAckAt, npdschAt, npdcchAt}
+use Rattle.buffers.specs.Buffers.{cellIn, windowsOf, npuschAt, harqAckAt, npdschAt, npdcchAt, searchSpaceAt}
 use Rattle.buffers.specs.Buffers.{npuschWalk, harqAckWalk, npdschWalk, npdcchWalk}
 use Rattle.buffers.specs.Buffers.{uplinkPlanNumbers, downlinkPlanNumbers, uplinkPlaceNumbers, downlinkPlaceNumbers}
-use Rattle.buffers.specs.Buffers.{backNumbers, downlinkBackNumbers}
+use Rattle.buffers.specs.Buffers.{backNumbers, downlinkBackNumbers, searchNumbers}
 use Rattle.buffers.specs.Buffers.{causeNumbers, countNumbers, lacks, windowsShort, tooShort, put, putStepped, putElement}
 
 -- the number that is returned, and the answer's buffer afterwards; of a step the walk's buffer before it
@@ -143,6 +144,13 @@ backwardControl cell anchor other grant t slot l k answer =
 unfoldable pub stepControl : List ℕ → List ℕ → List ℕ → List ℕ → StepReply
 stepControl walk anchor other answer =
     cond (lacks 13 walk || lacks 7 answer) (tooShort, walk, answer) (putStepped (steppedOf (npdcchWalk walk) anchor other) walk answer)
+
+-- ---- where NPDCCH may start
+
+unfoldable pub search : List ℕ → List ℕ → List ℕ → List ℕ → List ℕ → Reply
+search cell anchor other space answer =
+    cond (lacks 8 cell || (lacks 4 space || lacks 48 answer)) (tooShort, answer)
+    (put (searchNumbers (searchOf (cellIn cell 0 8) anchor other (searchSpaceAt space 0))) answer)
 
 -- ---- the numbers of a transmitted subframe: an output that is no subframe's is refused by 15
 

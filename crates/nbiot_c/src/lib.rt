@@ -559,6 +559,29 @@ pub extern "C" fn nbiot_step_control(
     buffers::put_step(walk, answer, end, a.no, a.t, a.slot, a.l, a.k, a.symbol)
 }
 
+// ---- where NPDCCH may start
+
+// The first start of the search space, and its candidates.
+#[no_mangle]
+pub extern "C" fn nbiot_search(
+    cell: &[u64],
+    anchor: &[u8],
+    other: &[u8],
+    space: &[u64],
+    answer: &mut [u64],
+) -> u64
+    ensures { λ r. ⌜ (r, now (answer .exit))
+        ≡ calls.search (now (cell .entry)) (now (anchor .entry)) (now (other .entry)) (now (space .entry)) (now (answer .entry)) ⌝ }
+{
+    if buffers::short3(8, 4, 48, cell.len(), space.len(), answer.len()) {
+        return TOO_SHORT;
+    }
+    let c = buffers::cell_in(cell, 0, 8);
+    let s = buffers::search_space_at(space, 0);
+    let a = nbiot::search(c, anchor, other, s);
+    buffers::put_search(answer, a)
+}
+
 // ---- the numbers of a transmitted subframe
 
 // The 336 numbers of transmitted subframe i.

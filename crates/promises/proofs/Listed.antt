@@ -1,4 +1,4 @@
--- P1 to P11 and the cases of L1, L4 and L5 hold.
+-- P1 to P11 and the cases of L1, L4, L5 and L6 hold.
 use mathlib.Core.Bool.{Bool, true, false, cond}
 use mathlib.Core.List.{List, [], _∷_, map}
 use mathlib.Core.Path.{_≡_, refl, ap, _∙_, fun-ext}
@@ -40,7 +40,9 @@ use Rattle.npusch.proofs.WindowCases.{window-cases}
 use Rattle.harq_ack.proofs.Cases as ack
 use Rattle.messages.proofs.Cases as messages
 use Rattle.promises.specs.Promises.{eligibleCount}
-use Rattle.promises.specs.Cases.{Unmapped, OneOrTwo, anchorCell, eightSubframes, sentIn, zeroAndFive, onlyFour, nothing, messageCell, isMessageIn, Cases}
+use Rattle.cell.specs.Cases.{anchorCell}
+use Rattle.search_space.proofs.Cases as search
+use Rattle.promises.specs.Cases.{Unmapped, OneOrTwo, eightSubframes, sentIn, zeroAndFive, onlyFour, nothing, messageCell, isMessageIn, Cases}
 use Rattle.promises.proofs.Further.{counted, goes-at}
 
 -- ---- P1
@@ -208,7 +210,6 @@ no-bitmap : (own : List ℕ) → badBitmap 0 own ≡ false
 unfolding badBitmap listedLength bytesOf
 no-bitmap own = rw (le-ltb (length own) 0 (omega arith)) refl
 
--- a test that passes somewhere
 module _ (anchor other : List ℕ) where
   accepted-with : judgeOf messageCell anchor other ≡ 0
   unfolding judgeOf cellRefusal formRefusal configRefusal useRefusal bytesOf allowed
@@ -268,4 +269,5 @@ cases = record {
   messages = messages.cases;
   message-causes = message-causes;
   message-plan = λ rmax anchor other r. message-plan anchor other rmax r;
+  search = search.cases;
 }

@@ -39,6 +39,7 @@ use Rattle.npdsch.specs.declared.NpdschGrant.{NpdschGrant}
 use Rattle.npdsch.specs.Questions as npdsch
 use Rattle.npdcch.specs.declared.NpdcchGrant.{NpdcchGrant}
 use Rattle.npdcch.specs.Questions as npdcch
+use Rattle.search_space.specs.Promised.{SearchPromises}
 use Rattle.symbol.specs.Outgoing.{numbersOf}
 use Rattle.transmitted.specs.Refusals.{elementRefusal}
 use Rattle.transmitted.specs.Element.{elementAnswer}
@@ -184,6 +185,8 @@ pub record Promises : Type 0 where
       → HandsOn c anchor other (npdsch.planOf c anchor other g) (byPlace (npdsch.backwardOf c anchor other g))
   pub controlCause : (c : Cell) (anchor other : List ℕ) (g : NpdcchGrant)
       → HandsOn c anchor other (npdcch.planOf c anchor other g) (byPlace (npdcch.backwardOf c anchor other g))
+  -- where NPDCCH may start: the start, the candidates, and the plan of each
+  pub search : SearchPromises
   -- E, of every accepted cell: how many elements of a subframe are eligible
   pub count : (c : Cell) (anchor other : List ℕ) → judgeOf c anchor other ≡ 0
       → elementCountOf c anchor other ≡ record { no = 0; e = eligibleCount c }

@@ -45,6 +45,18 @@ fn count(v: &Values, anchor: &[u8], other: &[u8], out: &mut Page, at: usize) -> 
     answers::put_count(nbiot::count(questions::cell_of(v), anchor, other), out, at)
 }
 
+fn search(v: &Values, anchor: &[u8], other: &[u8], out: &mut Page, at: usize) -> usize
+    requires { ⌜ at + 2048 ≤ 65536 ⌝ }
+    ensures { λ r. ⌜ r ≤ at + 2048 ⌝ }
+{
+    let c = questions::cell_of(v);
+    answers::put_search(
+        nbiot::search(c, anchor, other, questions::search_space_of(v)),
+        out,
+        at,
+    )
+}
+
 fn plan(k: Kind, v: &Values, anchor: &[u8], other: &[u8], out: &mut Page, at: usize) -> usize
     requires { ⌜ at + 320 ≤ 65536 ⌝ }
     ensures { λ r. ⌜ r ≤ at + 320 ⌝ }
@@ -215,6 +227,7 @@ pub fn ask<'a>(
         Question::Bitmap => bitmap(v, a, b, out, at),
         Question::Cause => cause(v, a, b, out, at),
         Question::Count => count(v, a, b, out, at),
+        Question::Search => search(v, a, b, out, at),
         Question::Fill => fill(v, a, b, d, out, at),
         Question::Element => element(v, a, b, d, out, at),
         Question::Plan(k) => plan(k, v, a, b, out, at),

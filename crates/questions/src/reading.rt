@@ -24,15 +24,15 @@ const LARGEST_ROOM: u64 = 1024;
 
 // The questions that want no kind stand first.
 const QUESTIONS: [[u8; 80]; 2] = [
-    *b"set       cell      bitmap    cause     count     fill      element   plan      ",
-    *b"forward   backward  step      picture                                           ",
+    *b"set       cell      bitmap    cause     count     search    fill      element   ",
+    *b"plan      forward   backward  step      picture                                 ",
 ];
 
-const ASKED: usize = 12;
+const ASKED: usize = 13;
 
-const WITHOUT_KIND: usize = 7;
+const WITHOUT_KIND: usize = 8;
 
-const PICTURE: usize = 11;
+const PICTURE: usize = 12;
 
 // The kinds of the uplink stand first.
 const ACK: usize = 1;
@@ -56,6 +56,7 @@ pub enum Question {
     Bitmap,
     Cause,
     Count,
+    Search,
     Fill,
     Element,
     Plan(Kind),
@@ -109,12 +110,13 @@ fn question_of(row: usize, kind: usize) -> Question {
         2 => Question::Bitmap,
         3 => Question::Cause,
         4 => Question::Count,
-        5 => Question::Fill,
-        6 => Question::Element,
-        7 => Question::Plan(kind_of(kind)),
-        8 => Question::Forward(kind_of(kind)),
-        9 => Question::Backward(kind_of(kind)),
-        10 => Question::Step(kind_of(kind)),
+        5 => Question::Search,
+        6 => Question::Fill,
+        7 => Question::Element,
+        8 => Question::Plan(kind_of(kind)),
+        9 => Question::Forward(kind_of(kind)),
+        10 => Question::Backward(kind_of(kind)),
+        11 => Question::Step(kind_of(kind)),
         _ => Question::Picture(kind_of(kind)),
     }
 }

@@ -11,6 +11,7 @@ use npdsch::NpdschGrant;
 use nprach::Window;
 use nprach::Windows;
 use npusch::NpuschGrant;
+use search_space::SearchSpace;
 use walk::Grant;
 use walk::Walk;
 ghost use Prim.Native.Nat.{_+_, _≤_};
@@ -19,14 +20,48 @@ ghost use Prim.Native.Nat.{_+_, _≤_};
 pub const NAMES: [[u8; 80]; 6] = [
     *b"mode      carrier   identity  nports    cports    control   sib1      bits      ",
     *b"n         delay     rmax      subframes copies    r         format    ncce      ",
-    *b"spacing   subcarrierunits     mcs       field     windows   siwindow  sioffset  ",
-    *b"messages  p         t         slot      l         k         i         room      ",
-    *b"level     anchor    other     data      w1        w2        w3        w4        ",
-    *b"m1        m2        m3        m4                                                ",
+    *b"g         alpha     spacing   subcarrierunits     mcs       field     windows   ",
+    *b"siwindow  sioffset  messages  p         t         slot      l         k         ",
+    *b"i         room      level     anchor    other     data      w1        w2        ",
+    *b"w3        w4        m1        m2        m3        m4                            ",
 ];
 
-// How many names there are.
-pub const NAMED: usize = 44;
+// How many names there are. The number of a name stands where its value is read.
+pub const NAMED: usize = 46;
+
+pub const P: usize = 27;
+
+pub const T: usize = 28;
+
+pub const SLOT: usize = 29;
+
+pub const L: usize = 30;
+
+pub const K: usize = 31;
+
+pub const I: usize = 32;
+
+pub const ROOM: usize = 33;
+
+pub const LEVEL: usize = 34;
+
+pub const ANCHOR: usize = 35;
+
+pub const OTHER: usize = 36;
+
+pub const DATA: usize = 37;
+
+// At a buffer's row stands the count of its bytes; from the first window's row on stand four numbers of each window,
+// and then three of each schedule.
+pub type Values = [u64; 66];
+
+// All 0, but the room and the messages' window.
+pub fn start() -> Values {
+    let mut v = [0u64; 66];
+    v[ROOM] = 336;
+    v[SIWINDOW] = 160;
+    v
+}
 
 const MODE: usize = 0;
 
@@ -43,85 +78,6 @@ const CONTROL: usize = 5;
 const SIB1: usize = 6;
 
 const BITS: usize = 7;
-
-const N: usize = 8;
-
-const DELAY: usize = 9;
-
-const RMAX: usize = 10;
-
-const SUBFRAMES: usize = 11;
-
-const COPIES: usize = 12;
-
-const R: usize = 13;
-
-const FORMAT: usize = 14;
-
-const NCCE: usize = 15;
-
-const SPACING: usize = 16;
-
-const SUBCARRIER: usize = 17;
-
-const UNITS: usize = 18;
-
-const MCS: usize = 19;
-
-const FIELD: usize = 20;
-
-const WINDOWS: usize = 21;
-
-const SIWINDOW: usize = 22;
-
-const SIOFFSET: usize = 23;
-
-const MESSAGES: usize = 24;
-
-pub const P: usize = 25;
-
-pub const T: usize = 26;
-
-pub const SLOT: usize = 27;
-
-pub const L: usize = 28;
-
-pub const K: usize = 29;
-
-pub const I: usize = 30;
-
-pub const ROOM: usize = 31;
-
-pub const LEVEL: usize = 32;
-
-pub const ANCHOR: usize = 33;
-
-pub const OTHER: usize = 34;
-
-pub const DATA: usize = 35;
-
-const W1: usize = 36;
-
-pub const W4: usize = 39;
-
-const M1: usize = 40;
-
-const M4: usize = 43;
-
-// The place of the first schedule's numbers.
-const SCHEDULES: usize = 52;
-
-// At a buffer's row stands the count of its bytes; from the first window's row on stand four numbers of each window,
-// and then three of each schedule.
-pub type Values = [u64; 64];
-
-// All 0, but the room and the messages' window.
-pub fn start() -> Values {
-    let mut v = [0u64; 64];
-    v[ROOM] = 336;
-    v[SIWINDOW] = 160;
-    v
-}
 
 fn config_of(v: &Values) -> CellConfig {
     CellConfig {
@@ -142,6 +98,16 @@ pub fn cell_of(v: &Values) -> Cell {
     Cell { config, messages }
 }
 
+const N: usize = 8;
+
+const DELAY: usize = 9;
+
+const RMAX: usize = 10;
+
+const SUBFRAMES: usize = 11;
+
+const COPIES: usize = 12;
+
 pub fn npdsch_grant(v: &Values) -> NpdschGrant {
     NpdschGrant {
         n: v[N],
@@ -152,6 +118,12 @@ pub fn npdsch_grant(v: &Values) -> NpdschGrant {
     }
 }
 
+const R: usize = 13;
+
+const FORMAT: usize = 14;
+
+const NCCE: usize = 15;
+
 pub fn npdcch_grant(v: &Values) -> NpdcchGrant {
     NpdcchGrant {
         n: v[N],
@@ -161,16 +133,35 @@ pub fn npdcch_grant(v: &Values) -> NpdcchGrant {
     }
 }
 
+const G: usize = 16;
+
+const ALPHA: usize = 17;
+
+pub fn search_space_of(v: &Values) -> SearchSpace {
+    SearchSpace {
+        n: v[N],
+        rmax: v[RMAX],
+        g: v[G],
+        alpha: v[ALPHA],
+    }
+}
+
+const WINDOWS: usize = 23;
+
+const W1: usize = 38;
+
+pub const W4: usize = 41;
+
 // The place of a window's first number, by the row of its name.
 fn first_of(name: usize) -> usize
-    requires { ⌜ (36 ≤ name) × (name ≤ 39) ⌝ }
-    ensures { λ r. ⌜ r + 4 ≤ 52 ⌝ }
+    requires { ⌜ (38 ≤ name) × (name ≤ 41) ⌝ }
+    ensures { λ r. ⌜ r + 4 ≤ 54 ⌝ }
 {
     W1 + 4 * (name - W1)
 }
 
 fn window_of(name: usize, v: &Values) -> Window
-    requires { ⌜ (36 ≤ name) × (name ≤ 39) ⌝ }
+    requires { ⌜ (38 ≤ name) × (name ≤ 41) ⌝ }
 {
     let at = first_of(name);
     Window {
@@ -210,16 +201,29 @@ pub fn windows_of(v: &Values) -> Windows {
     }
 }
 
+const SIWINDOW: usize = 24;
+
+const SIOFFSET: usize = 25;
+
+const MESSAGES: usize = 26;
+
+const M1: usize = 42;
+
+const M4: usize = 45;
+
+// The place of the first schedule's numbers.
+const SCHEDULES: usize = 54;
+
 // The place of a schedule's first number, by the row of its name.
 fn first_of_schedule(name: usize) -> usize
-    requires { ⌜ (40 ≤ name) × (name ≤ 43) ⌝ }
-    ensures { λ r. ⌜ r + 3 ≤ 64 ⌝ }
+    requires { ⌜ (42 ≤ name) × (name ≤ 45) ⌝ }
+    ensures { λ r. ⌜ r + 3 ≤ 66 ⌝ }
 {
     SCHEDULES + 3 * (name - M1)
 }
 
 fn schedule_of(name: usize, v: &Values) -> Schedule
-    requires { ⌜ (40 ≤ name) × (name ≤ 43) ⌝ }
+    requires { ⌜ (42 ≤ name) × (name ≤ 45) ⌝ }
 {
     let at = first_of_schedule(name);
     Schedule {
@@ -259,6 +263,14 @@ fn messages_of(v: &Values) -> Messages {
     }
 }
 
+const SPACING: usize = 18;
+
+const SUBCARRIER: usize = 19;
+
+const UNITS: usize = 20;
+
+const MCS: usize = 21;
+
 pub fn npusch_grant(v: &Values) -> NpuschGrant {
     NpuschGrant {
         n: v[N],
@@ -270,6 +282,8 @@ pub fn npusch_grant(v: &Values) -> NpuschGrant {
         mcs: v[MCS],
     }
 }
+
+const FIELD: usize = 22;
 
 pub fn harq_ack_grant(v: &Values) -> HarqAckGrant {
     HarqAckGrant {

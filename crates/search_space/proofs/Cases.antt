@@ -22,27 +22,27 @@ use Rattle.search_space.specs.Starts.{doubledPeriod, startOf}
 use Rattle.search_space.specs.Refusals.{spaceRefusal, refusalOf}
 use Rattle.search_space.specs.Candidates.{levelsOf, labelsOf, listOf}
 use Rattle.search_space.specs.Questions.{refusedSearch, monitoredIn, searchOf}
-use Rattle.search_space.specs.Cases.{anchorCell, space, spaceNumber, SearchCases}
+use Rattle.search_space.specs.Cases.{oneAnchor, space, spaceNumber, SearchCases}
 
 -- with no messages what is free is usable
-same : usable anchorCell [] ≡ free (anchorCell .config) []
-same = fun-ext (λ t. unlaid anchorCell [] t refl)
+same : usable oneAnchor [] ≡ free (oneAnchor .config) []
+same = fun-ext (λ t. unlaid oneAnchor [] t refl)
 
 module _ (anchor other : List ℕ) where
-  judged : judgeOf anchorCell anchor other ≡ 0
+  judged : judgeOf oneAnchor anchor other ≡ 0
   unfolding judgeOf numbersRefusal areListed
-  judged = unmapped anchorCell (ownBuffer (anchorCell .config) anchor other) refl refl refl refl
+  judged = unmapped oneAnchor (ownBuffer (oneAnchor .config) anchor other) refl refl refl refl
 
-  refusal : (s : SearchSpace) (n : ℕ) → spaceRefusal s ≡ n → refusalOf anchorCell anchor other s ≡ n
+  refusal : (s : SearchSpace) (n : ℕ) → spaceRefusal s ≡ n → refusalOf oneAnchor anchor other s ≡ n
   unfolding questionRefusal
   refusal s n e = rw judged e
 
-  found : (s : SearchSpace) → spaceRefusal s ≡ 0 → searchOf anchorCell anchor other s ≡ monitoredIn (free (anchorCell .config) []) s
+  found : (s : SearchSpace) → spaceRefusal s ≡ 0 → searchOf oneAnchor anchor other s ≡ monitoredIn (free (oneAnchor .config) []) s
   unfolding searchOf bytesOf
   found s e =
-      accepted refusedSearch (refusalOf anchorCell anchor other s) _ (refusal s 0 e) ∙ ap (λ (u : ℕ → Bool). monitoredIn u s) same
+      accepted refusedSearch (refusalOf oneAnchor anchor other s) _ (refusal s 0 e) ∙ ap (λ (u : ℕ → Bool). monitoredIn u s) same
 
-  turned : (s : SearchSpace) (n : ℕ) → spaceRefusal s ≡ n → searchOf anchorCell anchor other s ≡ answerOf refusedSearch n (monitoredIn (free (anchorCell .config) []) s)
+  turned : (s : SearchSpace) (n : ℕ) → spaceRefusal s ≡ n → searchOf oneAnchor anchor other s ≡ answerOf refusedSearch n (monitoredIn (free (oneAnchor .config) []) s)
   unfolding searchOf bytesOf
   turned s n e = rw (refusal s n e, same) refl
 

@@ -1,22 +1,19 @@
--- Cases of 02 L6, on P7's cell of 01: a standalone anchor with identity 0, schedule 0, no bitmap and no messages.
+-- Cases of 02 L6, on P7's cell of 01 with one port.
 use mathlib.Core.List.{List, [], _∷_}
 use mathlib.Core.Path.{_≡_}
 use Prim.Native.Nat.{ℕ, _/_, _%_, _^_}
 use lib.Dec.{eqb}
 use Rattle.counting.specs.Counting.{rank}
-use Rattle.messages.specs.Messages.{noMessages}
 use Rattle.cell.specs.declared.Cell.{Cell}
+use Rattle.cell.specs.Cases.{anchorCell}
 use Rattle.search_space.specs.declared.SearchSpace.{SearchSpace}
 use Rattle.search_space.specs.declared.Candidate.{Candidate}
 use Rattle.search_space.specs.Refusals.{spaceRefusal}
 use Rattle.search_space.specs.Candidates.{filledUp}
 use Rattle.search_space.specs.Questions.{refusedSearch, searchOf}
 
-abbrev pub anchorCell : Cell
-anchorCell = record {
-  config = record { mode = 3; carrier = 0; identity = 0; nports = 1; cports = 0; control = 0; sib1 = 0; bits = 0 };
-  messages = noMessages;
-}
+abbrev pub oneAnchor : Cell
+oneAnchor = anchorCell 1
 
 abbrev pub space : ℕ → ℕ → ℕ → ℕ → SearchSpace
 space n rmax g alpha = record { n = n; rmax = rmax; g = g; alpha = alpha }
@@ -31,7 +28,7 @@ spaceNumber i = space 0 (2 ^ (i / 32)) (i / 4 % 8) (i % 4)
 -- neither buffer is read
 pub record SearchCases : Type 0 where
   -- T 16, an eighth of it
-  pub seven : (anchor other : List ℕ) → searchOf anchorCell anchor other (space 15 4 2 1) ≡ record {
+  pub seven : (anchor other : List ℕ) → searchOf oneAnchor anchor other (space 15 4 2 1) ≡ record {
     no = 0;
     start = 18;
     count = 7;
@@ -40,7 +37,7 @@ pub record SearchCases : Type 0 where
         ∷ candidate 21 2 22 ∷ candidate 22 1 22 ∷ []);
   }
   -- T 16, none of it: the start is not usable, the first candidates begin in subframe 1
-  pub fifteen : (anchor other : List ℕ) → searchOf anchorCell anchor other (space 0 8 1 0) ≡ record {
+  pub fifteen : (anchor other : List ℕ) → searchOf oneAnchor anchor other (space 0 8 1 0) ≡ record {
     no = 0;
     start = 0;
     count = 15;
@@ -49,13 +46,13 @@ pub record SearchCases : Type 0 where
         ∷ candidate 11 1 11 ∷ candidate 11 2 12 ∷ candidate 12 1 12 ∷ [];
   }
   -- T 6: the turn of the hyperframe cuts it short, four after 10237
-  pub turn : (anchor other : List ℕ) → searchOf anchorCell anchor other (space 10238 4 0 2) .start ≡ 10241
+  pub turn : (anchor other : List ℕ) → searchOf oneAnchor anchor other (space 10238 4 0 2) .start ≡ 10241
   -- T above a hyperframe: one start in each
-  pub long : (anchor other : List ℕ) → searchOf anchorCell anchor other (space 1 2048 7 0) .start ≡ 10240
-  pub part : (anchor other : List ℕ) → searchOf anchorCell anchor other (space 0 512 7 3) ≡ refusedSearch 23
-  pub short : (anchor other : List ℕ) → searchOf anchorCell anchor other (space 0 1 1 0) ≡ refusedSearch 22
+  pub long : (anchor other : List ℕ) → searchOf oneAnchor anchor other (space 1 2048 7 0) .start ≡ 10240
+  pub part : (anchor other : List ℕ) → searchOf oneAnchor anchor other (space 0 512 7 3) ≡ refusedSearch 23
+  pub short : (anchor other : List ℕ) → searchOf oneAnchor anchor other (space 0 1 1 0) ≡ refusedSearch 22
   -- 10 before 12
-  pub field : (anchor other : List ℕ) → searchOf anchorCell anchor other (space 0 3 8 0) ≡ refusedSearch 10
+  pub field : (anchor other : List ℕ) → searchOf oneAnchor anchor other (space 0 3 8 0) ≡ refusedSearch 10
   -- 22 has three Rmax and G, with any offset: (1, 1.5), (1, 2) and (2, 1.5); 23 fifteen with their offset
   pub refused-22 : rank (λ i. eqb (spaceRefusal (spaceNumber i)) 22) 384 ≡ 12
   pub refused-23 : rank (λ i. eqb (spaceRefusal (spaceNumber i)) 23) 384 ≡ 15

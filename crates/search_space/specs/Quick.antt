@@ -3,7 +3,7 @@
 use mathlib.Core.Bool.{cond}
 use mathlib.Core.List.{List, [], _∷_}
 use mathlib.Core.Path.{_≡_}
-use Prim.Native.Nat.{ℕ, _+_, _-_, _*_, _/_, _%_, _≤_, _<_}
+use Prim.Native.Nat.{ℕ, _+_, _-_, _*_, _/_, _%_, _^_, _≤_, _<_}
 use lib.Dec.{ltb}
 use lib.ListN.{getD}
 use Rattle.search_space.specs.declared.Candidate.{Candidate}
@@ -26,30 +26,25 @@ cutOf rmax =
 pub record CutFits (x : Cut) : Type 0 where
   pub size : (1 ≤ x .size) × (x .size ≤ 256)
   pub many : x .many ≤ 8
+  pub count : x .count ≤ 15
   pub row : x .row < 4
 
--- of each candidate the first and the last block, a row for Rmax 1, 2, 4 and from 8 up
-abbrev pub firstBlocks : List (List ℕ)
-firstBlocks =
-    (0 ∷ 0 ∷ 0 ∷ 0 ∷ 0 ∷ 0 ∷ 0 ∷ 0 ∷ 0 ∷ 0 ∷ 0 ∷ 0 ∷ 0 ∷ 0 ∷ 0 ∷ [])
-    ∷ (0 ∷ 0 ∷ 1 ∷ 0 ∷ 0 ∷ 0 ∷ 0 ∷ 0 ∷ 0 ∷ 0 ∷ 0 ∷ 0 ∷ 0 ∷ 0 ∷ 0 ∷ [])
-    ∷ (0 ∷ 0 ∷ 0 ∷ 1 ∷ 2 ∷ 2 ∷ 3 ∷ 0 ∷ 0 ∷ 0 ∷ 0 ∷ 0 ∷ 0 ∷ 0 ∷ 0 ∷ [])
-    ∷ (0 ∷ 0 ∷ 0 ∷ 0 ∷ 1 ∷ 2 ∷ 2 ∷ 3 ∷ 4 ∷ 4 ∷ 4 ∷ 5 ∷ 6 ∷ 6 ∷ 7 ∷ [])
-    ∷ []
+-- digit k of sixteen, the lowest is digit 0
+abbrev pub digitOf : ℕ → ℕ → ℕ
+digitOf x k = x / 2 ^ (4 * k) % 16
 
-abbrev pub lastBlocks : List (List ℕ)
-lastBlocks =
-    (0 ∷ 0 ∷ 0 ∷ 0 ∷ 0 ∷ 0 ∷ 0 ∷ 0 ∷ 0 ∷ 0 ∷ 0 ∷ 0 ∷ 0 ∷ 0 ∷ 0 ∷ [])
-    ∷ (0 ∷ 1 ∷ 1 ∷ 0 ∷ 0 ∷ 0 ∷ 0 ∷ 0 ∷ 0 ∷ 0 ∷ 0 ∷ 0 ∷ 0 ∷ 0 ∷ 0 ∷ [])
-    ∷ (0 ∷ 1 ∷ 3 ∷ 1 ∷ 2 ∷ 3 ∷ 3 ∷ 0 ∷ 0 ∷ 0 ∷ 0 ∷ 0 ∷ 0 ∷ 0 ∷ 0 ∷ [])
-    ∷ (0 ∷ 1 ∷ 3 ∷ 7 ∷ 1 ∷ 2 ∷ 3 ∷ 3 ∷ 4 ∷ 5 ∷ 7 ∷ 5 ∷ 6 ∷ 7 ∷ 7 ∷ [])
-    ∷ []
+-- of each candidate the first and the last block, digit k for candidate k; a number for Rmax 1, 2, 4 and from 8 up
+abbrev pub firstBlocks : List ℕ
+firstBlocks = 0 ∷ 0x100 ∷ 0x3221000 ∷ 0x766544432210000 ∷ []
+
+abbrev pub lastBlocks : List ℕ
+lastBlocks = 0 ∷ 0x110 ∷ 0x3321310 ∷ 0x776575433217310 ∷ []
 
 unfoldable pub firstBlock : ℕ → ℕ → ℕ
-firstBlock row k = getD (getD firstBlocks row []) k 0
+firstBlock row k = digitOf (getD firstBlocks row 0) k
 
 unfoldable pub lastBlock : ℕ → ℕ → ℕ
-lastBlock row k = getD (getD lastBlocks row []) k 0
+lastBlock row k = digitOf (getD lastBlocks row 0) k
 
 -- the ends of each block, at j the j-th usable subframe from the start on
 pub record BlocksOf (at : ℕ → ℕ) (x : Cut) (b : Blocks) : Type 0 where

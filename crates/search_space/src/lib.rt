@@ -3,16 +3,17 @@ ghost use mathlib.Core.Path.{_≡_};
 ghost use mathlib.Core.Bool.{true};
 ghost use Prim.Native.Nat.{ℕ, _*_, _+_, _≤_, _<_, _^_};
 ghost use lib.ListN.{length, getD};
-ghost use Rattle.counting.specs.Counting.{next, select};
+ghost use Rattle.counting.specs.Counting.{next, rank, select};
 ghost use Rattle.grid.specs.Grid.{lastSubframe};
 ghost use Rattle.grid.specs.Tables.{isRepetition};
-ghost use Rattle.messages.specs.Messages.{allPeriods};
+ghost use Rattle.spans.specs.Pattern.{allows, periodOf, Regular, OnesOf};
+ghost use Rattle.messages.specs.Messages.{allPeriods, areListed, remaining};
 ghost use Rattle.subframes.specs.Subframes.{leftIn, Searchable};
 ghost use Rattle.search_space.specs.Starts.{hyperframe, doubledPeriod, isStart};
 ghost use Rattle.search_space.specs.Refusals.{spaceRefusal};
 ghost use Rattle.search_space.specs.Candidates.{blank};
 ghost use Rattle.search_space.specs.Questions.{refusedSearch, monitoredIn, searchOf};
-ghost use Rattle.search_space.specs.Quick.{FirstFrom, cutOf, CutFits, BlocksOf, entryIn};
+ghost use Rattle.search_space.specs.Quick.{FirstFrom, cutOf, CutFits, BlocksOf, digitOf, entryIn};
 use cell::Cell;
 use messages::Messages;
 use spans::Ends;
@@ -24,20 +25,11 @@ const HYPERFRAME: u64 = 10240;
 // 2G by field.
 const DOUBLED_G: [u8; 8] = [3, 4, 8, 16, 32, 64, 96, 128];
 
-// Of each candidate the first and the last block of the smallest R, a row for Rmax 1, 2, 4 and from 8 up.
-const FIRST_BLOCKS: [[u8; 15]; 4] = [
-    [0, 0, 0, 0, 0, 0, 0, 0, 0, 0, 0, 0, 0, 0, 0],
-    [0, 0, 1, 0, 0, 0, 0, 0, 0, 0, 0, 0, 0, 0, 0],
-    [0, 0, 0, 1, 2, 2, 3, 0, 0, 0, 0, 0, 0, 0, 0],
-    [0, 0, 0, 0, 1, 2, 2, 3, 4, 4, 4, 5, 6, 6, 7],
-];
+// Of each candidate the first and the last block of the smallest R: candidate k has digit k of sixteen, the lowest is
+// digit 0. A number for Rmax 1, 2, 4 and from 8 up.
+const FIRST_BLOCKS: [u64; 4] = [0, 0x100, 0x322_1000, 0x766_5444_3221_0000];
 
-const LAST_BLOCKS: [[u8; 15]; 4] = [
-    [0, 0, 0, 0, 0, 0, 0, 0, 0, 0, 0, 0, 0, 0, 0],
-    [0, 1, 1, 0, 0, 0, 0, 0, 0, 0, 0, 0, 0, 0, 0],
-    [0, 1, 3, 1, 2, 3, 3, 0, 0, 0, 0, 0, 0, 0, 0],
-    [0, 1, 3, 7, 1, 2, 3, 3, 4, 5, 7, 5, 6, 7, 7],
-];
+const LAST_BLOCKS: [u64; 4] = [0, 0x110, 0x332_1310, 0x776_5754_3321_7310];
 
 // Asked from subframe n on: Rmax, and the fields of G and of the offset.
 pub struct SearchSpace {
@@ -135,23 +127,25 @@ fn cut_of(rmax: u64) -> Cut
     }
 }
 
-// A block: the j-th usable subframe from a given one on, and the last of the `more` that follow it.
-fn block(p: Pattern, laid: bool, ms: Messages, from: u64, j: u64, more: u64) -> Ends
-    requires { ⌜ Searchable p laid ms × (from < 2 ^ 31) × (j + more < 2 ^ 31) ⌝ }
-    ensures { λ r. ⌜ (r .first ≡ select (leftIn p laid ms) allPeriods from j)
-        × (r .last ≡ select (leftIn p laid ms) allPeriods from (j + more)) ⌝ }
+// A block: the j-th subframe that messages leave from a given one on, and the last of the `more` that follow it.
+fn block(ms: Messages, p: Pattern, from: u64, j: u64, more: u64) -> Ends
+    requires { ⌜ (areListed ms ≡ true) × Regular p × (0 < rank (remaining ms (allows p)) allPeriods) × (from < 2 ^ 31)
+        × (j + more < 2 ^ 31) ⌝ }
+    ensures { λ r. ⌜ (r .first ≡ select (remaining ms (allows p)) allPeriods from j)
+        × (r .last ≡ select (remaining ms (allows p)) allPeriods from (j + more)) ⌝ }
 {
     if more == 0 {
-        let t = subframes::nth(p, laid, ms, from, j);
+        let t = timetable::nth(ms, p, from, j);
         return Ends { first: t, last: t };
     }
-    subframes::first_and_last(p, laid, ms, from, j, more)
+    timetable::first_and_last(ms, p, from, j, more)
 }
 
 // The blocks from the start on, each looked for from the end of the one before it.
-fn blocks_from(p: Pattern, laid: bool, ms: Messages, start: u64, x: Cut) -> Blocks
-    requires { ⌜ Searchable p laid ms × (start < 2 ^ 30 + hyperframe) × CutFits x ⌝ }
-    ensures { λ r. ⌜ BlocksOf (select (leftIn p laid ms) allPeriods start) x r ⌝ }
+fn blocks_beside(ms: Messages, p: Pattern, start: u64, x: Cut) -> Blocks
+    requires { ⌜ (areListed ms ≡ true) × Regular p × (0 < rank (remaining ms (allows p)) allPeriods)
+        × (start < 2 ^ 30 + hyperframe) × CutFits x ⌝ }
+    ensures { λ r. ⌜ BlocksOf (select (remaining ms (allows p)) allPeriods start) x r ⌝ }
 {
     let size = x.size;
     let many = x.many;
@@ -161,7 +155,7 @@ fn blocks_from(p: Pattern, laid: bool, ms: Messages, start: u64, x: Cut) -> Bloc
     let mut skip: u64 = 0;
     let mut i: u64 = 0;
     while i < many {
-        let ends = block(p, laid, ms, from, skip, size - 1);
+        let ends = block(ms, p, from, skip, size - 1);
         first[i as usize] = ends.first;
         last[i as usize] = ends.last;
         from = ends.last;
@@ -171,33 +165,83 @@ fn blocks_from(p: Pattern, laid: bool, ms: Messages, start: u64, x: Cut) -> Bloc
     Blocks { first, last }
 }
 
-// Candidate k, or zeros past the count.
-fn candidate_at(b: Blocks, x: Cut, k: u64) -> Candidate
-    requires { ⌜ CutFits x × (k < 15) ⌝ }
-    ensures { λ r. ⌜ r ≡ entryIn b x k ⌝ }
+// The subframe before which k allowed ones lie, and the last of the `more` that follow it; a and b are the ones of the
+// two masks.
+fn ends_at(p: Pattern, a: u64, b: u64, k: u64, more: u64) -> Ends
+    requires { ⌜ Regular p × OnesOf p a b × (0 < rank (allows p) (periodOf p)) × (k + more < 2 ^ 32) ⌝ }
+    ensures { λ r. ⌜ ((allows p (r .first) ≡ true) × (rank (allows p) (r .first) ≡ k))
+        × ((allows p (r .last) ≡ true) × (rank (allows p) (r .last) ≡ k + more)) ⌝ }
 {
-    if k >= x.count {
-        return BLANK;
+    let first = spans::at(p, a, b, k);
+    if more == 0 {
+        return Ends { first, last: first };
     }
-    let row = x.row as usize;
-    let i = grid::byte(FIRST_BLOCKS[row][k as usize]);
-    let j = grid::byte(LAST_BLOCKS[row][k as usize]);
-    Candidate {
-        first: b.first[i as usize],
-        r: (j + 1 - i) * x.size,
-        last: b.last[j as usize],
-    }
+    let last = spans::at(p, a, b, k + more);
+    Ends { first, last }
 }
 
-// All of them, in order.
+// The same blocks in a pattern on which no message is laid, all by the rank of the start.
+fn blocks_alone(p: Pattern, start: u64, x: Cut) -> Blocks
+    requires { ⌜ Regular p × (0 < rank (allows p) (periodOf p)) × (start < 2 ^ 30 + hyperframe) × CutFits x ⌝ }
+    ensures { λ r. ⌜ BlocksOf (select (allows p) (periodOf p) start) x r ⌝ }
+{
+    let size = x.size;
+    let many = x.many;
+    let a = counting::ones_of(p.sib1);
+    let b = counting::ones_of(p.usual);
+    let mut first = [0u64; 8];
+    let mut last = [0u64; 8];
+    let mut k = spans::rank_of(p, a, b, start);
+    let mut i: u64 = 0;
+    while i < many {
+        let ends = ends_at(p, a, b, k, size - 1);
+        first[i as usize] = ends.first;
+        last[i as usize] = ends.last;
+        k += size;
+        i += 1;
+    }
+    Blocks { first, last }
+}
+
+// The blocks from the start on, with and without messages.
+fn all_blocks(p: Pattern, laid: bool, ms: Messages, start: u64, x: Cut) -> Blocks
+    requires { ⌜ Searchable p laid ms × (start < 2 ^ 30 + hyperframe) × CutFits x ⌝ }
+    ensures { λ r. ⌜ BlocksOf (select (leftIn p laid ms) allPeriods start) x r ⌝ }
+{
+    if laid {
+        return blocks_beside(ms, p, start, x);
+    }
+    blocks_alone(p, start, x)
+}
+
+// Digit k of sixteen.
+fn digit(x: u64, k: u64) -> u64
+    requires { ⌜ k < 16 ⌝ }
+    ensures { λ r. ⌜ r ≡ digitOf x k ⌝ }
+{
+    (x >> (4 * k)) % 16
+}
+
+// All of them, in order; zeros past the count.
 fn listed(b: Blocks, x: Cut) -> [Candidate; 15]
     requires { ⌜ CutFits x ⌝ }
     ensures { λ r. ⌜ (length r ≡ 15) × ((k : ℕ) → k < 15 → getD r k blank ≡ entryIn b x k) ⌝ }
 {
+    let row = x.row as usize;
+    let firsts = FIRST_BLOCKS[row];
+    let lasts = LAST_BLOCKS[row];
+    let size = x.size;
+    let count = x.count;
     let mut list = [BLANK; 15];
-    let mut k: usize = 0;
-    while k < 15 {
-        list[k] = candidate_at(b, x, k as u64);
+    let mut k: u64 = 0;
+    while k < count {
+        let i = digit(firsts, k);
+        let j = digit(lasts, k);
+        list[k as usize] = Candidate {
+            first: b.first[i as usize],
+            r: (j + 1 - i) * size,
+            last: b.last[j as usize],
+        };
         k += 1;
     }
     list
@@ -240,7 +284,7 @@ fn monitored(p: Pattern, laid: bool, ms: Messages, s: SearchSpace) -> SearchAnsw
     let period = doubled_period(s) / 2;
     let start = start_from(s.n, period, s.alpha * period / 8);
     let x = cut_of(s.rmax);
-    let list = listed(blocks_from(p, laid, ms, start, x), x);
+    let list = listed(all_blocks(p, laid, ms, start, x), x);
     SearchAnswer {
         no: 0,
         start,

@@ -10,14 +10,14 @@ returns : tie.Need-returns
 unfolding cutOf
 returns c =
     let b = repetition-bounds (c .before .args .rmax) (c .before .pre) in
-    (simp (lt-ltb _ _ (c .if1 .taken)), record { size = (omega arith, omega arith); many = omega arith; row = omega arith })
+    (simp (lt-ltb _ _ (c .if1 .taken)), record { size = (omega arith, omega arith); many = omega arith; count = omega arith; row = omega arith })
 
 returns-2 : tie.Need-returns-2
 unfolding cutOf
 returns-2 c =
     let b = repetition-bounds (c .before .args .rmax) (c .before .pre) in (
       simp (le-ltb _ _ (c .if1 .left)),
-      record { size = (omega arith, omega (arith, b .1)); many = omega arith; row = omega arith },
+      record { size = (omega arith, omega (arith, b .1)); many = omega arith; count = omega arith; row = omega arith },
     )
 
 pub cut-of-spec : {M : Type 1} → statement M

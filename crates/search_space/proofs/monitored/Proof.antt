@@ -51,5 +51,5 @@ monitored-spec =
     (λ c κs. c .before .cut-of .ensures .1)
     (λ c.
     let x = c .before .before in
-    monitored-is _ _ (accepted (x .before .before .before .before) .fields .rmax) _ (x .cut-of .result) (c .before .blocks-from .result)
-    (c .listed .result) (start-is (x .before)) (x .cut-of .ensures .0) (c .before .blocks-from .ensures) (c .listed .ensures .0) (c .listed .ensures .1)))
+    monitored-is _ _ (accepted (x .before .before .before .before) .fields .rmax) _ (x .cut-of .result) (c .before .all-blocks .result)
+    (c .listed .result) (start-is (x .before)) (x .cut-of .ensures .0) (c .before .all-blocks .ensures) (c .listed .ensures .0) (c .listed .ensures .1)))
