@@ -15,6 +15,7 @@
  *     3  narrowband ports not 1 or 2
  *     4  cell ports not 1, 2 or 4 in-band, or not 0 in the other modes
  *     5  control region not 1 to 3 in-band, or not 0 in the other modes
+ *    24  mode 0 with cell ports other than the narrowband ports
  *     6  SIB1 schedule above 11
  *     7  bitmap length not 0, 10 or 40, its buffer too short, or spare bits set
  *    21  a number of the messages that is not listed, a fifth schedule, or a window longer than its period
@@ -78,7 +79,7 @@ enum {
     NBIOT_CELL_CARRIER,  /* 0 anchor, 1 non-anchor */
     NBIOT_CELL_IDENTITY, /* 0 to 503 */
     NBIOT_CELL_NPORTS,   /* narrowband reference ports, 1 or 2 */
-    NBIOT_CELL_CPORTS,   /* cell reference ports: 1, 2 or 4 in-band, else 0 */
+    NBIOT_CELL_CPORTS,   /* cell reference ports: in mode 0 as the narrowband ports, in mode 1 1, 2 or 4, else 0 */
     NBIOT_CELL_CONTROL,  /* control region: 1 to 3 in-band, else 0 */
     NBIOT_CELL_SIB1,     /* SIB1 schedule, 0 to 11 */
     NBIOT_CELL_BITS,     /* bitmap length: 0, 10 or 40 */

@@ -73,7 +73,21 @@ pub fn cell(r: &mut Random) -> Cell {
     let in_band = mode < 2;
     let cports = if in_band { r.one_of(&[1, 2, 4]) } else { 0 };
     let control = if in_band { 1 + r.below(3) } else { 0 };
-    [mode, r.below(2), r.below(504), 1 + r.below(2), cports, control, r.below(12), r.one_of(&[0, 10, 40])]
+    same_ports([mode, r.below(2), r.below(504), 1 + r.below(2), cports, control, r.below(12), r.one_of(&[0, 10, 40])])
+}
+
+/// In mode 0 the cell ports are the narrowband ports.
+fn same_ports<const N: usize>(mut cell: Cell<N>) -> Cell<N> {
+    if cell[0] == 0 {
+        cell[4] = cell[3];
+    }
+    cell
+}
+
+/// The same cell with one narrowband port.
+pub fn one_port<const N: usize>(mut cell: Cell<N>) -> Cell<N> {
+    cell[3] = 1;
+    same_ports(cell)
 }
 
 /// A bitmap of 10 or 40 bits, about half of them ones.
@@ -338,7 +352,7 @@ impl Scene {
 
     /// With one narrowband port, as a fill asks it.
     pub fn with_one_port(mut self, r: &mut Random) -> Scene {
-        self.cell[3] = 1;
+        self.cell = one_port(self.cell);
         self.load(r);
         self
     }

@@ -58,13 +58,14 @@ pub struct Cell {
 }
 
 impl Cell {
-    /// Numbers 1 to 7.
+    /// Numbers 1 to 7, with 24 after 5.
     pub fn judge_numbers(&self) -> Result<(), Refusal> {
         refuse(1, self.mode > 3 || self.carrier > 1)?;
         refuse(2, self.identity > 503)?;
         refuse(3, self.nports != 1 && self.nports != 2)?;
         refuse(4, !self.cell_ports_listed())?;
         refuse(5, !self.control_region_listed())?;
+        refuse(24, self.same_identity() && self.cports != self.nports)?;
         refuse(6, self.sib1 > 11)?;
         refuse(7, self.bitmap_wrong())
     }
@@ -72,6 +73,12 @@ impl Cell {
     /// Modes 0 and 1 lie inside an LTE carrier.
     pub fn in_band(&self) -> bool {
         self.mode <= 1
+    }
+
+    /// In mode 0 the LTE cell has our identity, so a receiver takes the port
+    /// numbers of both as equal (02, "L7"; TS 36.211 clause 10.2.6.2).
+    pub fn same_identity(&self) -> bool {
+        self.mode == 0
     }
 
     fn cell_ports_listed(&self) -> bool {

@@ -1,5 +1,6 @@
-//! A `count` question for every accepted combination of mode, ports, control
-//! region and identity mod 6 (02, "L3").
+//! A `count` question for every combination of mode, ports, control region and
+//! identity mod 6 with listed numbers (02, "L3"); mode 0 with unequal ports is
+//! among them and refused (02, "L7").
 
 use crate::cell::Cell;
 use crate::text::Question;

@@ -94,8 +94,9 @@ pub fn draw_cell(random: &mut Random) -> Cell {
 
 /// As above, without messages.
 fn draw_plain_cell(random: &mut Random) -> Cell {
-    let mode = random.below(4);
-    let in_band = mode <= 1;
+    let mode = random.pick(&[0, 1, 1, 2, 3]);
+    let nports = if random.chance(75) { 1 } else { 2 };
+    let (cports, control) = draw_in_band_numbers(random, mode, nports);
     let identity = if random.chance(30) {
         random.pick(&[0, 1, 2, 3, 4, 5, 6, 7, 502, 503])
     } else {
@@ -120,14 +121,24 @@ fn draw_plain_cell(random: &mut Random) -> Cell {
         mode,
         carrier,
         identity,
-        nports: if random.chance(75) { 1 } else { 2 },
-        cports: if in_band { random.pick(&[1, 2, 4]) } else { 0 },
-        control: if in_band { random.between(1, 3) } else { 0 },
+        nports,
+        cports,
+        control,
         sib1: random.below(12),
         bits,
         anchor,
         other,
         messages: Messages::default(),
+    }
+}
+
+/// Cell ports and control region of a mode, beside so many narrowband ports;
+/// in mode 0 as many cell ports.
+fn draw_in_band_numbers(random: &mut Random, mode: u64, nports: u64) -> (u64, u64) {
+    match mode {
+        0 => (nports, random.between(1, 3)),
+        1 => (random.pick(&[1, 2, 4]), random.between(1, 3)),
+        _ => (0, 0),
     }
 }
 

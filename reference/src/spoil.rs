@@ -7,24 +7,24 @@ use crate::drawn_searches::refused_words;
 use crate::drawn_windows::{draw_never_free, draw_unlisted, window_words};
 use crate::grant::Grant;
 use crate::random::Random;
-use crate::scene::{bitmap_of, buffer, data_word, Scene, Word};
+use crate::scene::{bitmap_of, buffer, data_word, number, Scene, Word};
 use crate::slots::SlotUse;
 use crate::text::{Kind, Question};
 use crate::windows::Windows;
 
-const CELL: &[u64] = &[1, 2, 3, 4, 5, 6, 7, 21, 21, 8, 8, 18, 18];
-const PLAN: &[u64] = &[1, 2, 3, 4, 5, 6, 7, 21, 21, 8, 18, 9, 10, 12];
+const CELL: &[u64] = &[1, 2, 3, 4, 5, 24, 6, 7, 21, 21, 8, 8, 18, 18];
+const PLAN: &[u64] = &[1, 2, 3, 4, 5, 24, 6, 7, 21, 21, 8, 18, 9, 10, 12];
 const SEARCH: &[u64] = &[
-    1, 2, 3, 4, 5, 6, 7, 21, 8, 18, 9, 10, 10, 12, 22, 22, 22, 23, 23, 23,
+    1, 2, 3, 4, 5, 24, 6, 7, 21, 8, 18, 9, 10, 10, 12, 22, 22, 22, 23, 23, 23,
 ];
 const PLAN_UP: &[u64] = &[9, 10, 11, 13, 19, 20];
 const PLAN_ACK: &[u64] = &[9, 10, 19, 20];
-const PLACE: &[u64] = &[1, 2, 3, 4, 5, 6, 7, 21, 21, 8, 18, 9, 10, 12, 14];
+const PLACE: &[u64] = &[1, 2, 3, 4, 5, 24, 6, 7, 21, 21, 8, 18, 9, 10, 12, 14];
 const PLACE_UP: &[u64] = &[9, 10, 11, 13, 19, 20, 14];
 const PLACE_ACK: &[u64] = &[9, 10, 19, 20, 14];
 const FILL: &[u64] = &[
-    1, 2, 3, 4, 5, 6, 7, 21, 8, 18, 9, 10, 12, 14, 15, 15, 15, 15, 15, 15, 16, 16, 16, 16, 16, 16,
-    16, 16, 16, 17,
+    1, 2, 3, 4, 5, 24, 6, 7, 21, 8, 18, 9, 10, 12, 14, 15, 15, 15, 15, 15, 15, 16, 16, 16, 16, 16,
+    16, 16, 16, 16, 17,
 ];
 
 /// Bits of forty that synchronization takes on an anchor.
@@ -123,6 +123,7 @@ pub fn spoil(random: &mut Random, scene: &Scene, question: Question, no: u64) ->
         4 => unlisted(random, "cports", &[1, 2, 3, 4], 0),
         5 if in_band => unlisted(random, "control", &[0, 4], 3),
         5 => unlisted(random, "control", &[1, 2, 3], 0),
+        24 => unequal_ports(random, scene),
         6 => one_above(random, "sib1", 11),
         7 => bad_bitmap(random, scene),
         21 => unlisted_messages(random),
@@ -144,6 +145,20 @@ pub fn spoil(random: &mut Random, scene: &Scene, question: Question, no: u64) ->
         16 => vec![("level", format!("{:08x}", random.pick(&BAD_LEVELS)))],
         _ => two_ports(random, scene),
     }
+}
+
+/// Number 24: mode 0 with other cell ports than narrowband ports, all listed.
+fn unequal_ports(random: &mut Random, scene: &Scene) -> Vec<Word> {
+    let (nports, cports) = random.pick(&[(1, 2), (1, 4), (2, 1), (2, 4)]);
+    let mut words = vec![
+        number("mode", 0),
+        number("nports", nports),
+        number("cports", cports),
+    ];
+    if !scene.cell.in_band() {
+        words.push(number("control", random.between(1, 3)));
+    }
+    words
 }
 
 /// Number 7: a length not listed, a buffer too short, spare bits set.
@@ -351,6 +366,9 @@ fn bad_length(random: &mut Random, scene: &Scene, question: Question) -> Vec<Wor
 fn two_ports(random: &mut Random, scene: &Scene) -> Vec<Word> {
     let mut cell = scene.cell.clone();
     cell.nports = 2;
+    if cell.same_identity() {
+        cell.cports = 2;
+    }
     let data = data_word(random, &cell, scene.listing.codeword_units);
-    vec![("nports", "2".to_string()), data]
+    vec![number("nports", 2), number("cports", cell.cports), data]
 }

@@ -11,7 +11,7 @@ use crate::text::{Fault, Kind, Question, Values};
 use std::io::{self, BufRead, Write};
 
 /// One more than the largest number of a refusal.
-pub const NUMBERS: usize = 24;
+pub const NUMBERS: usize = 25;
 
 /// What one row counts.
 #[derive(Clone, Copy, Debug, Default, PartialEq, Eq)]

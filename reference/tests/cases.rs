@@ -1,4 +1,5 @@
-//! The cases P1 to P11 of 01, each from its printed fields; P10 and P11 with L2's number 18.
+//! The cases P1 to P11 of 01, each from its printed fields; P10 and P11 with L2's number 18, P1's four cell ports in
+//! mode 1 since L7.
 
 mod common;
 use common::{ask, value};
@@ -14,9 +15,9 @@ fn p1_eligible_elements() {
     for v in 0..12 {
         assert_eq!(eligible("mode=3 nports=1", v), 160);
         assert_eq!(eligible("mode=3 nports=2", v), 152);
+        assert_eq!(eligible("mode=1 control=3 nports=2 cports=4", v), 100);
         for mode in 0..2 {
             let in_band = format!("mode={mode} control=3");
-            assert_eq!(eligible(&format!("{in_band} nports=2 cports=4"), v), 100);
             assert_eq!(eligible(&format!("{in_band} nports=2 cports=2"), v), 104);
             assert_eq!(eligible(&format!("{in_band} nports=1 cports=1"), v), 118);
         }

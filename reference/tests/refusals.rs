@@ -25,7 +25,7 @@ fn cell_numbers() {
     assert_eq!(no("cell nports=3"), 3);
     assert_eq!(no("cell cports=1"), 4);
     assert_eq!(no("cell mode=0 cports=3 control=1"), 4);
-    assert_eq!(no("cell mode=0 cports=4 control=1"), 0);
+    assert_eq!(no("cell mode=0 cports=1 control=1"), 0);
     assert_eq!(no("cell mode=0 cports=4 control=0"), 5);
     assert_eq!(no("cell control=1"), 5);
     assert_eq!(no("cell sib1=11"), 0);
@@ -38,6 +38,54 @@ fn cell_numbers() {
     assert_eq!(no("cell bits=40 anchor=0000000000ff"), 8);
     assert_eq!(no("cell bits=40 anchor=8000000000"), 18);
     assert_eq!(no("cell siwindow=161"), 21);
+}
+
+/// 24 stands after 5 and before 6 (02, "L7"): in mode 0 the ports are equal.
+#[test]
+fn ports_of_the_same_identity() {
+    let port = |mode: u64, nports: u64, cports: u64, more: &str| {
+        no(&format!(
+            "cell mode={mode} nports={nports} cports={cports} control=3 {more}"
+        ))
+    };
+    for carrier in ["carrier=0", "carrier=1"] {
+        for (nports, cports) in [(1, 1), (2, 2), (1, 2), (1, 4), (2, 1), (2, 4)] {
+            let expected = if nports == cports { 0 } else { 24 };
+            assert_eq!(port(0, nports, cports, carrier), expected);
+            assert_eq!(port(1, nports, cports, carrier), 0);
+        }
+    }
+    assert_eq!(port(0, 2, 4, "control=4"), 5);
+    assert_eq!(port(0, 2, 3, "sib1=12"), 4);
+    assert_eq!(port(0, 3, 4, "identity=503"), 3);
+    assert_eq!(port(0, 2, 1, "sib1=12"), 24);
+    assert_eq!(port(0, 2, 2, "sib1=12"), 6);
+    assert_eq!(port(0, 1, 2, "bits=11"), 24);
+    assert_eq!(port(0, 1, 2, "siwindow=161 bits=10 anchor=0000"), 24);
+}
+
+/// 24 refuses all that is asked of the cell, before any number of the grant.
+#[test]
+fn unequal_ports_refuse_every_question() {
+    let cell = "set mode=0 nports=1 cports=2 control=1 n=18446744073709551615\n";
+    for question in [
+        "cell",
+        "bitmap",
+        "cause",
+        "count",
+        "search",
+        "fill room=0",
+        "element",
+    ] {
+        assert_eq!(no(&format!("{cell}{question}")), 24);
+    }
+    for question in ["plan", "forward", "backward", "step", "picture"] {
+        for kind in ["down", "control"] {
+            assert_eq!(no(&format!("{cell}{question} {kind}")), 24);
+        }
+    }
+    assert_eq!(no(&format!("{cell}plan up n=0")), 0, "no cell");
+    assert_eq!(no(&format!("{cell}plan ack n=0")), 0, "no cell");
 }
 
 #[test]
@@ -78,7 +126,7 @@ fn grant_numbers() {
 /// Kinds in a sent subframe of an in-band cell, v = 0.
 #[test]
 fn kinds_of_places() {
-    let scene = "set mode=0 identity=6 nports=1 cports=2 control=2 n=11 r=1 format=0 ncce=1\n";
+    let scene = "set mode=1 identity=6 nports=1 cports=2 control=2 n=11 r=1 format=0 ncce=1\n";
     let kind = |place: &str| {
         let answer = &ask(&format!("{scene}backward control {place}"))[0];
         (value(answer, "ours"), value(answer, "kind"))
@@ -123,7 +171,7 @@ fn generated_acknowledgements() {
     let of_ack = |question: &Question| question.kind() == Some(Kind::Ack);
     let rows: Vec<_> = table.rows.iter().filter(|(q, _)| of_ack(q)).collect();
     let asked: u64 = rows.iter().map(|(_, row)| row.asked).sum();
-    assert!(asked >= 2400, "at least 12 of a hundred");
+    assert!(asked >= 2000, "at least 10 of a hundred");
     for no in [9, 10, 19, 20, 14] {
         let refused: u64 = rows.iter().map(|(_, row)| row.refused[no]).sum();
         assert!(refused >= 20, "number {no}");

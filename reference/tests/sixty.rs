@@ -1,5 +1,6 @@
 //! Sixty answers that a reader of document 01 wrote down before any program was asked: twenty for each kind of grant.
-//! Since 02's L2 the backward answers of a subframe end with the cause, and 28 is refused with 18.
+//! Since 02's L2 the backward answers of a subframe end with the cause, and 28 is refused with 18; since L7 the cells
+//! of 23, 29 and 42, whose ports are not equal, are in mode 1, where the answers are the same.
 
 mod common;
 use common::ask;

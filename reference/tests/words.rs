@@ -307,7 +307,7 @@ search");
 #[test]
 fn pictures() {
     let answers = ask(
-        "set mode=0 identity=1 nports=2 cports=4 control=2 rmax=1 r=1 ncce=1
+        "set mode=1 identity=1 nports=2 cports=4 control=2 rmax=1 r=1 ncce=1
 picture control
 picture control i=1
 picture down i=0",

@@ -23,7 +23,7 @@ pub struct Pattern {
     pub in_sib1: u32,
 }
 
-/// Refusals 1 to 6.
+/// Refusals 1 to 6 and 24.
 #[inline(always)]
 fn numbers(cell: &Cell) -> u64 {
     let [mode, carrier, identity, nports, cports, control, sib1, _] = *cell;
@@ -42,6 +42,9 @@ fn numbers(cell: &Cell) -> u64 {
     }
     if control > 3 || (regions >> control) & 1 == 0 {
         return 5;
+    }
+    if mode == 0 && cports != nports {
+        return 24;
     }
     if sib1 > 11 {
         return 6;

@@ -1,7 +1,7 @@
 //! Inputs whose cells have messages: a cell of 23 numbers, and walks with the 15 of its messages after the grant.
 
 use crate::fast::{self, Cell, ControlGrant, ControlWalk, DownGrant, DownWalk, Messages, SearchSpace};
-use crate::scene::{self, bitmap, cell, control, down, joined, Random, Scene, NO_SPACE};
+use crate::scene::{self, bitmap, cell, control, down, joined, one_port, Random, Scene, NO_SPACE};
 
 const WINDOWS: [u64; 7] = [160, 320, 480, 640, 960, 1280, 1600];
 
@@ -275,7 +275,7 @@ impl Messaged {
 
     /// With one narrowband port, as a fill asks it.
     pub fn with_one_port(mut self, r: &mut Random) -> Messaged {
-        self.cell[3] = 1;
+        self.cell = one_port(self.cell);
         self.load(r);
         self
     }

@@ -15,7 +15,7 @@ use Rattle.messages.specs.Messages.{areListed}
 use Rattle.cell.specs.declared.CellConfig.{CellConfig}
 use Rattle.cell.specs.declared.Cell.{Cell}
 use Rattle.cell.specs.Bitmap.{ownBuffer, bitmapIn}
-use Rattle.cell.specs.Judge.{inBand, cellPortsListed, controlListed, numbersRefusal, configRefusal, formRefusal, noneAllowed, noneUsable, useRefusal, cellRefusal, judgeOf, inForceOf}
+use Rattle.cell.specs.Judge.{inBand, cellPortsListed, controlListed, portsDiffer, numbersRefusal, configRefusal, formRefusal, noneAllowed, noneUsable, useRefusal, cellRefusal, judgeOf, inForceOf}
 use Rattle.cell.specs.Layout.{layoutOf}
 use Rattle.cell.specs.Quick.{WellFormed}
 use Rattle.elements.specs.Elements.{Valid}
@@ -39,7 +39,8 @@ numbers-good c e =
     let p3 = passed (not (eqb (c .nports) 1 || eqb (c .nports) 2)) 3 _ (omega arith) (p2 .1) in
     let p4 = passed (not (cellPortsListed c)) 4 _ (omega arith) (p3 .1) in
     let p5 = passed (not (controlListed c)) 5 _ (omega arith) (p4 .1) in
-    let p6 = passed (ltb 11 (c .sib1)) 6 0 (omega arith) (p5 .1) in
+    let p24 = passed (portsDiffer c) 24 _ (omega arith) (p5 .1) in
+    let p6 = passed (ltb 11 (c .sib1)) 6 0 (omega arith) (p24 .1) in
     record {
       carrier = ltb-false 1 (c .carrier) (either-parts (ltb 3 (c .mode)) (ltb 1 (c .carrier)) (p1 .0) .1);
       identity = omega (arith, ltb-false 503 (c .identity) (p2 .0));

@@ -1,9 +1,9 @@
--- P10 and P11 of 01, as 02 L2 has them, and cells with no bitmap: for every cell whose numbers and messages are listed. Of the two buffers only the
--- carrier's own is read, and it is the one given here.
+-- P10 and P11 of 01, as 02 L2 has them, and cells with no bitmap: for every cell whose numbers and messages are listed. Of
+-- the two buffers only the carrier's own is read, and it is the one given here. Then the cases of 02 L7.
 use mathlib.Core.Bool.{Bool, true, false, cond, not, _&&_, _||_}
 use mathlib.Core.List.{List, [], _∷_}
 use mathlib.Core.Path.{_≡_, refl, sym, _∙_}
-use Prim.Native.Nat.{ℕ, _%_, _<_}
+use Prim.Native.Nat.{ℕ, _%_, _≤_, _<_}
 use native.Mathlib.Omega.{arith}
 use lib.Dec.{T, eqb}
 use lib.ListN.{length}
@@ -15,13 +15,14 @@ use Rattle.counting.proofs.Rank.{rank-zero, rank-strict, rank-none, rank-same}
 use Rattle.counting.specs.Bits.{bitOf}
 use Rattle.bitmap.specs.Bitmap.{bytesOf, listedLength, badBitmap, allowed}
 use Rattle.sync.proofs.Taken.{taken}
-use Rattle.messages.specs.Messages.{areListed}
+use Rattle.messages.specs.Messages.{areListed, noMessages}
 use Rattle.messages.proofs.Repeating.{remaining-within}
 use Rattle.cell.specs.declared.Cell.{Cell}
 use Rattle.cell.specs.Bitmap.{bitmapIn}
 use Rattle.cell.specs.Usable.{period, isAnchor, anchorCause, free, usable}
-use Rattle.cell.specs.Judge.{numbersRefusal, configRefusal, formRefusal, noneAllowed, noneUsable, useRefusal, cellRefusal}
+use Rattle.cell.specs.Judge.{numbersRefusal, configRefusal, formRefusal, noneAllowed, noneUsable, useRefusal, cellRefusal, judgeOf}
 use Rattle.cell.specs.Quick.{laysMessages}
+use Rattle.cell.specs.Cases.{inBandCell, SamePortsCases}
 use Rattle.cell.proofs.Taken.{free-is, usable-is, unlaid}
 use Rattle.cell.proofs.Repeating.{short, none-free}
 
@@ -149,3 +150,31 @@ module _ (c : Cell) (numbers : numbersRefusal (c .config) ≡ 0) (messages : are
   pub forty-8 : c .messages .count ≡ 0 → c .config .sib1 ≡ 1 → cellRefusal c onlyFour ≡ 0
   unfolding bytesOf allowed free anchorCause
   forty-8 z s = some-free c onlyFour numbers four-fits messages z 164 (omega arith) (rw (a, i, b, s) refl)
+
+-- ---- L7
+
+-- numbers that are refused refuse the cell, by any buffer
+by-numbers : (c : Cell) (anchor other : List ℕ) (n : ℕ) → 0 < n → numbersRefusal (c .config) ≡ n → judgeOf c anchor other ≡ n
+unfolding judgeOf cellRefusal formRefusal configRefusal
+by-numbers c anchor other n h e = simp (e, ne-eqb n 0 (λ z. omega arith))
+
+module _ (carrier : ℕ) (h : carrier ≤ 1) where
+  numbers-in-band : (numbersRefusal (inBandCell 0 carrier 2 4 3 0 .config) ≡ 24) × (numbersRefusal (inBandCell 0 carrier 2 4 4 0 .config) ≡ 5)
+      × (numbersRefusal (inBandCell 0 carrier 2 1 3 12 .config) ≡ 24) × (numbersRefusal (inBandCell 0 carrier 2 2 3 12 .config) ≡ 6)
+      × (numbersRefusal (inBandCell 1 carrier 2 4 3 0 .config) ≡ 0)
+  unfolding numbersRefusal
+  numbers-in-band = rw (le-ltb 1 carrier h) (refl, refl, refl, refl, refl)
+
+listed-none : areListed noMessages ≡ true
+unfolding areListed
+listed-none = refl
+
+pub same-ports : SamePortsCases
+unfolding judgeOf
+same-ports = record {
+  four = λ carrier anchor other h. by-numbers _ anchor other 24 (omega arith) (numbers-in-band carrier h .0);
+  region = λ carrier anchor other h. by-numbers _ anchor other 5 (omega arith) (numbers-in-band carrier h .1);
+  one = λ carrier anchor other h. by-numbers _ anchor other 24 (omega arith) (numbers-in-band carrier h .2);
+  same = λ carrier anchor other h. by-numbers _ anchor other 6 (omega arith) (numbers-in-band carrier h .3);
+  another-mode = λ carrier anchor other h. unmapped (inBandCell 1 carrier 2 4 3 0) _ (numbers-in-band carrier h .4) listed-none refl refl;
+}

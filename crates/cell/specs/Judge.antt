@@ -1,5 +1,6 @@
--- The cell's refusals, the number beside its test: 01 "The cell" and "Numbers a caller may get back", 02 L2 and L5. They are tested in the
--- order of the list, which is not that of the numbers: 1 to 7, 21, 8, 18. And why a subframe is not usable, asked with the cell's refusals.
+-- The cell's refusals, the number beside its test: 01 "The cell" and "Numbers a caller may get back", 02 L2, L5 and L7.
+-- They are tested in the order of the list, which is not that of the numbers: 1 to 5, 24, 6, 7, 21, 8, 18. And why a
+-- subframe is not usable, asked with the cell's refusals.
 use mathlib.Core.Bool.{Bool, cond, not, _&&_, _||_}
 use mathlib.Core.List.{List, []}
 use Prim.Native.Nat.{ℕ}
@@ -27,7 +28,11 @@ cellPortsListed c =
 abbrev pub controlListed : CellConfig → Bool
 controlListed c = cond (inBand c) (leb 1 (c .control) && leb (c .control) 3) (eqb (c .control) 0)
 
--- 1 to 6, on the numbers alone
+-- mode 0: one identity for both, and so the same ports: 02 L7
+abbrev pub portsDiffer : CellConfig → Bool
+portsDiffer c = eqb (c .mode) 0 && not (eqb (c .cports) (c .nports))
+
+-- 1 to 6 and 24, on the numbers alone
 unfoldable pub numbersRefusal : CellConfig → ℕ
 numbersRefusal c =
     cond (ltb 3 (c .mode) || ltb 1 (c .carrier)) 1
@@ -35,13 +40,14 @@ numbersRefusal c =
     (cond (not (eqb (c .nports) 1 || eqb (c .nports) 2)) 3
     (cond (not (cellPortsListed c)) 4
     (cond (not (controlListed c)) 5
-    (cond (ltb 11 (c .sib1)) 6 0)))))
+    (cond (portsDiffer c) 24
+    (cond (ltb 11 (c .sib1)) 6 0))))))
 
--- 1 to 7. Of the two lent buffers only the carrier's own is read.
+-- these and 7. Of the two lent buffers only the carrier's own is read.
 unfoldable pub configRefusal : CellConfig → List ℕ → ℕ
 configRefusal c own = cond (eqb (numbersRefusal c) 0) (cond (badBitmap (c .bits) own) 7 0) (numbersRefusal c)
 
--- a well-formed cell: none of 1 to 7 and 21. Messages are judged on both carriers.
+-- a well-formed cell: none of 1 to 7, 24 and 21. Messages are judged on both carriers.
 unfoldable pub formRefusal : Cell → List ℕ → ℕ
 formRefusal c own =
     cond (eqb (configRefusal (c .config) own) 0)

@@ -62,7 +62,7 @@ pub struct Verdict {
     pub pattern: Pattern,
 }
 
-// Refusals 1 to 6.
+// Refusals 1 to 6 and 24.
 fn numbers_refusal(c: CellConfig) -> u64
     ensures { λ r. ⌜ r ≡ numbersRefusal c ⌝ }
 {
@@ -81,6 +81,9 @@ fn numbers_refusal(c: CellConfig) -> u64
     }
     if !listed_control(in_band, c.control) {
         return 5;
+    }
+    if (c.mode == 0) & (c.cports != c.nports) {
+        return 24;
     }
     if c.sib1 > 11 {
         return 6;
@@ -108,7 +111,7 @@ fn listed_control(in_band: bool, control: u64) -> bool
     control == 0
 }
 
-// Refusals 1 to 7.
+// Refusals 1 to 7 and 24.
 fn config_refusal(c: CellConfig, own: &[u8]) -> u64
     ensures { λ r. ⌜ r ≡ configRefusal c (now (own .entry)) ⌝ }
 {
@@ -122,7 +125,7 @@ fn config_refusal(c: CellConfig, own: &[u8]) -> u64
     0
 }
 
-// Refusals 1 to 7 and 21.
+// Refusals 1 to 7, 24 and 21.
 fn form_refusal(c: Cell, own: &[u8]) -> u64
     ensures { λ r. ⌜ r ≡ formRefusal c (now (own .entry)) ⌝ }
 {
@@ -179,7 +182,7 @@ fn refused(no: u64) -> Verdict
     }
 }
 
-// 8, 18 or the pattern, of eight numbers with none of the refusals 1 to 7, beside which no message stands. Some
+// 8, 18 or the pattern, of eight numbers with none of the refusals before, beside which no message stands. Some
 // questions ask for both in turn: one function of them is too long for the compiler to put into each.
 fn formed_alone(c: CellConfig, own: &[u8]) -> Verdict
     requires { ⌜ configRefusal c (now own) ≡ 0 ⌝ }
@@ -200,7 +203,7 @@ fn formed_alone(c: CellConfig, own: &[u8]) -> Verdict
     }
 }
 
-// 8, 18 or the pattern, of a cell with none of the refusals 1 to 7 and 21.
+// 8, 18 or the pattern, of a cell with none of the refusals before.
 fn formed(c: Cell, own: &[u8]) -> Verdict
     requires { ⌜ formRefusal c (now own) ≡ 0 ⌝ }
     ensures { λ r. ⌜ VerdictOn c (now (own .entry)) r ⌝ }

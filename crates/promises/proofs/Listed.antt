@@ -1,4 +1,4 @@
--- P1 to P11 and the cases of L1, L4, L5 and L6 hold.
+-- P1 to P11 and the cases of L1 and of L4 to L7 hold.
 use mathlib.Core.Bool.{Bool, true, false, cond}
 use mathlib.Core.List.{List, [], _∷_, map}
 use mathlib.Core.Path.{_≡_, refl, ap, _∙_, fun-ext}
@@ -270,4 +270,5 @@ cases = record {
   message-causes = message-causes;
   message-plan = λ rmax anchor other r. message-plan anchor other rmax r;
   search = search.cases;
+  same-ports = cell.same-ports;
 }
