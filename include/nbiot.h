@@ -310,7 +310,7 @@ enum {
     NBIOT_BACK_OURS,     /* 1: one of the grant's places, with its symbol and position; 0: not */
     NBIOT_BACK_SYMBOL,
     NBIOT_BACK_POSITION,
-    NBIOT_BACK_KIND,     /* not ours: 0 plain, 1 narrowband or uplink reference, 2 cell reference, 3 both */
+    NBIOT_BACK_KIND,     /* not ours: 0 plain, 1 narrowband or uplink reference, 2 cell reference */
     NBIOT_BACK_UP_NUMBERS,
     NBIOT_BACK_CAUSE = NBIOT_BACK_UP_NUMBERS,
     NBIOT_BACK_NUMBERS
@@ -444,7 +444,7 @@ uint64_t nbiot_fill(const uint64_t *cell, size_t cell_len,
 /* One element of transmitted subframe i. */
 enum {
     NBIOT_ELEMENT_NO,
-    NBIOT_ELEMENT_STATE, /* 0 silent, 1 to 3 a reference of that kind, 4 a symbol */
+    NBIOT_ELEMENT_STATE, /* 0 silent, 1 or 2 a reference of that kind, 4 a symbol */
     NBIOT_ELEMENT_NUMBERS
 };
 

@@ -58,9 +58,16 @@ pub fn in_control_region(cell: &Cell, e: Element) -> bool {
     e.slot == 0 && e.l < cell.control
 }
 
-/// The kind of a place not ours in a sent subframe: 0 plain, 1 NRS, 2 CRS, 3 both.
+/// The kind of a place not ours in a sent subframe: 0 plain, 1 NRS, 2 CRS. No
+/// element is both: they stand in other symbols (02, "L8").
 pub fn reference_kind(cell: &Cell, e: Element) -> u64 {
-    u64::from(narrowband_reference(cell, e)) + 2 * u64::from(cell_reference(cell, e))
+    if narrowband_reference(cell, e) {
+        1
+    } else if cell_reference(cell, e) {
+        2
+    } else {
+        0
+    }
 }
 
 /// May this element carry data?

@@ -23,7 +23,7 @@ pub struct Symbol {
 #[derive(Clone, Copy, Debug, PartialEq)]
 pub enum Shown {
     Silent,
-    /// A reference place of this kind, 1 to 3.
+    /// A reference place of this kind, 1 or 2.
     Reference(u64),
     Symbol(Symbol),
 }

@@ -109,7 +109,7 @@ impl Grant {
         }
     }
 
-    /// Whose is this place? Kinds 1 to 3 only in what the grant sends.
+    /// Whose is this place? Kinds 1 and 2 only in what the grant sends.
     pub fn backward(
         &self,
         cell: &Cell,

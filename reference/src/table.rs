@@ -19,8 +19,8 @@ pub struct Row {
     pub asked: u64,
     pub accepted: u64,
     pub ours: u64,
-    /// Not ours, by kind 0 to 3.
-    pub not_ours: [u64; 4],
+    /// Not ours, by kind 0 to 2.
+    pub not_ours: [u64; 3],
     pub finished: u64,
     /// Causes named, in their order.
     pub causes: [u64; 6],
@@ -149,7 +149,7 @@ impl Table {
     pub fn write(&self, out: &mut impl Write) -> io::Result<()> {
         write!(out, "{:<16} {:>8} {:>8}", "question", "asked", "accepted")?;
         write!(out, " {:>7}", "ours")?;
-        for kind in 0..4 {
+        for kind in 0..3 {
             write!(out, " {:>6}", format!("not{kind}"))?;
         }
         write!(out, " {:>7}", "finish")?;

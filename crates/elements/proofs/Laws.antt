@@ -1,12 +1,13 @@
 -- What callers know of the used elements.
 use mathlib.Core.Bool.{Bool, true, false, not, cond, _&&_, _||_, and-true}
 use mathlib.Core.Path.{_≡_, refl, sym, ap, _∙_}
+use mathlib.Core.Logic.{⊎-elim}
 use Prim.Native.Nat.{ℕ, _+_, _*_, _≤_, _<_}
 use native.Mathlib.Omega.{arith}
 use lib.Dec.{eqb, ltb, leb}
-use borrow.Author.Tests.{ltb-true, leb-true, le-leb, lt-ltb}
+use borrow.Author.Tests.{ltb-true, leb-true, le-leb, lt-ltb, ne-eqb}
 use Rattle.counting.specs.Counting.{rank, Lists, inRange}
-use Rattle.counting.proofs.Facts.{both-parts, either-parts, not-true-is}
+use Rattle.counting.proofs.Facts.{order, both-parts, either-parts, not-true-is}
 use Rattle.counting.proofs.Range.{in-range}
 use Rattle.counting.proofs.Rank.{rank-le, rank-same, rank-strict}
 use Rattle.counting.proofs.Select.{lists-below}
@@ -32,6 +33,30 @@ pub record Clear (g : Layout) (from width x : ℕ) : Type 0 where
 quiet : (g : Layout) (k : ℕ) → reference g 3 k ≡ false
 unfolding nrs crs
 quiet g k = simp and-false
+
+-- ---- references: narrowband ones stand from symbol 5 on, cell ones before it
+
+module _ (g : Layout) (l k : ℕ) where
+  early : l < 5 → nrs g l k ≡ false
+  unfolding nrs
+  early h = simp (ne-eqb l 5 (λ e. omega arith), ne-eqb l 6 (λ e. omega arith), and-false)
+
+  late : 5 ≤ l → crs g l k ≡ false
+  unfolding crs
+  late h = simp (ne-eqb l 0 (λ e. omega arith), ne-eqb l 1 (λ e. omega arith), ne-eqb l 4 (λ e. omega arith), and-false)
+
+  pub never-both : (nrs g l k && crs g l k) ≡ false
+  never-both = ⊎-elim (λ h. rw (early h) refl) (λ h. simp (late h, and-false)) (order l 5)
+
+-- a kind is at most 2
+pub kind-small : (g : Layout) (x : ℕ) → kindOf g x ≤ 2
+unfolding kindOf
+kind-small g x = by (nrs g (symbolOf x) (subcarrierOf x)) (crs g (symbolOf x) (subcarrierOf x))
+  where
+    by : (n c : Bool) → cond n 1 (cond c 2 0) ≤ 2
+    by true c = omega arith
+    by false true = omega arith
+    by false false = omega arith
 
 module _ (g : Layout) (from width : ℕ) where
   pub used-clear : (x : ℕ) → used g from width x ≡ true → Clear g from width x

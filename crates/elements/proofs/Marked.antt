@@ -83,7 +83,7 @@ marked a b l v i =
     let n = nrsOn (bare a b) l (eqb i v) (eqb i ((v + 3) % 6)) in
     let c = crsOn (bare a b) l (eqb i v) (eqb i ((v + 3) % 6)) in
     let plain = isFree (marksOf v l (6 - freeOf a b l)) i in
-    alike (not (n || c)) plain && eqb (boolByte n + 2 * boolByte c) (cond plain 0 (referenceKind l))
+    alike (not (n || c)) plain && eqb (cond n 1 (cond c 2 0)) (cond plain 0 (referenceKind l))
 
 marked-table : T (listed symbols (λ a b l. each 6 (λ v. each 6 (marked a b l v))))
 unfolding sixBefore sumsOf
@@ -118,10 +118,10 @@ module _ (g : Layout) (v : Valid g) (l : ℕ) (h : l < symbols) where
   unfolding nrs crs
   reference-marked k = alike-eq (not (reference g l k)) (isFree marksIn (k % 6)) (left (alike (not (reference g l k)) (isFree marksIn (k % 6))) _ (marked-at k))
 
-  pub kind-marked : (k : ℕ) → boolByte (nrs g l k) + 2 * boolByte (crs g l k) ≡ cond (isFree marksIn (k % 6)) 0 (referenceKind l)
+  pub kind-marked : (k : ℕ) → cond (nrs g l k) 1 (cond (crs g l k) 2 0) ≡ cond (isFree marksIn (k % 6)) 0 (referenceKind l)
   unfolding nrs crs
   kind-marked k =
-      eqb→eq (boolByte (nrs g l k) + 2 * boolByte (crs g l k)) (cond (isFree marksIn (k % 6)) 0 (referenceKind l))
+      eqb→eq (cond (nrs g l k) 1 (cond (crs g l k) 2 0)) (cond (isFree marksIn (k % 6)) 0 (referenceKind l))
       (right (alike (not (reference g l k)) (isFree marksIn (k % 6))) _ (marked-at k))
 
 -- ---- the used subcarriers of a row that is no control region

@@ -2,9 +2,8 @@
 -- l is the symbol of the slot, k the subcarrier, x the number of an element in the subframe.
 use mathlib.Core.Bool.{Bool, not, cond, _&&_, _||_}
 use mathlib.Core.Path.{_≡_}
-use Prim.Native.Nat.{ℕ, _+_, _*_, _%_, _≤_, _<_}
+use Prim.Native.Nat.{ℕ, _+_, _%_, _≤_, _<_}
 use lib.Dec.{eqb, ltb, leb}
-use mir.Val.{boolByte}
 use Rattle.counting.specs.Counting.{rank, select, inRange}
 use Rattle.grid.specs.Grid.{subcarriers, elements, slotOf, symbolOf, subcarrierOf}
 use Rattle.elements.specs.declared.Layout.{Layout}
@@ -60,9 +59,9 @@ crs g l k = crsOn g l (near g k) (far g k)
 abbrev pub reference : Layout → ℕ → ℕ → Bool
 reference g l k = nrs g l k || crs g l k
 
--- kind of an element: 0 plain, 1 narrowband reference, 2 cell reference, 3 both (boolByte is 1 for true, 0 for false)
+-- kind of an element: 1 narrowband reference, 2 cell reference, 0 plain; no element is both (02 L8, a promise)
 unfoldable pub kindOf : Layout → ℕ → ℕ
-kindOf g x = boolByte (nrs g (symbolOf x) (subcarrierOf x)) + 2 * boolByte (crs g (symbolOf x) (subcarrierOf x))
+kindOf g x = cond (nrs g (symbolOf x) (subcarrierOf x)) 1 (cond (crs g (symbolOf x) (subcarrierOf x)) 2 0)
 
 -- ---- elements that carry data (clause 10.2.3.4 for NPDSCH, 10.2.5.5 for NPDCCH)
 

@@ -198,7 +198,7 @@ module _ (c : Cell) (anchor other : List ℕ) (g : NpdschGrant) (i : ℕ) where
 -- ---- one element
 
 -- the numbers of what goes out where nothing is ours
-kind-numbers : (bits : List ℕ) (level : Float) (kind : ℕ)
+pub kind-numbers : (bits : List ℕ) (level : Float) (kind : ℕ)
     → numbersOf (answerOf bits level (goesOut (notOurs kind))) ≡ record { no = 0; state = kind; re = plusZero; im = plusZero }
 kind-numbers bits level kind = by (ℕ-discrete kind 0)
   where

@@ -1,7 +1,9 @@
--- What is promised beside demand 3: places clear of the random access windows, 02 L4; the bitmap in force as a part, 01 "The cell"; messages
--- laid as 02 L5 has them; and the numbers of the answers that are enums, the cause of 02 L2 and one element of a fill, 01 "Questions".
+-- What is promised beside demand 3: places clear of the random access windows, 02 L4; the bitmap in force as a part, 01
+-- "The cell"; messages laid as 02 L5 has them; the numbers of the answers that are enums, the cause of 02 L2 and one
+-- element of a fill, 01 "Questions"; and which kinds are answered, 02 L8.
+use mathlib.Core.Bool.{false, _&&_}
 use mathlib.Core.List.{List, [], _++_}
-use mathlib.Core.Logic.{_↔_}
+use mathlib.Core.Logic.{_↔_, _⊎_}
 use mathlib.Core.Path.{_≡_}
 use Prim.Native.Nat.{ℕ, _+_, _*_, _/_, _≤_, _<_}
 use lib.Ieee.{Float}
@@ -22,7 +24,18 @@ use Rattle.sending.specs.Sending.{ours, notOurs}
 use Rattle.sending.specs.Answer.{backOf}
 use Rattle.symbol.specs.declared.ElementNumbers.{ElementNumbers}
 use Rattle.symbol.specs.Symbol.{symbolOf}
-use Rattle.symbol.specs.Outgoing.{plusZero}
+use Rattle.symbol.specs.Outgoing.{plusZero, numbersOf}
+use Rattle.transmitted.specs.Element.{elementAnswer}
+use Rattle.elements.specs.declared.Layout.{Layout}
+use Rattle.elements.specs.Elements.{nrs, crs}
+use Rattle.npusch.specs.declared.NpuschGrant.{NpuschGrant}
+use Rattle.npusch.specs.Questions as npusch
+use Rattle.harq_ack.specs.declared.HarqAckGrant.{HarqAckGrant}
+use Rattle.harq_ack.specs.Questions as ack
+use Rattle.npdsch.specs.declared.NpdschGrant.{NpdschGrant}
+use Rattle.npdsch.specs.Questions as npdsch
+use Rattle.npdcch.specs.declared.NpdcchGrant.{NpdcchGrant}
+use Rattle.npdcch.specs.Questions as npdcch
 
 -- ---- 02 L4: clear of the windows
 
@@ -76,9 +89,26 @@ pub record MessagesLaid (c : Cell) (bitmap : List ℕ) : Type 0 where
 
 -- ---- one element by its numbers, beside what backward answers at its place
 
--- a refusal alone; 4 and the symbol's two numbers where it is ours; elsewhere the kind, 0 silent and 1 to 3 a reference
+-- a refusal alone; 4 and the symbol's two numbers where it is ours; elsewhere the kind, 0 silent and 1 or 2 a reference
 pub record ElementTold (no : ℕ) (at : Back) (bits : List ℕ) (level : Float) (e : ElementNumbers) : Type 0 where
   pub refused : (no ≡ 0 → ⊥) → e ≡ record { no = no; state = 0; re = plusZero; im = plusZero }
   pub sent : (s p : ℕ) → no ≡ 0 → at ≡ backOf (ours s p)
       → e ≡ record { no = 0; state = 4; re = symbolOf bits level s .re; im = symbolOf bits level s .im }
   pub unsent : (kind : ℕ) → no ≡ 0 → at ≡ backOf (notOurs kind) → e ≡ record { no = 0; state = kind; re = plusZero; im = plusZero }
+
+-- ---- 02 L8: kinds
+
+-- of every question, refused ones too
+pub record KindsTold : Type 0 where
+  -- of any layout: no element is both a narrowband and a cell reference
+  pub neverBoth : (g : Layout) (l k : ℕ) → (nrs g l k && crs g l k) ≡ false
+  pub uplink : (g : NpuschGrant) (ws : Windows) (slot l k : ℕ) → npusch.backwardOf g ws slot l k .kind ≤ 1
+  pub acknowledgement : (g : HarqAckGrant) (ws : Windows) (slot l k : ℕ) → ack.backwardOf g ws slot l k .kind ≤ 1
+  pub downlink : (c : Cell) (anchor other : List ℕ) (g : NpdschGrant) (t slot l k : ℕ)
+      → npdsch.backwardOf c anchor other g t slot l k .back .kind ≤ 2
+  pub control : (c : Cell) (anchor other : List ℕ) (g : NpdcchGrant) (t slot l k : ℕ)
+      → npdcch.backwardOf c anchor other g t slot l k .back .kind ≤ 2
+  -- one element: silent, a reference of either kind, or a symbol
+  pub element : (c : Cell) (anchor other : List ℕ) (g : NpdschGrant) (i slot l k : ℕ) (bits : List ℕ) (level : Float)
+      → (numbersOf (elementAnswer c anchor other g i slot l k bits level) .state ≤ 2)
+      ⊎ (numbersOf (elementAnswer c anchor other g i slot l k bits level) .state ≡ 4)

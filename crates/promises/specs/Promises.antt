@@ -48,7 +48,7 @@ use Rattle.walk.specs.Step.{askedOf}
 use Rattle.walk.specs.Course.{Course}
 use Rattle.promises.specs.Demand.{Answers, Granted, Demand}
 use Rattle.promises.specs.Grids.{SubframePlace, downlinkGrid, downlinkAnswers, uplinkGrid, uplinkAnswers}
-use Rattle.promises.specs.Further.{KeepsClear, InForce, MessagesLaid, CauseTold, ElementTold}
+use Rattle.promises.specs.Further.{KeepsClear, InForce, MessagesLaid, CauseTold, ElementTold, KindsTold}
 
 -- the bitmap in force, of an accepted cell
 abbrev pub bitmapOf : Cell → List ℕ → List ℕ → List ℕ
@@ -200,6 +200,8 @@ pub record Promises : Type 0 where
   -- the question of the cause, at any subframe
   pub cause : (c : Cell) (anchor other : List ℕ) (t : ℕ)
       → CauseTold (judgeOf c anchor other) (usable c (bitmapOf c anchor other) t ≡ true) (causeOf c anchor other t)
+  -- the kinds that are answered
+  pub kinds : KindsTold
   -- one element of transmitted subframe i of an NPDSCH, which goes out where forward has its first place
   pub element : (c : Cell) (anchor other : List ℕ) (g : NpdschGrant) (i slot l k : ℕ) (bits : List ℕ) (level : Float)
       → ElementTold (elementRefusal c anchor other g i slot l k bits level)

@@ -46,7 +46,7 @@ fn mark(b: Back, in_control: bool) -> u8 {
     if b.kind == 1 {
         return b'N';
     }
-    if b.kind > 1 {
+    if b.kind == 2 {
         return b'C';
     }
     if in_control {

@@ -1,12 +1,13 @@
 -- Laws of every answer, whatever is asked and however it is shown.
-use mathlib.Core.Bool.{Bool, true, false, cond}
+use mathlib.Core.Bool.{Bool, true, false, cond, _&&_}
 use mathlib.Core.Path.{_≡_, refl, sym, ap, ap₂, _∙_}
-use Prim.Native.Nat.{ℕ, _≤_, _<_}
+use Prim.Native.Nat.{ℕ, _+_, _*_, _≤_, _<_}
+use native.Mathlib.Omega.{arith}
 use native.Mathlib.Decide.{ℕ-discrete}
 use lib.Dec.{eqb, ltb}
 use borrow.Author.Tests.{eq-eqb, ne-eqb, lt-ltb, le-ltb}
-use Rattle.sending.specs.Sending.{Sending, placesOf, Spot, spotAt}
-use Rattle.sending.specs.Answer.{Question, answerOf, placeAt, forwardBy, refusedBack, backAt}
+use Rattle.sending.specs.Sending.{Sending, placesOf, Spot, spotAt, Content}
+use Rattle.sending.specs.Answer.{Question, answerOf, placeAt, forwardBy, backOf, refusedBack, backAt}
 
 -- the same question: the same number, and the same sending where there is none
 pub record Same (q r : Question) : Type 0 where
@@ -34,6 +35,15 @@ module _ {A : Type 0} (zeros : ℕ → A) where
   pub accepts : (number : A → ℕ) → ((m : ℕ) → number (zeros m) ≡ m) → (n : ℕ) (a : A) → number a ≡ 0 → number (answerOf zeros n a) ≡ 0
       → n ≡ 0
   accepts number z n a h e = sym (number-of number z n a h) ∙ e
+
+  -- what holds of an answer and of every refusal holds of what is answered
+  pub answer-all : (P : A → Type 0) → ((m : ℕ) → P (zeros m)) → (n : ℕ) (a : A) → P a → P (answerOf zeros n a)
+  unfolding answerOf
+  answer-all P z n a h = by (eqb n 0)
+    where
+      by : (b : Bool) → P (cond b a (zeros n))
+      by true = h
+      by false = z n
 
   -- an answer is read where its question is accepted alone
   pub answer-path : (n m : ℕ) (a b : A) → n ≡ m → (n ≡ 0 → a ≡ b) → answerOf zeros n a ≡ answerOf zeros m b
@@ -75,6 +85,16 @@ module _ {A : Type 0} (zeros : ℕ → A) where
 
     pub forward-past : q .no ≡ 0 → placesOf (q .sending) ≤ p → forwardBy zeros shown q p ≡ zeros 14
     forward-past e h = accepted (q .no) _ e ∙ past-at shown (q .sending) p h
+
+-- a kind that is answered is at most the sending's kinds
+pub kind-most : (S : Sending) (m : ℕ) → ((t x : ℕ) → S .kind t x ≤ m) → (inside : Bool) (t x : ℕ) → backAt S inside t x .kind ≤ m
+unfolding backAt
+kind-most S m h false t x = omega arith
+kind-most S m h true t x = by (S .sent t && S .used x)
+  where
+    by : (b : Bool) → backOf (cond b (Content.ours (S .carry (S .index t) * S .W + S .number x) (S .index t * S .W + S .number x)) (Content.notOurs (S .kind t x))) .kind ≤ m
+    by true = omega arith
+    by false = h t x
 
 -- what stands outside the grid
 pub outside-at : (S : Sending) (inside : Bool) (t x : ℕ) → inside ≡ false → backAt S inside t x ≡ refusedBack 14

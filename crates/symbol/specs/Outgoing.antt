@@ -32,7 +32,7 @@ answerOf bits level Outgoing.Silent = Element.Silent
 answerOf bits level (Outgoing.Reference kind) = Element.Reference kind
 answerOf bits level (Ours c) = sentOf (symbolOf bits level c)
 
--- 01's numbers of an answer: the refusal; 0 silent, 1 to 3 a reference of that kind, 4 ours; the symbol's numbers
+-- 01's numbers of an answer: the refusal; 0 silent, 1 or 2 a reference of that kind, 4 ours; the symbol's numbers
 abbrev pub numbersOf : Element → ElementNumbers
 numbersOf (Refused refusal) = record { no = refusal; state = 0; re = plusZero; im = plusZero }
 numbersOf Element.Silent = record { no = 0; state = 0; re = plusZero; im = plusZero }

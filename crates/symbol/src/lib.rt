@@ -28,7 +28,7 @@ pub enum Element {
     Sent { re: f32, im: f32 },
 }
 
-// An element's answer in numbers: the refusal; 0 silent, 1 to 3 a reference of that kind, 4 a symbol; the symbol's
+// An element's answer in numbers: the refusal; 0 silent, 1 or 2 a reference of that kind, 4 a symbol; the symbol's
 // two numbers.
 pub struct ElementNumbers {
     pub no: u64,

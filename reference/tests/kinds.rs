@@ -1,0 +1,59 @@
+//! No element is both a narrowband and a cell reference (02, "L8"): kinds are
+//! 0, 1 and 2, and one element answers 0, 1, 2 or 4.
+
+mod common;
+use common::{ask, value};
+use reference::counts::cells;
+use reference::elements::{cell_reference, narrowband_reference, reference_kind};
+use reference::elements::{Element, SLOTS, SUBCARRIERS, SYMBOLS};
+use std::collections::BTreeSet;
+
+fn grid() -> Vec<Element> {
+    let mut list = Vec::new();
+    for slot in 0..SLOTS {
+        for l in 0..SYMBOLS {
+            list.extend((0..SUBCARRIERS).map(|k| Element { slot, l, k }));
+        }
+    }
+    list
+}
+
+/// Over every layout with listed numbers, accepted or not.
+#[test]
+fn never_both() {
+    let (mut narrowband, mut cell_wide) = (BTreeSet::new(), BTreeSet::new());
+    for cell in cells() {
+        for e in grid() {
+            let of_ours = narrowband_reference(&cell, e);
+            let of_cell = cell_reference(&cell, e);
+            assert!(!(of_ours && of_cell), "{e:?} of {cell:?}");
+            let kind = u64::from(of_ours) + 2 * u64::from(of_cell);
+            assert_eq!(reference_kind(&cell, e), kind);
+            narrowband.extend(of_ours.then_some(e.l));
+            cell_wide.extend(of_cell.then_some(e.l));
+        }
+    }
+    assert_eq!(narrowband, BTreeSet::from([5, 6]));
+    assert_eq!(cell_wide, BTreeSet::from([0, 1, 4]));
+}
+
+/// The values that a name has when every element of a sent subframe is asked for.
+fn asked(question: &str, name: &str) -> BTreeSet<u64> {
+    let data = "a5".repeat(30);
+    let cell = "mode=1 identity=4 nports=1 cports=4 control=2";
+    let mut lines = format!("set {cell} rmax=1 r=1 level=3f800000 data={data}\n");
+    for Element { slot, l, k } in grid() {
+        lines.push_str(&format!("{question} t=6 slot={slot} l={l} k={k}\n"));
+    }
+    let answers = ask(&lines);
+    assert!(answers.iter().all(|a| value(a, "no") == 0), "{answers:?}");
+    answers.iter().map(|a| value(a, name)).collect()
+}
+
+#[test]
+fn kinds_and_cases_answered() {
+    assert_eq!(asked("backward down", "kind"), BTreeSet::from([0, 1, 2]));
+    let control = asked("backward control n=6", "kind");
+    assert_eq!(control, BTreeSet::from([0, 1, 2]));
+    assert_eq!(asked("element", "case"), BTreeSet::from([0, 1, 2, 4]));
+}
