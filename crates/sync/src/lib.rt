@@ -4,7 +4,7 @@ ghost use mathlib.Core.Bool.{_&&_};
 ghost use lib.Dec.{ltb};
 ghost use Prim.Native.Nat.{_<_};
 ghost use Rattle.sync.specs.Quick.{anchorPattern, npbchPattern, sib1Pattern};
-ghost use Rattle.sync.specs.Sync.{even, npbch, npss, nsss, sib1Place, sib1};
+ghost use Rattle.sync.specs.Sync.{even, npbch, npss, nsss, sib1Copies, sib1Place, sib1};
 use spans::Pattern;
 
 // The forty subframes of a span without NPBCH, NPSS and NSSS; and without SIB1 in the even frames, or in the odd ones.
@@ -86,6 +86,20 @@ pub fn is_nsss(t: u64) -> bool
     ensures { λ r. ⌜ r ≡ nsss t ⌝ }
 {
     (t % 10 == 9) & (t / 10 % 1024 % 2 == 0)
+}
+
+// SIB1's copies in 256 frames.
+pub fn sib1_copies(schedule: u64) -> u64
+    ensures { λ r. ⌜ r ≡ sib1Copies schedule ⌝ }
+{
+    let k = schedule % 3;
+    if k == 0 {
+        return 4;
+    }
+    if k == 1 {
+        return 8;
+    }
+    16
 }
 
 // Every other frame of sixteen, x the frame's place.
