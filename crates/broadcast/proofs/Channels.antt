@@ -47,6 +47,7 @@ pub record Sent (c : CellConfig) (channel : Channel) : Type 0 where
   pub again : (t : ℕ) → channel .isOwn (t + channel .period) ≡ channel .isOwn t
   pub all : rank (channel .isOwn) (channel .period) ≡ sentSubframes (channel .burst)
   pub short : channel .period ≤ allPeriods
+  pub start : (channel .burst .from ≡ 0) × (channel .burst .skip ≡ 0)
   pub fits : WellFormed c → Fits (channel .burst)
 
 pub record Shown (channel : Channel) (s : Pattern) : Type 0 where
@@ -142,6 +143,7 @@ npbch-sent c = record {
   again = npbch-again;
   all = npbch-rank;
   short = omega arith;
+  start = (refl, refl);
   fits = λ w. record {
     layout = record { shift = omega arith; narrowband = (omega arith, omega arith); cell = (omega arith, λ z. omega arith); region = omega arith };
     part = whole-part;
@@ -175,6 +177,7 @@ sib1-sent c = record {
   again = sib1-again (c .identity) (c .sib1);
   all = sib1-rank (c .identity) (c .sib1);
   short = omega arith;
+  start = (refl, refl);
   fits = λ w.
       let v = layout-valid c w in
       let few = copies-few (c .sib1 % 3) in

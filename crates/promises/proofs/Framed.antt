@@ -39,7 +39,7 @@ use Rattle.promises.proofs.Repeating.{usable-again, usable-some}
 -- ---- the grid
 
 -- a larger element has a later slot, or the same slot and a later symbol, or the same of both and a later subcarrier
-further : (x y : ℕ) → x < y → firstBy (slotOf x) (slotOf y) (firstBy (symbolOf x) (symbolOf y) (subcarrierOf x < subcarrierOf y))
+pub further : (x y : ℕ) → x < y → firstBy (slotOf x) (slotOf y) (firstBy (symbolOf x) (symbolOf y) (subcarrierOf x < subcarrierOf y))
 further x y h =
     ⊎-elim inl
     (λ a.
@@ -49,7 +49,7 @@ further x y h =
 pub in-grid : (x : SubframePlace) → downlinkGrid .Inside x → insideGrid (x .slot) (x .l) (x .k) ≡ true
 in-grid x i = rw (lt-ltb (x .slot) slots (i .0), lt-ltb (x .l) symbols (i .1), lt-ltb (x .k) subcarriers (i .2)) refl
 
-downlink-numbered : Numbered downlinkGrid
+unfoldable pub downlink-numbered : Numbered downlinkGrid
 downlink-numbered = record {
   time = λ x. x .t;
   element = λ x. elementOf (x .slot) (x .l) (x .k);
@@ -118,7 +118,7 @@ module _ (c : Cell) (anchor other : List ℕ) (grant : ℕ) (b : Burst) (fit : W
       lawful = lawful u period (usable-again c anchor other (judged .0)) (usable-some c anchor other (judged .0)) b f;
       units = f .codeword;
       copies = f .copies;
-      inside = λ t e h. inside _ (element-below (b .layout) (b .low) (b .width) e h);
+      inside = λ i e k h. inside _ (element-below (b .layout) (b .low) (b .width) e h);
     }
 
     -- a used element of a subframe that is sent is clear

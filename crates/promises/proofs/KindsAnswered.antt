@@ -14,7 +14,7 @@ use Rattle.cell.specs.declared.Cause.{Cause}
 use Rattle.cell.specs.Usable.{period, usable}
 use Rattle.sending.specs.declared.Back.{Back}
 use Rattle.sending.specs.Sending.{Sending, Content, ours, notOurs}
-use Rattle.sending.specs.Answer.{Question, refusedBack, backAt}
+use Rattle.sending.specs.Answer.{Question, refusedBack, backAt, backwardBy}
 use Rattle.sending.proofs.Answer.{answer-all, kind-most}
 use Rattle.elements.specs.Elements.{kindOf}
 use Rattle.elements.proofs.Laws.{never-both, kind-small}
@@ -34,6 +34,7 @@ use Rattle.harq_ack.specs.Questions as ack
 use Rattle.npdsch.specs.declared.NpdschGrant.{NpdschGrant}
 use Rattle.npdsch.specs.Questions as npdsch
 use Rattle.npdcch.specs.Questions as npdcch
+use Rattle.broadcast.specs.Questions as broadcast
 use Rattle.symbol.specs.declared.Element.{Element}
 use Rattle.symbol.specs.declared.ElementNumbers.{ElementNumbers}
 use Rattle.symbol.specs.Outgoing.{answerOf, numbersOf}
@@ -46,12 +47,15 @@ use Rattle.promises.proofs.Further.{kind-numbers}
 
 -- ---- a sending's kinds
 
-sent-kinds : (c : Cell) (anchor other : List ℕ) (b : Burst) (t x : ℕ) → sendingOf (usable c (bitmapOf c anchor other)) period b .kind t x ≤ 2
-sent-kinds c anchor other b t x = by (isSent (usable c (bitmapOf c anchor other)) period b t)
+burst-kinds : (u : ℕ → Bool) (P : ℕ) (b : Burst) (t x : ℕ) → sendingOf u P b .kind t x ≤ 2
+burst-kinds u P b t x = by (isSent u P b t)
   where
     by : (s : Bool) → cond s (kindOf (b .layout) x) 0 ≤ 2
     by true = kind-small (b .layout) x
     by false = omega arith
+
+sent-kinds : (c : Cell) (anchor other : List ℕ) (b : Burst) (t x : ℕ) → sendingOf (usable c (bitmapOf c anchor other)) period b .kind t x ≤ 2
+sent-kinds c anchor other = burst-kinds (usable c (bitmapOf c anchor other)) period
 
 slot-kinds : (s : Shape) (isOpen : ℕ → Bool) (slot x : ℕ) → mapping.sendingOf s isOpen .kind slot x ≤ 1
 slot-kinds s isOpen slot x = by (timing.isSent s isOpen slot && carriesReference s x)
@@ -73,6 +77,11 @@ module _ (q : Question) where
   uplink-kind h T slot l k =
       answer-all refusedBack (λ (r : Back). r .kind ≤ 1) (λ m. omega arith) (q .no) (uplink.backIn T (q .sending) slot l k)
       (kind-most (q .sending) 1 h (uplink.insideGrid T l k) slot (uplinkElementOf T l k))
+
+  channel-kind : ((t x : ℕ) → q .sending .kind t x ≤ 2) → (inside : Bool) (t x : ℕ) → backwardBy q inside t x .kind ≤ 2
+  channel-kind h inside t x =
+      answer-all refusedBack (λ (r : Back). r .kind ≤ 2) (λ m. omega arith) (q .no) (backAt (q .sending) inside t x)
+      (kind-most (q .sending) 2 h inside t x)
 
 -- ---- one element
 
@@ -103,12 +112,14 @@ element-state c anchor other g i slot l k bits level = by (eqb (elementRefusal c
     by false = inl (omega arith)
 
 pub kinds-told : KindsTold
-unfolding npusch.backwardOf ack.backwardOf npdsch.backwardOf npdcch.backwardOf
+unfolding npusch.backwardOf ack.backwardOf npdsch.backwardOf npdcch.backwardOf broadcast.backwardOf
 kinds-told = record {
   neverBoth = never-both;
   uplink = λ g ws slot l k. uplink-kind (npusch.questionOf g ws) (slot-kinds (npusch-shaping.shapeOf g) (npusch-shaping.openOf g ws)) _ slot l k;
   acknowledgement = λ g ws slot l k. uplink-kind (ack.questionOf g ws) (slot-kinds (ack-shaping.shapeOf g) (ack-shaping.openOf g ws)) _ slot l k;
   downlink = λ c anchor other g t slot l k. downlink-kind (npdsch.questionOf c anchor other g) (sent-kinds c anchor other (npdsch.burstOf (c .config) g)) _ t slot l k;
   control = λ c anchor other g t slot l k. downlink-kind (npdcch.questionOf c anchor other g) (sent-kinds c anchor other (npdcch.burstOf (c .config) g)) _ t slot l k;
+  broadcast = λ c anchor other channel t slot l k.
+      channel-kind (broadcast.questionOf c anchor other channel) (burst-kinds (channel .isOwn) (channel .period) (channel .burst)) _ _ _;
   element = element-state;
 }

@@ -1,4 +1,4 @@
--- P1 to P11 and the cases of L1 and of L4 to L7 hold.
+-- P1 to P11 and the cases of L1, of L4 to L7 and of L9 hold.
 use mathlib.Core.Bool.{Bool, true, false, cond}
 use mathlib.Core.List.{List, [], _∷_, map}
 use mathlib.Core.Path.{_≡_, refl, ap, _∙_, fun-ext}
@@ -42,6 +42,7 @@ use Rattle.messages.proofs.Cases as messages
 use Rattle.promises.specs.Promises.{eligibleCount}
 use Rattle.cell.specs.Cases.{anchorCell}
 use Rattle.search_space.proofs.Cases as search
+use Rattle.broadcast.proofs.Cases as broadcast
 use Rattle.promises.specs.Cases.{Unmapped, OneOrTwo, eightSubframes, sentIn, zeroAndFive, onlyFour, nothing, messageCell, isMessageIn, Cases}
 use Rattle.promises.proofs.Further.{counted, goes-at}
 
@@ -271,4 +272,5 @@ cases = record {
   message-plan = λ rmax anchor other r. message-plan anchor other rmax r;
   search = search.cases;
   same-ports = cell.same-ports;
+  broadcast = broadcast.cases;
 }

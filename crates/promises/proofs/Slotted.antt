@@ -88,7 +88,7 @@ module _ (s : Shape) (isOpen : ℕ → Bool) (f : Fits s) (o : OpenRepeats s isO
     lawful = lawful s isOpen f o;
     units = f .codeword;
     copies = f .copies;
-    inside = λ t e h. (
+    inside = λ i e k h. (
       data-symbol-parts s f _ (data-parts s f _ (elements-listed s f .passes e h) .0) .0,
       mod-lt (elementAt s e) (omega (arith, f .tones, f .withinTones)),
     );

@@ -36,6 +36,8 @@ use Rattle.npdsch.specs.declared.NpdschGrant.{NpdschGrant}
 use Rattle.npdsch.specs.Questions as npdsch
 use Rattle.npdcch.specs.declared.NpdcchGrant.{NpdcchGrant}
 use Rattle.npdcch.specs.Questions as npdcch
+use Rattle.broadcast.specs.Channels.{Channel}
+use Rattle.broadcast.specs.Questions as broadcast
 
 -- ---- 02 L4: clear of the windows
 
@@ -108,6 +110,9 @@ pub record KindsTold : Type 0 where
       → npdsch.backwardOf c anchor other g t slot l k .back .kind ≤ 2
   pub control : (c : Cell) (anchor other : List ℕ) (g : NpdcchGrant) (t slot l k : ℕ)
       → npdcch.backwardOf c anchor other g t slot l k .back .kind ≤ 2
+  -- NPBCH, SIB1, or any other channel of a cell
+  pub broadcast : (c : Cell) (anchor other : List ℕ) (channel : Channel) (t slot l k : ℕ)
+      → broadcast.backwardOf c anchor other channel t slot l k .kind ≤ 2
   -- one element: silent, a reference of either kind, or a symbol
   pub element : (c : Cell) (anchor other : List ℕ) (g : NpdschGrant) (i slot l k : ℕ) (bits : List ℕ) (level : Float)
       → (numbersOf (elementAnswer c anchor other g i slot l k bits level) .state ≤ 2)

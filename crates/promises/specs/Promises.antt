@@ -48,6 +48,7 @@ use Rattle.walk.specs.Step.{askedOf}
 use Rattle.walk.specs.Course.{Course}
 use Rattle.promises.specs.Demand.{Answers, Granted, Demand}
 use Rattle.promises.specs.Grids.{SubframePlace, downlinkGrid, downlinkAnswers, uplinkGrid, uplinkAnswers}
+use Rattle.promises.specs.Broadcast.{BroadcastPromises}
 use Rattle.promises.specs.Further.{KeepsClear, InForce, MessagesLaid, CauseTold, ElementTold, KindsTold}
 
 -- the bitmap in force, of an accepted cell
@@ -185,6 +186,8 @@ pub record Promises : Type 0 where
       → HandsOn c anchor other (npdsch.planOf c anchor other g) (byPlace (npdsch.backwardOf c anchor other g))
   pub controlCause : (c : Cell) (anchor other : List ℕ) (g : NpdcchGrant)
       → HandsOn c anchor other (npdcch.planOf c anchor other g) (byPlace (npdcch.backwardOf c anchor other g))
+  -- NPBCH and SIB1
+  pub broadcast : BroadcastPromises
   -- where NPDCCH may start: the start, the candidates, and the plan of each
   pub search : SearchPromises
   -- E, of every accepted cell: how many elements of a subframe are eligible
