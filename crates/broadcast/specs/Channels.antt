@@ -32,7 +32,7 @@ eightOn layout copies consecutive = record {
 abbrev pub npbchLayout : CellConfig → Layout
 npbchLayout c = record { v = c .identity % 6; nports = 2; cports = 4; control = 3 }
 
--- 64 frames; each codeword subframe goes out in eight frames in a row (clause 10.2.4.4)
+-- 64 frames; each codeword subframe, a block of symbols, goes out in eight frames in a row (clause 10.2.4.4)
 abbrev pub npbchOf : CellConfig → Channel
 npbchOf c = record { isOwn = npbch; period = 640; burst = eightOn (npbchLayout c) 8 8 }
 
@@ -40,7 +40,7 @@ npbchOf c = record { isOwn = npbch; period = 640; burst = eightOn (npbchLayout c
 abbrev pub sib1Layout : CellConfig → Layout
 sib1Layout c = record { v = c .identity % 6; nports = c .nports; cports = c .cports; control = cond (inBand c) 3 0 }
 
--- 256 frames; the eight codeword subframes in sequence in the eight frames of each copy (clause 16.4.1.3)
+-- 256 frames; the eight codeword subframes in sequence in the eight frames of each copy (TS 36.211 clause 10.2.3.4)
 abbrev pub sib1Of : CellConfig → Channel
 sib1Of c = record {
   isOwn = sib1 (c .identity) (c .sib1);
