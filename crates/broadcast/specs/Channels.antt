@@ -1,9 +1,9 @@
 -- What the anchor broadcasts by itself, NPBCH and SIB1: 02 L9. Each is a burst in the subframes that TS 36.213 clause 16.4 keeps from
 -- grants for it, and repeats after its period.
 use mathlib.Core.Bool.{Bool, cond}
-use Prim.Native.Nat.{ℕ, _%_}
+use Prim.Native.Nat.{ℕ, _+_, _*_, _/_, _%_}
 use Rattle.grid.specs.Grid.{subcarriers}
-use Rattle.sync.specs.Sync.{npbch, sib1Copies, sib1}
+use Rattle.sync.specs.Sync.{npbch, sib1Copies, sib1First, sib1}
 use Rattle.cell.specs.declared.CellConfig.{CellConfig}
 use Rattle.cell.specs.Judge.{inBand}
 use Rattle.elements.specs.declared.Layout.{Layout}
@@ -47,3 +47,8 @@ sib1Of c = record {
   period = 2560;
   burst = eightOn (sib1Layout c) (sib1Copies (c .sib1)) 1;
 }
+
+-- the frame of its i-th subframe, in 02's words: from the first frame on, a copy in every 256 div C, and in it every other frame. A
+-- promise says that forward goes there.
+abbrev pub sib1Frame : ℕ → ℕ → ℕ → ℕ
+sib1Frame identity schedule i = sib1First identity schedule + 256 / sib1Copies schedule * (i / 8) + 2 * (i % 8)

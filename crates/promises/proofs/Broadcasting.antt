@@ -2,8 +2,8 @@
 use mathlib.Core.Bool.{Bool, true, false, cond, _&&_}
 use mathlib.Core.List.{List}
 use mathlib.Core.Path.{_≡_, refl, sym, ap, _∙_, subst⁻¹}
-use Prim.Native.Nat.{ℕ, _+_, _*_, _%_, _<_}
-use native.Mathlib.Nat.{mod-mod, mod-eq-of-lt, mul-pos, zero-add}
+use Prim.Native.Nat.{ℕ, _+_, _*_, _/_, _%_, _<_}
+use native.Mathlib.Nat.{mod-mod, mod-eq-of-lt, mul-pos, zero-add, div-lt-iff-lt-mul}
 use native.Mathlib.Omega.{arith}
 use lib.Dec.{eqb}
 use borrow.Author.Tests.{eq-eqb, ne-eqb, eqb-true}
@@ -12,22 +12,24 @@ use Rattle.counting.proofs.Facts.{both-parts}
 use Rattle.counting.proofs.Rank.{rank-zero, rank-later}
 use Rattle.counting.proofs.Select.{among-parts}
 use Rattle.counting.proofs.Period.{test-split, select-is, select-from}
-use Rattle.grid.specs.Grid.{elementOf}
+use Rattle.grid.specs.Grid.{subcarriers, elementOf}
 use Rattle.grid.proofs.Numbering.{inside}
-use Rattle.sync.specs.Sync.{npbch, npss, nsss, sib1}
+use Rattle.sync.specs.Sync.{npbch, sib1}
 use Rattle.cell.specs.declared.Cell.{Cell}
 use Rattle.cell.specs.declared.Cause.{Cause}
 use Rattle.cell.specs.declared.Cause.the-variants.{Npbch, Sib1}
 use Rattle.cell.specs.Bitmap.{ownBuffer, bitmapIn}
-use Rattle.cell.specs.Usable.{isAnchor, anchorCause, whyUnless, why}
+use Rattle.cell.specs.Usable.{anchorCause, whyUnless, why}
 use Rattle.cell.specs.Judge.{judgeOf}
-use Rattle.elements.proofs.Laws.{element-below, all-used}
+use Rattle.elements.proofs.Laws.{element-below, count-some, whole-part, all-used}
 use Rattle.elements.proofs.Cases as elements
 use Rattle.sending.specs.declared.Back.{Back}
-use Rattle.sending.specs.Sending.{Sending, Content, ours, notOurs, contentAt}
+use Rattle.sending.specs.Sending.{Sending, ours, notOurs, contentAt}
 use Rattle.sending.specs.Answer.{Question, refusedBack, backOf, backAt, backwardBy}
+use Rattle.sending.specs.CopyOrder.{carried}
 use Rattle.sending.specs.Demand.{Lawful}
-use Rattle.sending.proofs.Answer.{accepted, forward-map}
+use Rattle.sending.proofs.Answer.{accepted, forward-inside, forward-map}
+use Rattle.downlink.specs.declared.DownlinkPlace.{DownlinkPlace}
 use Rattle.downlink.specs.Fits.{Fits}
 use Rattle.downlink.specs.Mapping.{sendingOf, places, codewordSymbols}
 use Rattle.downlink.specs.Cells.{questionRefusal}
@@ -37,11 +39,12 @@ use Rattle.downlink.proofs.Judging.{accepted-cell}
 use Rattle.broadcast.specs.Channels.{Channel, npbchLayout, npbchOf, sib1Layout, sib1Of}
 use Rattle.broadcast.specs.Questions.{carrierRefusal, questionOf, forwardOf, backwardOf}
 use Rattle.broadcast.proofs.Channels.{Sent, npbch-sent, sib1-sent}
+use Rattle.broadcast.proofs.Frames.{npbch-at, sib1-at}
 use Rattle.promises.specs.Demand.{Forward, found, Answers, Granted, Demand}
-use Rattle.promises.specs.Grids.{SubframePlace, downlinkGrid, downlinkColumns}
-use Rattle.promises.specs.Broadcast.{periodGrid, channelAnswers, ChannelDemand, npbchGranted, sib1Granted, BroadcastPromises}
+use Rattle.promises.specs.Grids.{SubframePlace, downlinkColumns}
+use Rattle.promises.specs.Broadcast.{periodGrid, channelAnswers, ChannelDemand, Placed, sib1Count, BroadcastPromises}
 use Rattle.promises.proofs.Bridge.{Numbered, answersBy, Sends, ours-back, demand, demand-back}
-use Rattle.promises.proofs.Framed.{in-grid, downlink-numbered}
+use Rattle.promises.proofs.Framed.{downlink-numbered}
 
 -- ---- the grid of a period
 
@@ -73,9 +76,8 @@ back-sent S false t x s p e = absurd (omega (arith, ap (λ (b : Back). b .no) e)
 
 -- ---- a channel of an accepted anchor
 
-module _ (c : Cell) (anchor other : List ℕ) (channel : Channel) (sent : Sent (c .config) channel) (cause : Cause)
-    (j : judgeOf c anchor other ≡ 0) (carrier : c .config .carrier ≡ 0)
-    (taken : (t : ℕ) → channel .isOwn t ≡ true → why c (bitmapIn (c .config) (ownBuffer (c .config) anchor other)) t ≡ cause) where
+module _ (c : Cell) (anchor other : List ℕ) (channel : Channel) (sent : Sent (c .config) channel) (j : judgeOf c anchor other ≡ 0)
+    (carrier : c .config .carrier ≡ 0) where
   abbrev u : ℕ → Bool
   u = channel .isOwn
 
@@ -104,11 +106,25 @@ module _ (c : Cell) (anchor other : List ℕ) (channel : Channel) (sent : Sent (
   L : Lawful S (channel .burst .codeword) (channel .burst .copies)
   L = lawful u P (sent .again) some (channel .burst) f
 
+  -- counted from subframe 0
+  time-is : (i : ℕ) → S .time i ≡ select u P 0 i
+  time-is i = rw (sent .start .0, sent .start .1) (select-from u P (sent .again) some 0 0 i ∙ ap (select u P 0) (zero-add i))
+
   -- all that is sent lies in the period
   within : (i : ℕ) → i < S .K → S .time i < P
   within i h =
-      let e : S .time i ≡ select u P 0 i = rw (sent .start .0, sent .start .1) (select-from u P (sent .again) some 0 0 i ∙ ap (select u P 0) (zero-add i)) in
-      rank-later u (S .time i) P (omega (arith, ap (rank u) e, select-is u P (sent .again) some 0 i .before, rank-zero u, sent .all))
+      rank-later u (S .time i) P (omega (arith, ap (rank u) (time-is i), select-is u P (sent .again) some 0 i .before, rank-zero u, sent .all))
+
+  -- a position below the places, W of them to a subframe
+  placed-at : (W p t symbol : ℕ) → S .W ≡ W → p < S .K * W → select u P 0 (p / W) ≡ t → S .carry (p / W) * W + p % W ≡ symbol
+      → Placed c anchor other channel p t symbol
+  unfolding forwardOf
+  placed-at W p t symbol w h et es =
+      let e = forward-inside refusedPlace placeOf q p zero (omega (arith, ap (λ (y : ℕ). S .K * y) w)) in
+      record {
+        there = ap (λ (x : DownlinkPlace). x .t) e ∙ time-is (p / S .W) ∙ ap (λ (y : ℕ). select u P 0 (p / y)) w ∙ et;
+        carries = ap (λ (x : DownlinkPlace). x .symbol) e ∙ ap (λ (y : ℕ). S .carry (p / y) * y + p % y) w ∙ es;
+      }
 
   sends : Sends (periodGrid P) S (channel .burst .codeword) (channel .burst .copies)
   sends = record {
@@ -142,7 +158,8 @@ module _ (c : Cell) (anchor other : List ℕ) (channel : Channel) (sent : Sent (
       sym (accepted refusedBack (q .no) _ zero) ∙ e in
       test-split u P (sent .again) (x .t) ∙ among-parts u _ _ (x .t % P) (back-sent S _ (x .t % P) _ s p b) .1
 
-  module _ (copies symbols : ℕ) (r : copies ≡ channel .burst .copies) (w : symbols ≡ codewordSymbols (channel .burst)) where
+  module _ (cause : Cause) (taken : (t : ℕ) → u t ≡ true → why c (bitmapIn (c .config) (ownBuffer (c .config) anchor other)) t ≡ cause)
+      (copies symbols : ℕ) (r : copies ≡ channel .burst .copies) (w : symbols ≡ codewordSymbols (channel .burst)) where
     abbrev g : Granted
     g = record { copies = copies; symbols = symbols; sending = S }
 
@@ -185,13 +202,31 @@ module _ (c : Cell) (bitmap : List ℕ) (t : ℕ) (carrier : c .config .carrier 
         h,
       ) refl
 
+-- ---- E, and the copy order of SIB1
+
+npbch-count : (c : Cell) → sendingOf npbch 640 (npbchOf (c .config) .burst) .W ≡ 100
+npbch-count c = sym (all-used (npbchLayout (c .config))) ∙ elements.cases .fourPorts (c .config .identity % 6) (omega arith)
+
+sib1-some : (c : Cell) → 0 < sib1Count c
+sib1-some c = omega (arith, all-used (sib1Layout (c .config)), count-some (sib1Layout (c .config)) 0 subcarriers whole-part)
+
+in-turn : (i : ℕ) → carried 1 1 8 i ≡ i % 8
+in-turn i = omega arith
+
 pub broadcasting : BroadcastPromises
 broadcasting = record {
   npbch = λ c anchor other j e.
-      channel-demand c anchor other (npbchOf (c .config)) (npbch-sent (c .config)) Npbch j e (λ t h. npbch-cause c _ t e h) 8 800 refl
-      (sym (ap (λ (n : ℕ). 8 * n)
-      (sym (all-used (npbchLayout (c .config))) ∙ elements.cases .fourPorts (c .config .identity % 6) (omega arith))));
+      channel-demand c anchor other (npbchOf (c .config)) (npbch-sent (c .config)) j e Npbch (λ t h. npbch-cause c _ t e h) 8 800 refl
+      (sym (ap (λ (n : ℕ). 8 * n) (npbch-count c)));
   sib1 = λ c anchor other j e.
-      channel-demand c anchor other (sib1Of (c .config)) (sib1-sent (c .config)) Sib1 j e (λ t h. sib1-cause c _ t e h) _ _ refl
+      channel-demand c anchor other (sib1Of (c .config)) (sib1-sent (c .config)) j e Sib1 (λ t h. sib1-cause c _ t e h) _ _ refl
       (ap (λ (n : ℕ). 8 * n) (all-used (sib1Layout (c .config))));
+  blocks = λ c anchor other j e p h.
+      placed-at c anchor other (npbchOf (c .config)) (npbch-sent (c .config)) j e 100 p _ _ (npbch-count c) h
+      (npbch-at (p / 100) (omega arith)) (omega arith);
+  inSequence = λ c anchor other j e p h.
+      placed-at c anchor other (sib1Of (c .config)) (sib1-sent (c .config)) j e (sib1Count c) p _ _
+      (sym (all-used (sib1Layout (c .config)))) h
+      (sib1-at (c .config .identity) (c .config .sib1) (p / sib1Count c) (div-lt-iff-lt-mul (sib1-some c) .1 h))
+      (ap (λ (x : ℕ). x * sib1Count c + p % sib1Count c) (in-turn (p / sib1Count c)));
 }

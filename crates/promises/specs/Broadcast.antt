@@ -1,7 +1,7 @@
 -- What is promised of NPBCH and of SIB1 on every accepted anchor: DEMAND 3 in one period, 02 L9.
 use mathlib.Core.List.{List}
 use mathlib.Core.Path.{_≡_}
-use Prim.Native.Nat.{ℕ, _*_, _%_, _<_}
+use Prim.Native.Nat.{ℕ, _+_, _*_, _/_, _%_, _<_}
 use Rattle.counting.specs.Counting.{rank}
 use Rattle.grid.specs.Grid.{elements}
 use Rattle.sync.specs.Sync.{npbch, sib1Copies, sib1}
@@ -15,7 +15,7 @@ use Rattle.elements.specs.Elements.{eligible}
 use Rattle.sending.specs.Sending.{ours}
 use Rattle.sending.specs.Answer.{backOf}
 use Rattle.downlink.specs.Mapping.{sendingOf, places}
-use Rattle.broadcast.specs.Channels.{Channel, npbchOf, sib1Layout, sib1Of}
+use Rattle.broadcast.specs.Channels.{Channel, npbchOf, sib1Layout, sib1Of, sib1Frame}
 use Rattle.broadcast.specs.Questions.{forwardOf, backwardOf}
 use Rattle.promises.specs.Demand.{Answers, Grid, Granted, Demand}
 use Rattle.promises.specs.Grids.{SubframePlace, downlinkGrid, downlinkColumns}
@@ -47,15 +47,24 @@ pub record ChannelDemand (c : Cell) (bitmap : List ℕ) (P : ℕ) (cause : Cause
   pub apart : (x : SubframePlace) (s p : ℕ) → a .backward x ≡ backOf (ours s p) → why c bitmap (x .t) ≡ cause
   pub caused : (p : ℕ) → p < a .places → why c bitmap (a .forward p .place .t) ≡ cause
 
+-- a place of a channel, by its position: the subframe, and the symbol there
+pub record Placed (c : Cell) (anchor other : List ℕ) (channel : Channel) (p t symbol : ℕ) : Type 0 where
+  pub there : forwardOf c anchor other channel p .t ≡ t
+  pub carries : forwardOf c anchor other channel p .symbol ≡ symbol
+
 -- 800 symbols, each eight times
 abbrev pub npbchGranted : Cell → Granted
 npbchGranted c = record { copies = 8; symbols = 800; sending = sendingOf npbch 640 (npbchOf (c .config) .burst) }
+
+-- E of a subframe of SIB1
+abbrev pub sib1Count : Cell → ℕ
+sib1Count c = rank (eligible (sib1Layout (c .config))) elements
 
 -- eight subframes of symbols, each once in a copy
 abbrev pub sib1Granted : Cell → Granted
 sib1Granted c = record {
   copies = sib1Copies (c .config .sib1);
-  symbols = 8 * rank (eligible (sib1Layout (c .config))) elements;
+  symbols = 8 * sib1Count c;
   sending = sendingOf (sib1 (c .config .identity) (c .config .sib1)) 2560 (sib1Of (c .config) .burst);
 }
 
@@ -66,3 +75,11 @@ pub record BroadcastPromises : Type 0 where
   pub sib1 : (c : Cell) (anchor other : List ℕ) → judgeOf c anchor other ≡ 0 → c .config .carrier ≡ 0
       → ChannelDemand c (bitmapIn (c .config) (ownBuffer (c .config) anchor other)) 2560 Sib1 (sib1Granted c)
       (channelAnswers c anchor other (sib1Of (c .config)))
+  -- 02's own words: block b of 100 symbols goes out in frames 8b to 8b + 7
+  pub blocks : (c : Cell) (anchor other : List ℕ) → judgeOf c anchor other ≡ 0 → c .config .carrier ≡ 0 → (p : ℕ) → p < 6400
+      → Placed c anchor other (npbchOf (c .config)) p (10 * (p / 100)) (100 * (p / 800) + p % 100)
+  -- and the eight codeword subframes of SIB1 in sequence in the eight frames of each copy
+  pub inSequence : (c : Cell) (anchor other : List ℕ) → judgeOf c anchor other ≡ 0 → c .config .carrier ≡ 0 → (p : ℕ)
+      → p < sib1Copies (c .config .sib1) * 8 * sib1Count c
+      → Placed c anchor other (sib1Of (c .config)) p (10 * sib1Frame (c .config .identity) (c .config .sib1) (p / sib1Count c) + 4)
+      (p / sib1Count c % 8 * sib1Count c + p % sib1Count c)

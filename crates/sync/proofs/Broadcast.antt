@@ -1,5 +1,4 @@
 -- The subframes of NPBCH and of SIB1: they repeat, how many a period has, and the pattern that has them.
-use mathlib.Core.Bool.{Bool}
 use mathlib.Core.Path.{_≡_, refl, sym, ap, _∙_}
 use Prim.Native.Nat.{ℕ, zero, suc, _+_, _*_, _%_, _<_}
 use native.Mathlib.Nat.{mod-eq-of-lt}

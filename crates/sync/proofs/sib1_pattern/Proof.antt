@@ -1,5 +1,4 @@
 use mathlib.Core.Path.{ap}
-use Prim.Native.Nat.{ℕ}
 use native.Mathlib.Omega.{arith}
 use Rattle.spans.specs.declared.Pattern.{Pattern}
 use Rattle.sync.specs.Quick.{sib1Pattern}
