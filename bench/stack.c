@@ -47,6 +47,11 @@ static uint64_t backward_down(void) { return nbiot_backward_down(CELL, down, 5, 
 static uint64_t backward_control(void) { return nbiot_backward_control(CELL, control, 4, 1011, 1, 2, 7, ANSWER); }
 static uint64_t search(void) { return nbiot_search(CELL, space, 4, candidates, NBIOT_SEARCH_NUMBERS); }
 
+static uint64_t forward_npbch(void) { return nbiot_forward_npbch(CELL, 5000, ANSWER); }
+static uint64_t forward_sib1(void) { return nbiot_forward_sib1(CELL, 5000, ANSWER); }
+static uint64_t backward_npbch(void) { return nbiot_backward_npbch(CELL, 1100, 1, 2, 7, ANSWER); }
+static uint64_t backward_sib1(void) { return nbiot_backward_sib1(CELL, 1124, 1, 2, 7, ANSWER); }
+
 static uint64_t step_up(void) {
     uint64_t walk[8] = {100};
     memcpy(walk + 1, up, sizeof up);
@@ -98,6 +103,11 @@ static uint64_t backward_down_messages(void) { return nbiot_backward_down(MESSAG
 static uint64_t backward_control_messages(void) { return nbiot_backward_control(MESSAGES, control, 4, 1011, 1, 2, 7, ANSWER); }
 static uint64_t search_messages(void) { return nbiot_search(MESSAGES, space, 4, candidates, NBIOT_SEARCH_NUMBERS); }
 
+static uint64_t forward_npbch_messages(void) { return nbiot_forward_npbch(MESSAGES, 5000, ANSWER); }
+static uint64_t forward_sib1_messages(void) { return nbiot_forward_sib1(MESSAGES, 5000, ANSWER); }
+static uint64_t backward_npbch_messages(void) { return nbiot_backward_npbch(MESSAGES, 1100, 1, 2, 7, ANSWER); }
+static uint64_t backward_sib1_messages(void) { return nbiot_backward_sib1(MESSAGES, 1124, 1, 2, 7, ANSWER); }
+
 static uint64_t step_down_messages(void) {
     uint64_t walk[29] = {5000};
     memcpy(walk + 1, messages, 8 * sizeof *messages);
@@ -148,7 +158,8 @@ int main(void) {
         {"forward up", forward_up}, {"forward ack", forward_ack}, {"forward down", forward_down}, {"forward control", forward_control},
         {"backward up", backward_up}, {"backward ack", backward_ack}, {"backward down", backward_down}, {"backward control", backward_control},
         {"step up", step_up}, {"step ack", step_ack}, {"step down", step_down}, {"step control", step_control}, {"fill", fill}, {"element", element},
-        {"search", search},
+        {"search", search}, {"forward npbch", forward_npbch}, {"forward sib1", forward_sib1},
+        {"backward npbch", backward_npbch}, {"backward sib1", backward_sib1},
         {"plan up, windows", plan_up_windows}, {"plan ack, windows", plan_ack_windows},
         {"forward up, windows", forward_up_windows}, {"forward ack, windows", forward_ack_windows},
         {"backward up, windows", backward_up_windows}, {"backward ack, windows", backward_ack_windows},
@@ -159,6 +170,8 @@ int main(void) {
         {"backward down, messages", backward_down_messages}, {"backward control, messages", backward_control_messages},
         {"step down, messages", step_down_messages}, {"step control, messages", step_control_messages},
         {"fill, messages", fill_messages}, {"element, messages", element_messages}, {"search, messages", search_messages},
+        {"forward npbch, messages", forward_npbch_messages}, {"forward sib1, messages", forward_sib1_messages},
+        {"backward npbch, messages", backward_npbch_messages}, {"backward sib1, messages", backward_sib1_messages},
     };
     uint64_t number;
     size_t base = depth(nothing, &number);

@@ -21,6 +21,7 @@
  *    21  a number of the messages that is not listed, a fifth schedule, or a window longer than its period
  *     8  the bitmap alone allows no subframe
  *    18  it allows some, and the anchor or its messages take them all
+ *    25  the broadcast of a non-anchor
  *     9  n above 2^30 - 1, of an acknowledgement above 2^31 - 1
  *    10  a field above its largest number, or NCCE 1 with format 1
  *    11  subcarrier field 48 to 63 at 3.75 kHz, 19 to 63 at 15 kHz
@@ -427,6 +428,34 @@ uint64_t nbiot_search(const uint64_t *cell, size_t cell_len,
                       const uint8_t *other, size_t other_len,
                       const uint64_t *space, size_t space_len,
                       uint64_t *answer, size_t answer_len);
+
+/*
+ * The broadcast: NPBCH and SIB1, which an anchor sends by itself. Forward has the places of one period from subframe 0 on, 64 frames of
+ * NPBCH (6400 places) and 256 of SIB1; the answer is that of an NPDSCH's forward. Backward takes any subframe by its number in its period,
+ * and its answer has no cause. NPBCH's elements and kinds are always those of a cell in-band with two narrowband ports, four cell ports and
+ * a control region of 3.
+ */
+uint64_t nbiot_forward_npbch(const uint64_t *cell, size_t cell_len,
+                             const uint8_t *anchor, size_t anchor_len,
+                             const uint8_t *other, size_t other_len, uint64_t p,
+                             uint64_t *answer, size_t answer_len);
+
+uint64_t nbiot_backward_npbch(const uint64_t *cell, size_t cell_len,
+                              const uint8_t *anchor, size_t anchor_len,
+                              const uint8_t *other, size_t other_len,
+                              uint64_t t, uint64_t slot, uint64_t l, uint64_t k,
+                              uint64_t *answer, size_t answer_len);
+
+uint64_t nbiot_forward_sib1(const uint64_t *cell, size_t cell_len,
+                            const uint8_t *anchor, size_t anchor_len,
+                            const uint8_t *other, size_t other_len, uint64_t p,
+                            uint64_t *answer, size_t answer_len);
+
+uint64_t nbiot_backward_sib1(const uint64_t *cell, size_t cell_len,
+                             const uint8_t *anchor, size_t anchor_len,
+                             const uint8_t *other, size_t other_len,
+                             uint64_t t, uint64_t slot, uint64_t l, uint64_t k,
+                             uint64_t *answer, size_t answer_len);
 
 /*
  * Fill transmitted subframe i of an NPDSCH on one port: QPSK from the codeword's bits, the first bit the highest of byte 0.

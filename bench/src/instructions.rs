@@ -1,6 +1,7 @@
 //! Calls whose instructions are counted, each C function once on each of the same accepted scenes. `bench/instructions` has them counted by
 //! valgrind's callgrind, part by part: a count is over all calls of a function in one run. The scenes do not depend on the library.
 
+use crate::broadcast::Broadcast;
 use crate::fast::{ControlGrant, DownGrant, SearchSpace};
 use crate::messages::Messaged;
 use crate::ours;
@@ -83,6 +84,17 @@ fn control(s: &Downlink) -> [u64; 3] {
 fn search(s: &Downlink) -> [u64; 1] {
     let (cell, [anchor, other]) = (s.cell, s.lent);
     [ours::search(cell, anchor, other, s.space, &mut [0; 48])]
+}
+
+/// Of an anchor, with messages or without.
+fn broadcast<const N: usize>(s: &Broadcast<N>) -> [u64; 4] {
+    let ([t, slot, l, k], [u, sib1_slot, sib1_l, sib1_k]) = (s.at_npbch, s.at_sib1);
+    [
+        ours::forward_npbch(&s.cell, &s.anchor, &s.other, s.p[0], &mut [0; 6]),
+        ours::forward_sib1(&s.cell, &s.anchor, &s.other, s.p[1], &mut [0; 6]),
+        ours::backward_npbch(&s.cell, &s.anchor, &s.other, t, slot, l, k, &mut [0; 5]),
+        ours::backward_sib1(&s.cell, &s.anchor, &s.other, u, sib1_slot, sib1_l, sib1_k, &mut [0; 5]),
+    ]
 }
 
 /// The numbers of four steps, and how many of them finished.
@@ -186,13 +198,14 @@ fn stopped(plain: &[Scene], beside: &[Scene], number: u64, finished: u64) {
     }
 }
 
-/// `plain` are scenes without windows, `ported` those with one port, `beside` those beside windows.
-pub fn call(part: &str, plain: &[Scene], ported: &[Scene], beside: &[Scene]) {
+/// `plain` are scenes without windows, `ported` those with one port, `beside` those beside windows; `broadcasts` are anchors.
+pub fn call(part: &str, plain: &[Scene], ported: &[Scene], beside: &[Scene], broadcasts: &[Broadcast]) {
     match part {
         "each" => {
             plain.iter().for_each(unwindowed);
             ported.iter().for_each(|s| expect(subframe(&downlink(s), s.i, &s.bits, s.level), 0));
             beside.iter().for_each(|s| windowed(s, lent(s)));
+            broadcasts.iter().for_each(|s| expect(broadcast(s), 0));
         }
         "none" => plain.iter().for_each(|s| windowed(s, [&[], &[]])),
         "zero" => plain.iter().for_each(|s| windowed(s, [&[0; 17], &[0; 17]])),
@@ -202,8 +215,9 @@ pub fn call(part: &str, plain: &[Scene], ported: &[Scene], beside: &[Scene]) {
     }
 }
 
-/// Cells of 23 numbers, and the same with one port.
-pub fn call_with_messages(plain: &[Messaged], ported: &[Messaged]) {
+/// Cells of 23 numbers, and the same with one port; and anchors.
+pub fn call_with_messages(plain: &[Messaged], ported: &[Messaged], broadcasts: &[Broadcast<23>]) {
     plain.iter().for_each(with_messages);
     ported.iter().for_each(|s| expect(subframe(&downlink_with_messages(s), s.i, &s.bits, s.level), 0));
+    broadcasts.iter().for_each(|s| expect(broadcast(s), 0));
 }

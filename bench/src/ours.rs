@@ -5,16 +5,6 @@ use crate::fast::{AckGrant, AckWalk, ControlGrant, DownGrant, SearchSpace, UpGra
 
 extern "C" {
     fn nbiot_judge(cell: *const u64, cells: usize, anchor: *const u8, anchors: usize, other: *const u8, others: usize) -> u64;
-    fn nbiot_bitmap(
-        cell: *const u64, cells: usize, anchor: *const u8, anchors: usize, other: *const u8, others: usize, answer: *mut u64, answers: usize,
-    ) -> u64;
-    fn nbiot_count(
-        cell: *const u64, cells: usize, anchor: *const u8, anchors: usize, other: *const u8, others: usize, answer: *mut u64, answers: usize,
-    ) -> u64;
-    fn nbiot_cause(
-        cell: *const u64, cells: usize, anchor: *const u8, anchors: usize, other: *const u8, others: usize, t: u64,
-        answer: *mut u64, answers: usize,
-    ) -> u64;
     fn nbiot_step_up(walk: *mut u64, walks: usize, answer: *mut u64, answers: usize) -> u64;
     fn nbiot_step_up_windows(walk: *mut u64, walks: usize, windows: *const u64, lent: usize, answer: *mut u64, answers: usize) -> u64;
     fn nbiot_step_ack(walk: *mut u64, walks: usize, answer: *mut u64, answers: usize) -> u64;
@@ -34,6 +24,38 @@ extern "C" {
         grant: *const u64, grants: usize, i: u64, slot: u64, l: u64, k: u64, bits: *const u8, bytes: usize, level: f32,
         answer: *mut u64, answers: usize, amplitudes: *mut f32, pairs: usize,
     ) -> u64;
+}
+
+/// What is asked of a cell alone.
+macro_rules! cell {
+    ($($name:ident $extern:ident ($($number:ident),*) $columns:literal;)*) => {
+        extern "C" {
+            $(fn $extern(
+                cell: *const u64, cells: usize, anchor: *const u8, anchors: usize, other: *const u8, others: usize,
+                $($number: u64,)* answer: *mut u64, answers: usize,
+            ) -> u64;)*
+        }
+        $(#[inline(always)]
+        pub fn $name(cell: &[u64], anchor: &[u8], other: &[u8], $($number: u64,)* answer: &mut [u64; $columns]) -> u64 {
+            // SAFETY: the pointers and lengths are those of slices, and only `answer` is written.
+            unsafe {
+                $extern(
+                    cell.as_ptr(), cell.len(), anchor.as_ptr(), anchor.len(), other.as_ptr(), other.len(),
+                    $($number,)* answer.as_mut_ptr(), answer.len(),
+                )
+            }
+        })*
+    };
+}
+
+cell! {
+    bitmap nbiot_bitmap () 3;
+    count nbiot_count () 2;
+    cause nbiot_cause (t) 2;
+    forward_npbch nbiot_forward_npbch (p) 6;
+    forward_sib1 nbiot_forward_sib1 (p) 6;
+    backward_npbch nbiot_backward_npbch (t, slot, l, k) 5;
+    backward_sib1 nbiot_backward_sib1 (t, slot, l, k) 5;
 }
 
 macro_rules! downlink {
@@ -107,32 +129,6 @@ uplink! {
 pub fn judge(cell: &[u64], anchor: &[u8], other: &[u8]) -> u64 {
     // SAFETY: the pointers and lengths are those of slices, and nothing is written.
     unsafe { nbiot_judge(cell.as_ptr(), cell.len(), anchor.as_ptr(), anchor.len(), other.as_ptr(), other.len()) }
-}
-
-#[inline(always)]
-pub fn bitmap(cell: &[u64], anchor: &[u8], other: &[u8], answer: &mut [u64; 3]) -> u64 {
-    // SAFETY: as above; only `answer` is written.
-    unsafe {
-        nbiot_bitmap(cell.as_ptr(), cell.len(), anchor.as_ptr(), anchor.len(), other.as_ptr(), other.len(), answer.as_mut_ptr(), answer.len())
-    }
-}
-
-#[inline(always)]
-pub fn count(cell: &[u64], anchor: &[u8], other: &[u8], answer: &mut [u64; 2]) -> u64 {
-    // SAFETY: as above; only `answer` is written.
-    unsafe {
-        nbiot_count(cell.as_ptr(), cell.len(), anchor.as_ptr(), anchor.len(), other.as_ptr(), other.len(), answer.as_mut_ptr(), answer.len())
-    }
-}
-
-#[inline(always)]
-pub fn cause(cell: &[u64], anchor: &[u8], other: &[u8], t: u64, answer: &mut [u64; 2]) -> u64 {
-    // SAFETY: as above; only `answer` is written.
-    unsafe {
-        nbiot_cause(
-            cell.as_ptr(), cell.len(), anchor.as_ptr(), anchor.len(), other.as_ptr(), other.len(), t, answer.as_mut_ptr(), answer.len(),
-        )
-    }
 }
 
 #[inline(always)]

@@ -29,7 +29,7 @@ macro_rules! line {
 }
 pub(crate) use line;
 
-fn report(name: &str, ours: f64, fast: f64, agreed: usize, compared: usize) {
+pub fn report(name: &str, ours: f64, fast: f64, agreed: usize, compared: usize) {
     println!("| {name} | {ours:.1} | {fast:.1} | {:.2} | {agreed} of {compared} |", ours / fast);
     assert_eq!(agreed, compared, "{name}: the answers differ");
 }

@@ -164,7 +164,7 @@ fn draw_place(random: &mut Random, scene: &Scene) -> (u64, Element) {
             let between = skipped_within(random, scene).unwrap_or(unit);
             (between, any_element(random, scene))
         }
-        43..=52 => (unit, beside(random, scene, e)),
+        43..=52 => (unit, beside(random, scene.kind.is_uplink(), e)),
         53..=59 => (unit_beside(random, scene, unit), e),
         60..=64 => (unit_far(random, scene, unit), e),
         65..=78 => (unit, reference(random, scene)),
@@ -186,7 +186,7 @@ fn draw_place(random: &mut Random, scene: &Scene) -> (u64, Element) {
 }
 
 /// One element aside; now and then this leaves the grid.
-fn beside(random: &mut Random, scene: &Scene, e: Element) -> Element {
+pub fn beside(random: &mut Random, uplink: bool, e: Element) -> Element {
     match random.below(5) {
         0 => Element { k: e.k + 1, ..e },
         1 => Element {
@@ -198,7 +198,7 @@ fn beside(random: &mut Random, scene: &Scene, e: Element) -> Element {
             l: e.l.saturating_sub(1),
             ..e
         },
-        _ if scene.kind.is_uplink() => Element { k: e.k + 3, ..e },
+        _ if uplink => Element { k: e.k + 3, ..e },
         _ => Element {
             slot: 1 - e.slot,
             ..e
@@ -297,7 +297,7 @@ fn reference(random: &mut Random, scene: &Scene) -> Element {
     }
     loop {
         let e = any_element(random, scene);
-        if elements::reference_kind(&scene.cell, e) != 0 {
+        if elements::reference_kind(&scene.cell.layout(), e) != 0 {
             return e;
         }
     }

@@ -1,11 +1,13 @@
 //! Answers: each question asked of the values in force, and its text.
 
+use crate::broadcast::{Broadcast, Channel};
 use crate::cell::{Cause, Cell};
-use crate::elements::{self, Element, SLOTS, SUBCARRIERS, SYMBOLS};
+use crate::elements;
 use crate::fill::{self, Lent, Shown};
 use crate::grant::{self, Found, Grant, Plan, Step};
 use crate::laid::{Cells, Laid};
 use crate::lines::next_line;
+use crate::picture::{rows, skipped_after, Picture};
 use crate::places::{Listing, Place};
 use crate::search::Space;
 use crate::text::{read_line, Fault, Kind, Question, Values};
@@ -36,15 +38,10 @@ pub enum Answer {
     Fill(Result<(), Refusal>, Vec<f32>),
     Element(Result<Shown, Refusal>),
     Picture(Kind, Result<Picture, Refusal>),
-}
-
-/// One transmitted subframe and what was skipped after it.
-#[derive(Clone, Debug, Default)]
-pub struct Picture {
-    /// k = 11 on top.
-    pub rows: Vec<String>,
-    /// The subframes between this one and the next one sent.
-    pub skipped: Vec<(u64, Cause)>,
+    ChannelForward(Channel, Result<Place, Refusal>),
+    ChannelBackward(Channel, Result<Found, Refusal>),
+    /// Its rows.
+    ChannelPicture(Channel, Result<Vec<String>, Refusal>),
 }
 
 /// The last cell and grant of a kind that were accepted, listed.
@@ -97,6 +94,15 @@ impl Answerer {
             Question::Fill => self.fill(),
             Question::Element => Answer::Element(self.element()),
             Question::Picture(kind) => Answer::Picture(kind, self.picture(kind)),
+            Question::ChannelForward(channel) => {
+                Answer::ChannelForward(channel, self.channel_forward(channel))
+            }
+            Question::ChannelBackward(channel) => {
+                Answer::ChannelBackward(channel, self.channel_backward(channel))
+            }
+            Question::ChannelPicture(channel) => {
+                Answer::ChannelPicture(channel, self.channel_picture(channel))
+            }
         }
     }
 
@@ -133,7 +139,7 @@ impl Answerer {
     }
 
     fn count(&mut self) -> Result<u64, Refusal> {
-        Ok(elements::count(&self.cell()?.cell))
+        Ok(elements::count(&self.cell()?.cell.layout()))
     }
 
     fn search(&mut self) -> Result<Space, Refusal> {
@@ -187,21 +193,35 @@ impl Answerer {
     fn picture(&mut self, kind: Kind) -> Result<Picture, Refusal> {
         let (_, values, listing) = self.listing(kind)?;
         refuse(14, values.i >= listing.sent.len() as u64)?;
-        let rows = (0..SUBCARRIERS).rev();
         Ok(Picture {
-            rows: rows.map(|k| row(&values.cell, listing, k)).collect(),
+            rows: rows(&values.cell.layout(), listing),
             skipped: skipped_after(listing, values.i as usize),
         })
     }
-}
 
-/// The subframes between the i-th one sent and the next, with their causes.
-fn skipped_after(listing: &Listing, i: usize) -> Vec<(u64, Cause)> {
-    let (Some(cell), Some(&next)) = (&listing.cell, listing.sent.get(i + 1)) else {
-        return Vec::new();
-    };
-    let between = listing.sent[i] + 1..next;
-    between.filter_map(|t| Some((t, cell.cause(t)?))).collect()
+    /// One period of a channel in the cell in force.
+    fn broadcast(&mut self, channel: Channel) -> Result<Broadcast, Refusal> {
+        let cell = self.cell()?;
+        Broadcast::of(channel, &cell)
+    }
+
+    fn channel_forward(&mut self, channel: Channel) -> Result<Place, Refusal> {
+        self.broadcast(channel)?.forward(self.values.p)
+    }
+
+    fn channel_backward(&mut self, channel: Channel) -> Result<Found, Refusal> {
+        let broadcast = self.broadcast(channel)?;
+        let (t, element) = self.values.place(Kind::Down);
+        broadcast.backward(t, element)
+    }
+
+    fn channel_picture(&mut self, channel: Channel) -> Result<Vec<String>, Refusal> {
+        let Broadcast {
+            layout, listing, ..
+        } = self.broadcast(channel)?;
+        refuse(14, self.values.i >= listing.sent.len() as u64)?;
+        Ok(rows(&layout, &listing))
+    }
 }
 
 fn lent(values: &Values) -> Lent<'_> {
@@ -209,31 +229,6 @@ fn lent(values: &Values) -> Lent<'_> {
         i: values.i,
         data: &values.data,
         level: f32::from_bits(values.level),
-    }
-}
-
-/// One subcarrier of a picture, first slot first.
-fn row(cell: &Cell, listing: &Listing, k: u64) -> String {
-    let mut text = String::new();
-    for slot in 0..SLOTS {
-        for l in 0..SYMBOLS {
-            text.push(mark(cell, listing, Element { slot, l, k }));
-        }
-    }
-    text
-}
-
-fn mark(cell: &Cell, listing: &Listing, e: Element) -> char {
-    if listing.element_number(e).is_some() {
-        'o'
-    } else if elements::narrowband_reference(cell, e) {
-        'N'
-    } else if elements::cell_reference(cell, e) {
-        'C'
-    } else if elements::in_control_region(cell, e) {
-        '#'
-    } else {
-        '.'
     }
 }
 

@@ -1,6 +1,7 @@
 //! The cell: its numbers, its bitmap, and what the anchor takes (01, "The cell"
 //! and "Usable subframes").
 
+use crate::elements::Layout;
 use crate::messages::Messages;
 use crate::{refuse, Refusal};
 
@@ -136,8 +137,18 @@ impl Cell {
         (byte >> (7 - bit % 8)) & 1 == 1
     }
 
+    /// The layout of the cell's grants. Both references use v in all modes.
+    pub fn layout(&self) -> Layout {
+        Layout {
+            v: self.identity % 6,
+            nports: self.nports,
+            cports: self.cports,
+            control: self.control,
+        }
+    }
+
     /// How often SIB1 is sent in 2,560 subframes.
-    fn sib1_copies(&self) -> u64 {
+    pub fn sib1_copies(&self) -> u64 {
         match self.sib1 % 3 {
             0 => 4,
             1 => 8,
@@ -146,7 +157,7 @@ impl Cell {
     }
 
     /// The first frame of SIB1.
-    fn sib1_first_frame(&self) -> u64 {
+    pub fn sib1_first_frame(&self) -> u64 {
         match self.sib1_copies() {
             4 => 16 * (self.identity % 4),
             8 => 16 * (self.identity % 2),

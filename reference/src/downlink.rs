@@ -89,7 +89,7 @@ impl Npdsch {
             codeword_units: subframes,
             sent: usable_from(&cell, self.n + 5, self.delay_number(), copies * subframes),
             carries: copy_order(copies, subframes, m, 1),
-            elements: elements::eligible(&cell.cell),
+            elements: elements::eligible(&cell.cell.layout()),
             cell: Some(cell),
         })
     }
@@ -116,7 +116,7 @@ impl Npdcch {
     /// subframe carries the whole codeword.
     pub fn list(&self, cell: Rc<Laid>) -> Result<Listing, Refusal> {
         self.judge()?;
-        let mut elements = elements::eligible(&cell.cell);
+        let mut elements = elements::eligible(&cell.cell.layout());
         elements.retain(|&e| self.uses(e));
         Ok(Listing {
             copies: self.r,

@@ -94,7 +94,7 @@ fn shown(cell: &Cell, listing: &Listing, lent: &Lent, e: Element) -> Shown {
         let c = carried * listing.width() + number;
         return Shown::Symbol(symbol(lent.data, c, lent.level));
     }
-    match elements::reference_kind(cell, e) {
+    match elements::reference_kind(&cell.layout(), e) {
         0 => Shown::Silent,
         kind => Shown::Reference(kind),
     }

@@ -3,12 +3,14 @@
 use crate::aim::{
     before_longest_row, draw_pictured, draw_position, draw_sent, draw_subframe, place_words,
 };
+use crate::broadcast::Channel;
 use crate::cell::Cell;
+use crate::drawn_broadcasts::broadcast_words;
 use crate::drawn_messages::near_window;
 use crate::drawn_searches::search_words;
 use crate::faults::{bad_line, full_line};
 use crate::random::Random;
-use crate::scene::{cell_words, draw_cell, Scene, Word};
+use crate::scene::{cell_words, draw_cell, number, Scene, Word};
 use crate::spoil::{numbers_of, spoil};
 use crate::text::{Kind, Question};
 use std::io::{self, Write};
@@ -71,14 +73,19 @@ fn passing_value(name: &str) -> &'static str {
 /// messages there are more pictures.
 fn draw_question(random: &mut Random, scene: &Scene) -> Question {
     let kind = scene.kind;
+    let channel = random.pick(&Channel::ALL);
     let shares = match kind {
-        Kind::Down if scene.has_messages() => [65, 125, 180, 70, 35, 25, 210, 15, 25, 90, 30, 130],
+        Kind::Down if scene.has_messages() => [
+            50, 95, 140, 55, 30, 20, 180, 15, 25, 75, 25, 110, 70, 105, 5,
+        ],
         Kind::Control if scene.has_messages() => {
-            [75, 155, 205, 100, 25, 20, 210, 20, 0, 0, 30, 160]
+            [60, 120, 160, 80, 25, 20, 180, 20, 0, 0, 25, 130, 70, 105, 5]
         }
-        Kind::Down => [65, 135, 185, 70, 35, 25, 210, 15, 25, 100, 5, 130],
-        Kind::Control => [75, 165, 220, 100, 25, 20, 210, 20, 0, 0, 5, 160],
-        Kind::Up | Kind::Ack => [120, 300, 400, 180, 0, 0, 0, 0, 0, 0, 0, 0],
+        Kind::Down => [
+            50, 105, 145, 55, 30, 20, 180, 15, 25, 80, 5, 110, 70, 105, 5,
+        ],
+        Kind::Control => [60, 130, 170, 80, 25, 20, 180, 20, 0, 0, 5, 130, 70, 105, 5],
+        Kind::Up | Kind::Ack => [120, 300, 400, 180, 0, 0, 0, 0, 0, 0, 0, 0, 0, 0, 0],
     };
     let questions = [
         Question::Plan(kind),
@@ -93,6 +100,9 @@ fn draw_question(random: &mut Random, scene: &Scene) -> Question {
         Question::Element,
         Question::Picture(kind),
         Question::Search,
+        Question::ChannelForward(channel),
+        Question::ChannelBackward(channel),
+        Question::ChannelPicture(channel),
     ];
     let mut at = random.below(1000);
     for (question, share) in questions.into_iter().zip(shares) {
@@ -126,15 +136,35 @@ fn cause_words(random: &mut Random, scene: &Scene) -> Vec<Word> {
     words
 }
 
+/// A transmitted subframe to be filled, often with other bits.
+fn fill_words(random: &mut Random, scene: &Scene) -> Vec<Word> {
+    let mut words = vec![number("i", draw_sent(random, scene))];
+    if random.chance(30) {
+        words.extend(scene.other_bits(random));
+    }
+    words
+}
+
+/// An element of a transmitted subframe, now and then with other bits.
+fn element_words(random: &mut Random, scene: &Scene) -> Vec<Word> {
+    let mut words = place_words(random, scene);
+    words.retain(|(name, _)| *name != "t");
+    words.push(number("i", draw_sent(random, scene)));
+    if random.chance(10) {
+        words.extend(scene.other_bits(random));
+    }
+    words
+}
+
 impl<W: Write> Generator<'_, W> {
     /// One scene: a `set` line, then some tens of questions.
     fn scene(&mut self) -> io::Result<()> {
         let kind = match self.only {
             Some(question) => question.kind().unwrap_or(Kind::Down),
             None => match self.random.below(100) {
-                0..=41 => Kind::Down,
-                42..=64 => Kind::Control,
-                65..=85 => Kind::Up,
+                0..=46 => Kind::Down,
+                47..=73 => Kind::Control,
+                74..=88 => Kind::Up,
                 _ => Kind::Ack,
             },
         };
@@ -251,26 +281,12 @@ impl<W: Write> Generator<'_, W> {
             Question::Picture(_) if scene.has_messages() && random.chance(40) => {
                 before_longest_row(random, scene)
             }
-            Question::Fill | Question::Picture(_) => {
-                let i = match question {
-                    Question::Fill => draw_sent(random, scene),
-                    _ => draw_pictured(random, scene),
-                };
-                let mut words = vec![("i", i.to_string())];
-                if random.chance(30) && question == Question::Fill {
-                    words.extend(scene.other_bits(random));
-                }
-                words
-            }
-            Question::Element => {
-                let mut words = place_words(random, scene);
-                words.retain(|(name, _)| *name != "t");
-                words.push(("i", draw_sent(random, scene).to_string()));
-                if random.chance(10) {
-                    words.extend(scene.other_bits(random));
-                }
-                words
-            }
+            Question::Picture(_) => vec![number("i", draw_pictured(random, scene))],
+            Question::Fill => fill_words(random, scene),
+            Question::ChannelForward(_)
+            | Question::ChannelBackward(_)
+            | Question::ChannelPicture(_) => broadcast_words(random, scene, question),
+            Question::Element => element_words(random, scene),
         }
     }
 }

@@ -105,7 +105,7 @@ impl Grant {
     fn reference_kind(&self, cell: &Cell, e: Element) -> u64 {
         match self.slot_use() {
             Some(slot) => slot.reference_kind(e),
-            None => elements::reference_kind(cell, e),
+            None => elements::reference_kind(&cell.layout(), e),
         }
     }
 

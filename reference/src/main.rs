@@ -1,9 +1,9 @@
 //! `reference answer`, `reference generate SEED COUNT [--only "forward up"]`, `reference counts`,
-//! `reference spaces`, `reference subframes SEED CELLS`, `reference table`.
+//! `reference spaces`, `reference subframes SEED CELLS`, `reference periods SCHEDULE`, `reference table`.
 
 use reference::generate::{generate, Wanted};
 use reference::text::{read_line, Question, Values};
-use reference::{answer, counts, spaces, subframes, table};
+use reference::{answer, counts, periods, spaces, subframes, table};
 use std::io::{self, BufReader, BufWriter, Write};
 use std::process::ExitCode;
 
@@ -12,6 +12,7 @@ const USAGE: &str = "usage: reference answer < questions
        reference counts
        reference spaces
        reference subframes SEED CELLS
+       reference periods SCHEDULE
        reference table < questions";
 
 fn main() -> ExitCode {
@@ -54,6 +55,12 @@ fn run(words: &[&str]) -> io::Result<bool> {
                 return Ok(false);
             };
             subframes::write_subframes(seed, cells, &mut out)?;
+        }
+        ["periods", schedule] => {
+            let Some(schedule) = schedule.parse().ok().filter(|&s: &u64| s < 12) else {
+                return Ok(false);
+            };
+            periods::write_periods(schedule, &mut out)?;
         }
         _ => return Ok(false),
     }

@@ -9,7 +9,7 @@ use std::rc::Rc;
 /// A grant, listed. A unit is a downlink subframe or an uplink slot.
 #[derive(Clone, Debug)]
 pub struct Listing {
-    /// The cell, its messages laid; an uplink grant has none.
+    /// The cell, its messages laid; an uplink grant and a broadcast have none.
     pub cell: Option<Rc<Laid>>,
     /// The number of copies, R.
     pub copies: u64,

@@ -152,6 +152,20 @@ fn accepted(random: &mut Random, cells: &mut Cells, draw: fn(&mut Random) -> Cel
     }
 }
 
+/// As below, on the anchor.
+pub fn draw_accepted_anchor(random: &mut Random, cells: &mut Cells) -> Rc<Laid> {
+    loop {
+        let draw = match random.chance(25) {
+            true => draw_cell,
+            false => draw_plain_cell,
+        };
+        let laid = accepted(random, cells, draw);
+        if laid.cell.carrier == 0 {
+            return laid;
+        }
+    }
+}
+
 /// An accepted cell, kept among the cells.
 pub fn draw_accepted_cell(random: &mut Random, cells: &mut Cells) -> Rc<Laid> {
     accepted(random, cells, draw_cell)
@@ -394,7 +408,7 @@ fn grant_numbers(grant: &Grant) -> Vec<Word> {
 
 /// Bits of the right length for a cell's codeword of so many subframes.
 pub fn data_word(random: &mut Random, cell: &Cell, subframes: u64) -> Word {
-    let symbols = subframes * elements::count(cell);
+    let symbols = subframes * elements::count(&cell.layout());
     let bytes = random.bytes(symbols.div_ceil(4) as usize);
     ("data", buffer(random, &bytes))
 }

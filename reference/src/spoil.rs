@@ -2,6 +2,7 @@
 
 use crate::ack;
 use crate::downlink;
+use crate::drawn_broadcasts::{off_anchor_words, outside_words};
 use crate::drawn_messages::{self, message_words};
 use crate::drawn_searches::refused_words;
 use crate::drawn_windows::{draw_never_free, draw_unlisted, window_words};
@@ -17,6 +18,7 @@ const PLAN: &[u64] = &[1, 2, 3, 4, 5, 24, 6, 7, 21, 21, 8, 18, 9, 10, 12];
 const SEARCH: &[u64] = &[
     1, 2, 3, 4, 5, 24, 6, 7, 21, 8, 18, 9, 10, 10, 12, 22, 22, 22, 23, 23, 23,
 ];
+const CHANNEL: &[u64] = &[1, 2, 3, 4, 5, 24, 6, 7, 21, 8, 18, 25, 25, 14, 14];
 const PLAN_UP: &[u64] = &[9, 10, 11, 13, 19, 20];
 const PLAN_ACK: &[u64] = &[9, 10, 19, 20];
 const PLACE: &[u64] = &[1, 2, 3, 4, 5, 24, 6, 7, 21, 21, 8, 18, 9, 10, 12, 14];
@@ -65,6 +67,7 @@ pub fn numbers_of(question: Question) -> &'static [u64] {
         Question::Plan(Kind::Ack) => PLAN_ACK,
         Question::Plan(_) => PLAN,
         Question::Fill | Question::Element => FILL,
+        _ if question.channel().is_some() => CHANNEL,
         _ => match question.kind() {
             Some(Kind::Up) => PLACE_UP,
             Some(Kind::Ack) => PLACE_ACK,
@@ -130,6 +133,7 @@ pub fn spoil(random: &mut Random, scene: &Scene, question: Question, no: u64) ->
         8 => nothing_allowed(random, scene),
         18 if random.chance(50) => taken_by_messages(random, scene),
         18 => all_taken(random, scene),
+        25 => off_anchor_words(),
         9 if scene.kind == Kind::Ack => one_above(random, "n", ack::LARGEST_N),
         9 => one_above(random, "n", downlink::LARGEST_N),
         10 if question == Question::Search => bad_search_field(random),
@@ -140,6 +144,7 @@ pub fn spoil(random: &mut Random, scene: &Scene, question: Question, no: u64) ->
         13 => vec![("mcs", random.between(5, 15).to_string())],
         19 => spoilt_windows(random, scene, draw_unlisted),
         20 => spoilt_windows(random, scene, draw_never_free),
+        14 if question.channel().is_some() => outside_words(random, question),
         14 => bad_place(random, scene, question),
         15 => bad_length(random, scene, question),
         16 => vec![("level", format!("{:08x}", random.pick(&BAD_LEVELS)))],

@@ -1,6 +1,7 @@
 //! The table of what a question file asks.
 
 use crate::answer::{Answer, Answerer};
+use crate::broadcast_counts::BroadcastCounts;
 use crate::cell::Cause;
 use crate::fill::Shown;
 use crate::grant::Step;
@@ -11,7 +12,7 @@ use crate::text::{Fault, Kind, Question, Values};
 use std::io::{self, BufRead, Write};
 
 /// One more than the largest number of a refusal.
-pub const NUMBERS: usize = 25;
+pub const NUMBERS: usize = 26;
 
 /// What one row counts.
 #[derive(Clone, Copy, Debug, Default, PartialEq, Eq)]
@@ -37,6 +38,7 @@ pub struct Table {
     pub windowed: u64,
     pub messages: MessageCounts,
     pub searches: SearchCounts,
+    pub broadcasts: BroadcastCounts,
 }
 
 impl Row {
@@ -56,8 +58,12 @@ impl Row {
             self.causes[cause as usize] += 1;
         }
         match answer {
-            Answer::Backward(_, Ok(found)) if found.ours => self.ours += 1,
-            Answer::Backward(_, Ok(found)) => self.not_ours[found.kind as usize] += 1,
+            Answer::Backward(_, Ok(found)) | Answer::ChannelBackward(_, Ok(found)) => {
+                match found.ours {
+                    true => self.ours += 1,
+                    false => self.not_ours[found.kind as usize] += 1,
+                }
+            }
             Answer::Element(Ok(Shown::Symbol(_))) => self.ours += 1,
             Answer::Element(Ok(Shown::Silent)) => self.not_ours[0] += 1,
             Answer::Element(Ok(Shown::Reference(kind))) => self.not_ours[*kind as usize] += 1,
@@ -108,6 +114,7 @@ impl Default for Table {
             windowed: 0,
             messages: MessageCounts::default(),
             searches: SearchCounts::default(),
+            broadcasts: BroadcastCounts::default(),
         }
     }
 }
@@ -124,6 +131,7 @@ impl Table {
         }
         self.messages.count(answer, values);
         self.searches.count(answer, values);
+        self.broadcasts.count(answer, values);
         for (question, row) in &mut self.rows {
             if answer.question() == Some(*question) {
                 row.count(answer);
@@ -167,6 +175,7 @@ impl Table {
         writeln!(out, "uplink questions with windows: {}", self.windowed)?;
         self.messages.write(out)?;
         self.searches.write(out)?;
+        self.broadcasts.write(out)?;
         self.write_faults(out)
     }
 

@@ -1,6 +1,7 @@
 //! The words of a question line and the values kept from line to line.
 
 use crate::ack::Ack;
+use crate::broadcast::Channel;
 use crate::cell::Cell;
 use crate::downlink::{Npdcch, Npdsch};
 use crate::elements::Element;
@@ -55,6 +56,9 @@ pub enum Question {
     Fill,
     Element,
     Picture(Kind),
+    ChannelForward(Channel),
+    ChannelBackward(Channel),
+    ChannelPicture(Channel),
 }
 
 impl Question {
@@ -77,6 +81,13 @@ impl Question {
         }
         list.extend([Question::Fill, Question::Element]);
         list.extend([Kind::Down, Kind::Control].map(Question::Picture));
+        for make in [
+            Question::ChannelForward,
+            Question::ChannelBackward,
+            Question::ChannelPicture,
+        ] {
+            list.extend(Channel::ALL.map(make));
+        }
         list
     }
 
@@ -92,6 +103,16 @@ impl Question {
         }
     }
 
+    /// The channel that the question names.
+    pub fn channel(self) -> Option<Channel> {
+        match self {
+            Question::ChannelForward(channel)
+            | Question::ChannelBackward(channel)
+            | Question::ChannelPicture(channel) => Some(channel),
+            _ => None,
+        }
+    }
+
     /// The words with which the question's line begins.
     pub fn text(self) -> String {
         let word = match self {
@@ -102,16 +123,17 @@ impl Question {
             Question::Count => "count",
             Question::Search => "search",
             Question::Plan(_) => "plan",
-            Question::Forward(_) => "forward",
-            Question::Backward(_) => "backward",
+            Question::Forward(_) | Question::ChannelForward(_) => "forward",
+            Question::Backward(_) | Question::ChannelBackward(_) => "backward",
             Question::Step(_) => "step",
             Question::Fill => "fill",
             Question::Element => "element",
-            Question::Picture(_) => "picture",
+            Question::Picture(_) | Question::ChannelPicture(_) => "picture",
         };
-        match self.kind() {
-            Some(kind) => format!("{word} {}", kind.word()),
-            None => word.to_string(),
+        match (self.kind(), self.channel()) {
+            (Some(kind), _) => format!("{word} {}", kind.word()),
+            (_, Some(channel)) => format!("{word} {}", channel.word()),
+            _ => word.to_string(),
         }
     }
 }
@@ -468,11 +490,18 @@ fn keep(values: &mut Values, name: &[u8], read: Read) {
     }
 }
 
-fn read_kind(word: Option<&[u8]>) -> Option<Kind> {
+/// What the second word of a question may name.
+enum Named {
+    Kind(Kind),
+    Channel(Channel),
+}
+
+fn read_named(word: Option<&[u8]>) -> Option<Named> {
     let word = word?;
-    Kind::ALL
-        .into_iter()
-        .find(|kind| kind.word().as_bytes() == word)
+    let kind = Kind::ALL.into_iter().find(|k| k.word().as_bytes() == word);
+    let mut channels = Channel::ALL.into_iter();
+    let channel = channels.find(|c| c.word().as_bytes() == word);
+    kind.map(Named::Kind).or(channel.map(Named::Channel))
 }
 
 /// A question that wants no kind.
@@ -490,33 +519,52 @@ fn without_kind(word: &[u8]) -> Option<Question> {
     }
 }
 
-/// A question that wants a kind.
-fn with_kind(word: &[u8]) -> Option<fn(Kind) -> Question> {
+fn wants_kind(word: &[u8]) -> bool {
+    matches!(
+        word,
+        b"plan" | b"forward" | b"backward" | b"step" | b"picture"
+    )
+}
+
+/// The question with a kind of grant; a picture has none in the uplink.
+fn with_kind(word: &[u8], kind: Kind) -> Option<Question> {
     match word {
-        b"plan" => Some(Question::Plan),
-        b"forward" => Some(Question::Forward),
-        b"backward" => Some(Question::Backward),
-        b"step" => Some(Question::Step),
-        b"picture" => Some(Question::Picture),
+        b"plan" => Some(Question::Plan(kind)),
+        b"forward" => Some(Question::Forward(kind)),
+        b"backward" => Some(Question::Backward(kind)),
+        b"step" => Some(Question::Step(kind)),
+        b"picture" if !kind.is_uplink() => Some(Question::Picture(kind)),
+        _ => None,
+    }
+}
+
+/// The question with a channel, which some have.
+fn with_channel(word: &[u8], channel: Channel) -> Option<Question> {
+    match word {
+        b"forward" => Some(Question::ChannelForward(channel)),
+        b"backward" => Some(Question::ChannelBackward(channel)),
+        b"picture" => Some(Question::ChannelPicture(channel)),
         _ => None,
     }
 }
 
 /// The question of a line and how many words name it.
 fn read_question(words: &[&[u8]]) -> Result<(Question, usize), Fault> {
-    let kind = read_kind(words.get(1).copied());
+    let named = read_named(words.get(1).copied());
     if let Some(question) = without_kind(words[0]) {
-        return match kind {
+        return match named {
             Some(_) => Err(Fault::Kind),
             None => Ok((question, 1)),
         };
     }
-    let make = with_kind(words[0]).ok_or(Fault::Question)?;
-    let question = make(kind.ok_or(Fault::Kind)?);
-    if matches!(question, Question::Picture(kind) if kind.is_uplink()) {
-        return Err(Fault::Kind);
+    if !wants_kind(words[0]) {
+        return Err(Fault::Question);
     }
-    Ok((question, 2))
+    let question = match named.ok_or(Fault::Kind)? {
+        Named::Kind(kind) => with_kind(words[0], kind),
+        Named::Channel(channel) => with_channel(words[0], channel),
+    };
+    Ok((question.ok_or(Fault::Kind)?, 2))
 }
 
 /// Reads a line and keeps its values; None for a line that asks nothing and

@@ -1,10 +1,11 @@
 //! The text of the answers, one line each (a picture has several).
 
-use crate::answer::{Answer, Picture};
+use crate::answer::Answer;
 use crate::cell::Cause;
 use crate::elements::Element;
 use crate::fill::Shown;
 use crate::grant::{Found, Plan, Step};
+use crate::picture::Picture;
 use crate::places::Place;
 use crate::search::{Candidate, Space};
 use crate::text::{Kind, Question};
@@ -44,6 +45,9 @@ impl Answer {
             Answer::Fill(_, _) => Question::Fill,
             Answer::Element(_) => Question::Element,
             Answer::Picture(kind, _) => Question::Picture(*kind),
+            Answer::ChannelForward(channel, _) => Question::ChannelForward(*channel),
+            Answer::ChannelBackward(channel, _) => Question::ChannelBackward(*channel),
+            Answer::ChannelPicture(channel, _) => Question::ChannelPicture(*channel),
         })
     }
 
@@ -63,6 +67,9 @@ impl Answer {
             Answer::Fill(a, _) => Some(split(a).0),
             Answer::Element(a) => Some(a.err().unwrap_or(0)),
             Answer::Picture(_, a) => Some(split(a).0),
+            Answer::ChannelForward(_, a) => Some(split(a).0),
+            Answer::ChannelBackward(_, a) => Some(split(a).0),
+            Answer::ChannelPicture(_, a) => Some(split(a).0),
         }
     }
 
@@ -77,16 +84,19 @@ impl Answer {
             Answer::Count(a) => writeln!(out, "no={no} e={}", split(a).1),
             Answer::Search(a) => write_space(out, no, &split(a).1),
             Answer::Plan(kind, a) => write_plan(out, *kind, no, split(a).1),
-            Answer::Forward(kind, a) => {
-                write!(out, "no={no}")?;
-                write_place(out, *kind, split(a).1)?;
+            Answer::Forward(kind, a) => write_forward(out, *kind, no, split(a).1),
+            Answer::ChannelForward(_, a) => write_forward(out, Kind::Down, no, split(a).1),
+            Answer::Backward(kind, a) => write_backward(out, *kind, no, split(a).1),
+            Answer::ChannelBackward(_, a) => {
+                write_found(out, no, split(a).1)?;
                 writeln!(out)
             }
-            Answer::Backward(kind, a) => write_found(out, *kind, no, split(a).1),
             Answer::Step(kind, a, p) => write_step(out, *kind, no, a, *p),
             Answer::Fill(_, numbers) => write_fill(out, no, numbers),
             Answer::Element(a) => write_element(out, no, a),
             Answer::Picture(_, a) => write_picture(out, no, a),
+            Answer::ChannelPicture(_, Ok(rows)) => write_rows(out, rows),
+            Answer::ChannelPicture(_, Err(_)) => writeln!(out, "no={no}"),
         }
     }
 }
@@ -120,14 +130,25 @@ fn write_place(out: &mut impl Write, kind: Kind, place: Place) -> io::Result<()>
     write!(out, " l={l} k={k} symbol={}", place.symbol)
 }
 
+fn write_forward(out: &mut impl Write, kind: Kind, no: u64, place: Place) -> io::Result<()> {
+    write!(out, "no={no}")?;
+    write_place(out, kind, place)?;
+    writeln!(out)
+}
+
 fn cause_word(cause: Option<Cause>) -> &'static str {
     cause.map_or("none", Cause::word)
 }
 
-fn write_found(out: &mut impl Write, kind: Kind, no: u64, found: Found) -> io::Result<()> {
+/// Backward's answer without the cause.
+fn write_found(out: &mut impl Write, no: u64, found: Found) -> io::Result<()> {
     let ours = u64::from(found.ours);
     write!(out, "no={no} ours={ours} symbol={}", found.symbol)?;
-    write!(out, " p={} kind={}", found.p, found.kind)?;
+    write!(out, " p={} kind={}", found.p, found.kind)
+}
+
+fn write_backward(out: &mut impl Write, kind: Kind, no: u64, found: Found) -> io::Result<()> {
+    write_found(out, no, found)?;
     if !kind.is_uplink() {
         write!(out, " cause={}", cause_word(found.cause))?;
     }
@@ -179,16 +200,24 @@ fn write_picture(
     no: u64,
     picture: &Result<Picture, Refusal>,
 ) -> io::Result<()> {
-    writeln!(out, "no={no}")?;
-    if let Ok(picture) = picture {
-        writeln!(
-            out,
-            "o ours, N narrowband reference, C cell reference, # control region, . anything else"
-        )?;
-        for row in &picture.rows {
-            writeln!(out, "{row}")?;
+    match picture {
+        Ok(picture) => {
+            write_rows(out, &picture.rows)?;
+            writeln!(out, "skipped: {}", skipped_text(&picture.skipped))
         }
-        writeln!(out, "skipped: {}", skipped_text(&picture.skipped))?;
+        Err(_) => writeln!(out, "no={no}"),
+    }
+}
+
+/// An accepted picture: its legend and rows.
+fn write_rows(out: &mut impl Write, rows: &[String]) -> io::Result<()> {
+    writeln!(out, "no=0")?;
+    writeln!(
+        out,
+        "o ours, N narrowband reference, C cell reference, # control region, . anything else"
+    )?;
+    for row in rows {
+        writeln!(out, "{row}")?;
     }
     Ok(())
 }

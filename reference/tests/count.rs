@@ -91,8 +91,8 @@ fn counted_as_by_hand() {
 #[test]
 fn half_of_it_in_each_ncce() {
     for cell in cells() {
-        let low = eligible(&cell).iter().filter(|e| e.k < 6).count() as u64;
-        assert_eq!(2 * low, count(&cell));
+        let low = eligible(&cell.layout()).iter().filter(|e| e.k < 6).count() as u64;
+        assert_eq!(2 * low, count(&cell.layout()));
     }
 }
 

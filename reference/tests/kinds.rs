@@ -5,30 +5,21 @@ mod common;
 use common::{ask, value};
 use reference::counts::cells;
 use reference::elements::{cell_reference, narrowband_reference, reference_kind};
-use reference::elements::{Element, SLOTS, SUBCARRIERS, SYMBOLS};
+use reference::elements::{grid, Element};
 use std::collections::BTreeSet;
-
-fn grid() -> Vec<Element> {
-    let mut list = Vec::new();
-    for slot in 0..SLOTS {
-        for l in 0..SYMBOLS {
-            list.extend((0..SUBCARRIERS).map(|k| Element { slot, l, k }));
-        }
-    }
-    list
-}
 
 /// Over every layout with listed numbers, accepted or not.
 #[test]
 fn never_both() {
     let (mut narrowband, mut cell_wide) = (BTreeSet::new(), BTreeSet::new());
     for cell in cells() {
+        let layout = cell.layout();
         for e in grid() {
-            let of_ours = narrowband_reference(&cell, e);
-            let of_cell = cell_reference(&cell, e);
+            let of_ours = narrowband_reference(&layout, e);
+            let of_cell = cell_reference(&layout, e);
             assert!(!(of_ours && of_cell), "{e:?} of {cell:?}");
             let kind = u64::from(of_ours) + 2 * u64::from(of_cell);
-            assert_eq!(reference_kind(&cell, e), kind);
+            assert_eq!(reference_kind(&layout, e), kind);
             narrowband.extend(of_ours.then_some(e.l));
             cell_wide.extend(of_cell.then_some(e.l));
         }

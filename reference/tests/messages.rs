@@ -3,10 +3,11 @@
 
 mod common;
 use common::{ask, value};
-use reference::answer::{Answer, Picture};
+use reference::answer::Answer;
 use reference::cell::{Cause, Cell};
 use reference::laid::Laid;
 use reference::messages::{Messages, Schedule, EVERY, PERIOD, PERIODS, SIZES, WINDOWS};
+use reference::picture::Picture;
 use reference::random::Random;
 use reference::scene::draw_cell;
 use reference::text::Kind;

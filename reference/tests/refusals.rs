@@ -1,7 +1,9 @@
-//! Numbers 1 to 21 (22 and 23 are in search.rs), the bounds of the fields, and the generator's shares.
+//! Numbers 1 to 21 and 24 (22 and 23 are in search.rs, 25 in broadcast.rs), the bounds of the fields, and the
+//! generator's shares.
 
 mod common;
 use common::{ask, value};
+use reference::broadcast::Channel;
 use reference::cell::Cause;
 use reference::generate::{generate, Wanted};
 use reference::table::{table_of, NUMBERS};
@@ -171,7 +173,7 @@ fn generated_acknowledgements() {
     let of_ack = |question: &Question| question.kind() == Some(Kind::Ack);
     let rows: Vec<_> = table.rows.iter().filter(|(q, _)| of_ack(q)).collect();
     let asked: u64 = rows.iter().map(|(_, row)| row.asked).sum();
-    assert!(asked >= 2000, "at least 10 of a hundred");
+    assert!(asked >= 1600, "at least 8 of a hundred");
     for no in [9, 10, 19, 20, 14] {
         let refused: u64 = rows.iter().map(|(_, row)| row.refused[no]).sum();
         assert!(refused >= 20, "number {no}");
@@ -202,7 +204,7 @@ fn generated_windows() {
     let table = table_of(&mut &file[..]).expect("memory gives all");
     assert!(table.windowed >= 3000, "at least 15 of a hundred");
     let all = table.total();
-    assert!(all.refused[19] >= 100 && all.refused[20] >= 100);
+    assert!(all.refused[19] >= 50 && all.refused[20] >= 50);
 }
 
 #[test]
@@ -239,6 +241,28 @@ fn generated_searches() {
     assert!(searches.past_turn >= 100 && searches.uneven >= 50);
     assert!(searches.past_next >= 50 && searches.past_largest >= 50);
     assert!(searches.beside_messages >= 100);
+}
+
+#[test]
+fn generated_broadcasts() {
+    let mut file = Vec::new();
+    generate(Wanted::new(13, 20_000), &mut file).expect("memory takes all");
+    let table = table_of(&mut &file[..]).expect("memory gives all");
+    let broadcasts = &table.broadcasts;
+    assert!(broadcasts.asked >= 2000, "at least 10 of a hundred");
+    assert!(2 * broadcasts.accepted >= broadcasts.asked);
+    assert!(broadcasts.schedules.iter().all(|&count| count >= 50));
+    assert!(broadcasts.modes.iter().all(|&count| count >= 200));
+    assert!(broadcasts.ours_early >= 50 && broadcasts.ours_later >= 200);
+    assert!(broadcasts.ours_far >= 50 && broadcasts.unreal > 5);
+    assert!(broadcasts.other_control >= 200 && broadcasts.beside >= 500);
+    assert!(table.total().refused[25] >= 100);
+    for make in [Question::ChannelForward, Question::ChannelBackward] {
+        for channel in Channel::ALL {
+            let row = table.row(make(channel));
+            assert!(row.refused[25] > 0 && row.refused[14] > 0);
+        }
+    }
 }
 
 #[test]

@@ -81,6 +81,20 @@ fn error_kind() {
     ] {
         fault(line.as_bytes(), "kind");
     }
+    for line in [
+        "plan npbch",
+        "plan sib1 p=1",
+        "step npbch",
+        "step sib1",
+        "cell npbch",
+        "set sib1",
+        "fill npbch",
+        "search sib1",
+        "forward NPBCH",
+        "picture mib",
+    ] {
+        fault(line.as_bytes(), "kind");
+    }
 }
 
 #[test]

@@ -148,15 +148,21 @@ pub fn why_not(cell: &Cell, t: u64) -> u64 {
         5 => 2,
         9 if frame % 2 == 0 => 3,
         4 => {
-            let (first, frames) = match schedule as u32 % 3 {
-                0 => (16 * (identity & 3), 64),
-                1 => (16 * (identity & 1), 32),
-                _ => (identity & 1, 16),
-            };
+            let (first, frames) = sib1_frames(identity, schedule);
             let x = (frame + 64 - first) & (frames - 1);
             if x & 1 == 0 && x < 16 { 4 } else { 6 }
         }
         _ => 6,
+    }
+}
+
+/// SIB1's first frame, and how many frames lie from copy to copy.
+#[inline(always)]
+pub fn sib1_frames(identity: u64, schedule: u64) -> (u64, u64) {
+    match schedule as u32 % 3 {
+        0 => (16 * (identity & 3), 64),
+        1 => (16 * (identity & 1), 32),
+        _ => (identity & 1, 16),
     }
 }
 

@@ -35,9 +35,22 @@ fn answers(s: &Scene, cell: &[u64]) -> (Vec<u64>, [Vec<u64>; 2]) {
     for answer in [&b[..], &n, &c, &pd, &pc, &fd, &fc, &bd, &bc, &sd, &sc, &ss] {
         all.extend(answer);
     }
+    all.extend(broadcasts(s, cell));
     walks[0].truncate(14);
     walks[1].truncate(13);
     (all, walks)
+}
+
+/// The answers about NPBCH and SIB1, in the frame of the NPDSCH's place.
+fn broadcasts(s: &Scene, cell: &[u64]) -> Vec<u64> {
+    let (a, o, p, [t, slot, l, k]) = (&s.anchor, &s.other, s.p[1] % 8192, s.at_down);
+    let frame = t - t % 10;
+    let (mut fb, mut fs, mut bb, mut bs) = ([0; 6], [0; 6], [0; 5], [0; 5]);
+    ours::forward_npbch(cell, a, o, p, &mut fb);
+    ours::forward_sib1(cell, a, o, p, &mut fs);
+    ours::backward_npbch(cell, a, o, frame, slot, l, k, &mut bb);
+    ours::backward_sib1(cell, a, o, frame + 4, slot, l, k, &mut bs);
+    [&fb[..], &fs, &bb, &bs].concat()
 }
 
 pub fn compare(scenes: &[Scene]) {

@@ -1,6 +1,7 @@
 //! The first table's lines for cells with messages.
 
 use super::scene::{space, Messaged, Schedules};
+use crate::broadcast::{self, Broadcast};
 use crate::fast;
 use crate::measure::versus;
 use crate::ours;
@@ -29,8 +30,8 @@ fn remark(agrees: bool) -> &'static str {
     if agrees { "" } else { ", DIFFER" }
 }
 
-/// Search spaces are drawn by a generator of their own.
-pub fn table(r: &mut Random, spaces: &mut Random) {
+/// Search spaces, and cells that broadcast, are drawn by generators of their own.
+pub fn table(r: &mut Random, spaces: &mut Random, b: &mut Random) {
     if !ours::reads_messages() {
         println!("\nThe library reads 8 numbers of a cell: below it answers as if no messages were sent.");
         println!("Its answers differ, and its times are of another question.");
@@ -38,6 +39,7 @@ pub fn table(r: &mut Random, spaces: &mut Random) {
     println!("\n| cell with messages | ours, ns | fast, ns | ours / fast | answers agree |\n|---|---|---|---|---|");
     for schedules in Schedules::ALL {
         lines(r, spaces, schedules);
+        broadcasts(b, schedules);
     }
 }
 
@@ -57,6 +59,13 @@ fn lines(r: &mut Random, spaces: &mut Random, schedules: Schedules) {
     search(timed, compared, &named);
     element_line!(&named("element"), &mut ported[..], compared);
     fill_line!(&named("fill"), &mut ported[..], compared);
+}
+
+fn broadcasts(r: &mut Random, schedules: Schedules) {
+    let (timed, compared) = many(schedules);
+    let mut timed: Vec<Broadcast<23>> = (0..timed).map(|_| Broadcast::accepted_with(r, schedules)).collect();
+    let mut compared: Vec<Broadcast<23>> = (0..compared).map(|_| Broadcast::any_with(r, schedules)).collect();
+    broadcast::lines(&mut timed, &mut compared, &|question| format!("{question}, {}", schedules.name()));
 }
 
 fn count_and_cause(timed: &mut [Messaged], compared: &mut [Messaged], named: &impl Fn(&str) -> String) {

@@ -38,6 +38,12 @@ pub use npdcch::plan as plan_control;
 // Where NPDCCH may start: the first start of the UE-specific search space from subframe n on, and its candidates.
 pub use search_space::search;
 
+// NPBCH and SIB1, which an anchor broadcasts by itself: the places of one period, and any subframe by its number in it.
+pub use broadcast::backward_npbch;
+pub use broadcast::backward_sib1;
+pub use broadcast::forward_npbch;
+pub use broadcast::forward_sib1;
+
 // One step of a walk, the caller's record moved in place; and the same of a record by value.
 pub use inplace::step;
 pub use inplace::step_value;

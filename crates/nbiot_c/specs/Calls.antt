@@ -5,6 +5,7 @@ use Prim.Native.Nat.{ℕ}
 use lib.Dec.{eqb}
 use lib.Ieee.{Float}
 use lib.ListN.{length, take, getD}
+use Rattle.cell.specs.declared.CellConfig.{CellConfig}
 use Rattle.cell.specs.declared.Cell.{Cell}
 use Rattle.cell.specs.Judge.{judgeOf, inForceOf, causeOf}
 use Rattle.cell.specs.Layout.{elementCountOf}
@@ -13,12 +14,14 @@ use Rattle.harq_ack.specs.Questions as ack
 use Rattle.npdsch.specs.Questions as down
 use Rattle.npdcch.specs.Questions as control
 use Rattle.search_space.specs.Questions.{searchOf}
+use Rattle.broadcast.specs.Channels.{Channel}
+use Rattle.broadcast.specs.Questions as broadcast
 use Rattle.walk.specs.Step.{steppedOf}
 use Rattle.symbol.specs.Outgoing.{numbersOf}
 use Rattle.fill.specs.Refusals.{fillRefusal}
 use Rattle.fill.specs.Fill.{outputOf}
 use Rattle.transmitted.specs.Element.{elementAnswer}
-use Rattle.buffers.specs.Buffers.{cellIn, windowsOf, npuschAt, harqAckAt, npdschAt, npdcchAt, searchSpaceAt}
+use Rattle.buffers.specs.Buffers.{configAt, cellIn, windowsOf, npuschAt, harqAckAt, npdschAt, npdcchAt, searchSpaceAt}
 use Rattle.buffers.specs.Buffers.{npuschWalk, harqAckWalk, npdschWalk, npdcchWalk}
 use Rattle.buffers.specs.Buffers.{uplinkPlanNumbers, downlinkPlanNumbers, uplinkPlaceNumbers, downlinkPlaceNumbers}
 use Rattle.buffers.specs.Buffers.{backNumbers, downlinkBackNumbers, searchNumbers}
@@ -151,6 +154,18 @@ unfoldable pub search : List ℕ → List ℕ → List ℕ → List ℕ → List
 search cell anchor other space answer =
     cond (lacks 8 cell || (lacks 4 space || lacks 48 answer)) (tooShort, answer)
     (put (searchNumbers (searchOf (cellIn cell 0 8) anchor other (searchSpaceAt space 0))) answer)
+
+-- ---- the broadcast: a channel of the cell
+
+unfoldable pub forwardOn : (CellConfig → Channel) → List ℕ → List ℕ → List ℕ → ℕ → List ℕ → Reply
+forwardOn channel cell anchor other p answer =
+    cond (lacks 8 cell || lacks 6 answer) (tooShort, answer)
+    (put (downlinkPlaceNumbers (broadcast.forwardOf (cellIn cell 0 8) anchor other (channel (configAt cell 0)) p)) answer)
+
+unfoldable pub backwardOn : (CellConfig → Channel) → List ℕ → List ℕ → List ℕ → ℕ → ℕ → ℕ → ℕ → List ℕ → Reply
+backwardOn channel cell anchor other t slot l k answer =
+    cond (lacks 8 cell || lacks 5 answer) (tooShort, answer)
+    (put (backNumbers (broadcast.backwardOf (cellIn cell 0 8) anchor other (channel (configAt cell 0)) t slot l k)) answer)
 
 -- ---- the numbers of a transmitted subframe: an output that is no subframe's is refused by 15
 

@@ -4,6 +4,7 @@ ghost use mathlib.Core.List.{[]};
 ghost use mathlib.Core.Path.{_≡_};
 ghost use Rattle.npusch.specs.Questions as up;
 ghost use Rattle.harq_ack.specs.Questions as ack;
+ghost use Rattle.broadcast.specs.Channels.{npbchOf, sib1Of};
 ghost use Rattle.buffers.specs.Buffers.{windowsOf};
 ghost use Rattle.nbiot_c.specs.Calls as calls;
 use harq_ack::HarqAckGrant;
@@ -580,6 +581,90 @@ pub extern "C" fn nbiot_search(
     let s = buffers::search_space_at(space, 0);
     let a = nbiot::search(c, anchor, other, s);
     buffers::put_search(answer, a)
+}
+
+// ---- the broadcast
+
+// The place of position p of NPBCH, and the symbol there.
+#[no_mangle]
+pub extern "C" fn nbiot_forward_npbch(
+    cell: &[u64],
+    anchor: &[u8],
+    other: &[u8],
+    p: u64,
+    answer: &mut [u64],
+) -> u64
+    ensures { λ r. ⌜ (r, now (answer .exit))
+        ≡ calls.forwardOn npbchOf (now (cell .entry)) (now (anchor .entry)) (now (other .entry)) p (now (answer .entry)) ⌝ }
+{
+    if buffers::short2(8, 6, cell.len(), answer.len()) {
+        return TOO_SHORT;
+    }
+    let a = nbiot::forward_npbch(buffers::cell_in(cell, 0, 8), anchor, other, p);
+    buffers::put_downlink_place(answer, a)
+}
+
+// What NPBCH has at symbol l and subcarrier k of a slot of subframe t.
+#[no_mangle]
+pub extern "C" fn nbiot_backward_npbch(
+    cell: &[u64],
+    anchor: &[u8],
+    other: &[u8],
+    t: u64,
+    slot: u64,
+    l: u64,
+    k: u64,
+    answer: &mut [u64],
+) -> u64
+    ensures { λ r. ⌜ (r, now (answer .exit))
+        ≡ calls.backwardOn npbchOf (now (cell .entry)) (now (anchor .entry)) (now (other .entry)) t slot l k (now (answer .entry)) ⌝ }
+{
+    if buffers::short2(8, 5, cell.len(), answer.len()) {
+        return TOO_SHORT;
+    }
+    let a = nbiot::backward_npbch(buffers::cell_in(cell, 0, 8), anchor, other, t, slot, l, k);
+    buffers::put_back(answer, a)
+}
+
+// The place of position p of SIB1, and the symbol there.
+#[no_mangle]
+pub extern "C" fn nbiot_forward_sib1(
+    cell: &[u64],
+    anchor: &[u8],
+    other: &[u8],
+    p: u64,
+    answer: &mut [u64],
+) -> u64
+    ensures { λ r. ⌜ (r, now (answer .exit))
+        ≡ calls.forwardOn sib1Of (now (cell .entry)) (now (anchor .entry)) (now (other .entry)) p (now (answer .entry)) ⌝ }
+{
+    if buffers::short2(8, 6, cell.len(), answer.len()) {
+        return TOO_SHORT;
+    }
+    let a = nbiot::forward_sib1(buffers::cell_in(cell, 0, 8), anchor, other, p);
+    buffers::put_downlink_place(answer, a)
+}
+
+// What SIB1 has at symbol l and subcarrier k of a slot of subframe t.
+#[no_mangle]
+pub extern "C" fn nbiot_backward_sib1(
+    cell: &[u64],
+    anchor: &[u8],
+    other: &[u8],
+    t: u64,
+    slot: u64,
+    l: u64,
+    k: u64,
+    answer: &mut [u64],
+) -> u64
+    ensures { λ r. ⌜ (r, now (answer .exit))
+        ≡ calls.backwardOn sib1Of (now (cell .entry)) (now (anchor .entry)) (now (other .entry)) t slot l k (now (answer .entry)) ⌝ }
+{
+    if buffers::short2(8, 5, cell.len(), answer.len()) {
+        return TOO_SHORT;
+    }
+    let a = nbiot::backward_sib1(buffers::cell_in(cell, 0, 8), anchor, other, t, slot, l, k);
+    buffers::put_back(answer, a)
 }
 
 // ---- the numbers of a transmitted subframe

@@ -130,6 +130,20 @@ fn backward(k: Kind, v: &Values, anchor: &[u8], other: &[u8], out: &mut Page, at
             );
             answers::put_back(x, out, at)
         }
+        Kind::Npbch => {
+            answers::put_back(
+                either::standing(k, v, anchor, other, v[T], slot, l, s),
+                out,
+                at,
+            )
+        }
+        Kind::Sib1 => {
+            answers::put_back(
+                either::standing(k, v, anchor, other, v[T], slot, l, s),
+                out,
+                at,
+            )
+        }
         _ => {
             let x = either::backward(k, v, anchor, other, v[T], slot, l, s);
             answers::put_downlink_back(x, out, at)

@@ -13,6 +13,14 @@ ghost use Prim.Native.Nat.{_+_, _≤_};
 // So many of the skipped subframes are listed.
 const LISTED: u64 = 200;
 
+fn is_broadcast(k: Kind) -> bool {
+    match k {
+        Kind::Npbch => true,
+        Kind::Sib1 => true,
+        _ => false,
+    }
+}
+
 // How many subframes a codeword has.
 fn codeword(k: Kind, v: &Values) -> u64 {
     match k {
@@ -55,6 +63,15 @@ fn mark(b: Back, in_control: bool) -> u8 {
     b'.'
 }
 
+// The control region of the subframe that is drawn.
+fn control_region(k: Kind, v: &Values) -> u64 {
+    match k {
+        Kind::Npbch => 3,
+        Kind::Sib1 => questions::sib1_control(v),
+        _ => questions::control_region(v),
+    }
+}
+
 // One subcarrier, first slot first.
 fn put_row(
     k: Kind,
@@ -70,12 +87,12 @@ fn put_row(
     ensures { λ r. ⌜ r ≡ at + 15 ⌝ }
 {
     let mut row = [b'\n'; 15];
-    let control = questions::control_region(v);
+    let control = control_region(k, v);
     let mut i: usize = 0;
     while i < 14 {
         let x = i as u64;
-        let b = either::backward(k, v, anchor, other, t, x / 7, x % 7, subcarrier);
-        row[i] = mark(b.back, x < control);
+        let b = either::standing(k, v, anchor, other, t, x / 7, x % 7, subcarrier);
+        row[i] = mark(b, x < control);
         i += 1;
     }
     put(out, at, &row)
@@ -169,6 +186,73 @@ fn put_end(t: u64, last: u64, out: &mut Page, at: usize) -> usize
     answers::put_unlisted(last - t - LISTED, out, at)
 }
 
+// The legend, and the rows of subframe t.
+fn put_subframe(
+    k: Kind,
+    v: &Values,
+    anchor: &[u8],
+    other: &[u8],
+    t: u64,
+    out: &mut Page,
+    at: usize,
+) -> usize
+    requires { ⌜ at + 320 ≤ 65536 ⌝ }
+    ensures { λ r. ⌜ r ≤ at + 320 ⌝ }
+{
+    let to = put(
+        out,
+        at,
+        b"o ours, N narrowband reference, C cell reference, # control region, . anything else\n",
+    );
+    put_rows(k, v, anchor, other, t, out, to)
+}
+
+// 1 for a place of ours, else 0.
+fn ours_at(b: Back) -> u64
+    ensures { λ r. ⌜ r ≤ 1 ⌝ }
+{
+    if b.ours == 1 {
+        return 1;
+    }
+    0
+}
+
+// How many places of a channel stand in its subframe t.
+fn places_in(k: Kind, v: &Values, anchor: &[u8], other: &[u8], t: u64) -> u64
+    ensures { λ r. ⌜ r ≤ 168 ⌝ }
+{
+    let mut places: u64 = 0;
+    let mut x: u64 = 0;
+    while x < 168 {
+        let b = either::standing(k, v, anchor, other, t, x / 84, x / 12 % 7, x % 12);
+        places += ours_at(b);
+        x += 1;
+    }
+    places
+}
+
+// A picture of transmitted subframe i of a channel's period.
+fn put_broadcast(
+    k: Kind,
+    v: &Values,
+    anchor: &[u8],
+    other: &[u8],
+    out: &mut Page,
+    at: usize,
+) -> usize
+    requires { ⌜ at + 16384 ≤ 65536 ⌝ }
+    ensures { λ r. ⌜ r ≤ at + 16384 ⌝ }
+{
+    let first = either::forward(k, v, anchor, other, 0);
+    let width = places_in(k, v, anchor, other, first.t);
+    let place = either::forward(k, v, anchor, other, first_position(u64::MAX, width, v[I]));
+    let mid = answers::put_cell(place.no, out, at);
+    if place.no != 0 {
+        return mid;
+    }
+    put_subframe(k, v, anchor, other, place.t, out, mid)
+}
+
 // The legend, the rows of subframe t, and what is skipped after it.
 fn put_drawn(
     k: Kind,
@@ -183,14 +267,25 @@ fn put_drawn(
     requires { ⌜ at + 8192 ≤ 65536 ⌝ }
     ensures { λ r. ⌜ r ≤ at + 8192 ⌝ }
 {
-    let to = put(
-        out,
-        at,
-        b"o ours, N narrowband reference, C cell reference, # control region, . anything else\n",
-    );
-    let mid = put_rows(k, v, anchor, other, t, out, to);
+    let mid = put_subframe(k, v, anchor, other, t, out, at);
     let end = put_skips(v, anchor, other, t, last, out, mid);
     put_end(t, last, out, end)
+}
+
+// A picture of transmitted subframe i of a downlink grant.
+fn put_sent(k: Kind, v: &Values, anchor: &[u8], other: &[u8], out: &mut Page, at: usize) -> usize
+    requires { ⌜ at + 16384 ≤ 65536 ⌝ }
+    ensures { λ r. ⌜ r ≤ at + 16384 ⌝ }
+{
+    let a = either::plan(k, v, anchor, other);
+    let width = quotient(quotient(a.places, a.copies), codeword(k, v));
+    let place = either::forward(k, v, anchor, other, first_position(a.places, width, v[I]));
+    let mid = answers::put_cell(place.no, out, at);
+    if place.no != 0 {
+        return mid;
+    }
+    let last = last_skipped(k, v, anchor, other, a.places, width, place.t);
+    put_drawn(k, v, anchor, other, place.t, last, out, mid)
 }
 
 pub fn put_picture(
@@ -204,13 +299,8 @@ pub fn put_picture(
     requires { ⌜ at + 16384 ≤ 65536 ⌝ }
     ensures { λ r. ⌜ r ≤ at + 16384 ⌝ }
 {
-    let a = either::plan(k, v, anchor, other);
-    let width = quotient(quotient(a.places, a.copies), codeword(k, v));
-    let place = either::forward(k, v, anchor, other, first_position(a.places, width, v[I]));
-    let mid = answers::put_cell(place.no, out, at);
-    if place.no != 0 {
-        return mid;
+    if is_broadcast(k) {
+        return put_broadcast(k, v, anchor, other, out, at);
     }
-    let last = last_skipped(k, v, anchor, other, a.places, width, place.t);
-    put_drawn(k, v, anchor, other, place.t, last, out, mid)
+    put_sent(k, v, anchor, other, out, at)
 }

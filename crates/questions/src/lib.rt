@@ -30,6 +30,7 @@ pub use values::npdcch_grant;
 pub use values::npdsch_grant;
 pub use values::npusch_grant;
 pub use values::search_space_of;
+pub use values::sib1_control;
 pub use values::start;
 pub use values::walk_of;
 pub use values::windows_of;

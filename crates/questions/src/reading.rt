@@ -32,15 +32,21 @@ const ASKED: usize = 13;
 
 const WITHOUT_KIND: usize = 8;
 
+const FORWARD: usize = 9;
+
+const BACKWARD: usize = 10;
+
 const PICTURE: usize = 12;
 
-// The kinds of the uplink stand first.
+// The kinds of the uplink stand first, those of the broadcast last.
 const ACK: usize = 1;
 
-const NO_KIND: usize = 4;
+const NPBCH: usize = 4;
+
+const NO_KIND: usize = 6;
 
 const KINDS: [[u8; 80]; 1] = [
-    *b"up        ack       down      control                                           ",
+    *b"up        ack       down      control   npbch     sib1                          ",
 ];
 
 pub enum Kind {
@@ -48,6 +54,8 @@ pub enum Kind {
     Ack,
     Down,
     Control,
+    Npbch,
+    Sib1,
 }
 
 pub enum Question {
@@ -99,7 +107,9 @@ fn kind_of(row: usize) -> Kind {
         0 => Kind::Up,
         1 => Kind::Ack,
         2 => Kind::Down,
-        _ => Kind::Control,
+        3 => Kind::Control,
+        4 => Kind::Npbch,
+        _ => Kind::Sib1,
     }
 }
 
@@ -313,12 +323,19 @@ fn check_words(line: &[u8], named: usize, q: Question) -> Line
     Line::Asked(q, named)
 }
 
-// The kind is as the question wants it: none, one, or for a picture one of the downlink's.
+// The kind is as the question wants it: none, or one of a grant; forward and backward have those of the broadcast too,
+// and a picture all but those of the uplink.
 fn suits(row: usize, kind: usize) -> bool {
     if row < WITHOUT_KIND {
         return kind == NO_KIND;
     }
-    (kind < NO_KIND) & ((row != PICTURE) | (kind > ACK))
+    if row == PICTURE {
+        return (ACK < kind) & (kind < NO_KIND);
+    }
+    if (row == FORWARD) | (row == BACKWARD) {
+        return kind < NO_KIND;
+    }
+    kind < NPBCH
 }
 
 // The end of the words that name the question.

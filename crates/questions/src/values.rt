@@ -299,7 +299,7 @@ fn grant_of(k: Kind, v: &Values) -> Grant {
         Kind::Up => Grant::Npusch(npusch_grant(v), windows_of(v)),
         Kind::Ack => Grant::HarqAck(harq_ack_grant(v), windows_of(v)),
         Kind::Down => Grant::Npdsch(npdsch_grant(v)),
-        Kind::Control => Grant::Npdcch(npdcch_grant(v)),
+        _ => Grant::Npdcch(npdcch_grant(v)),
     }
 }
 
@@ -338,4 +338,12 @@ pub fn codeword_subframes(v: &Values) -> u64 {
 
 pub fn control_region(v: &Values) -> u64 {
     v[CONTROL]
+}
+
+// SIB1's own: three symbols in-band.
+pub fn sib1_control(v: &Values) -> u64 {
+    if v[MODE] < 2 {
+        return 3;
+    }
+    0
 }
