@@ -37,9 +37,10 @@ use Rattle.downlink.specs.Fits.{Fits}
 use Rattle.downlink.specs.Mapping.{sentSubframes, sendingOf}
 use Rattle.downlink.specs.Cells.{questionRefusal}
 use Rattle.downlink.specs.Answers.{refusedPlace, placeOf, refusedWhy, backWhy, insideGrid, forwardAnswer, backAnswer}
-use Rattle.downlink.specs.Quick.{Answerable, Judged, posed}
+use Rattle.downlink.specs.Quick.{Judged, posed}
 use Rattle.downlink.proofs.Judging.{accepted-cell}
 use Rattle.broadcast.specs.Channels.{Channel, npbchOf, sib1Of}
+use Rattle.broadcast.specs.Quick.{AskedOn}
 use Rattle.broadcast.specs.Questions.{carrierRefusal, questionOf, forwardOf, backwardOf}
 
 -- a channel of cell c sends in every one of its subframes of a period, and pattern s has just these
@@ -53,13 +54,6 @@ pub record Sent (c : CellConfig) (channel : Channel) : Type 0 where
 pub record Shown (channel : Channel) (s : Pattern) : Type 0 where
   pub regular : Regular s
   pub shows : (t : ℕ) → allows s t ≡ channel .isOwn t
-
--- question q over the pattern, with no message laid, is the one on the channel
-pub record Asked (c : Cell) (anchor other : List ℕ) (channel : Channel) (s : Pattern) (q : Ready) : Type 0 where
-  pub answerable : (ms : Messages) → Answerable q s false ms
-  pub forward : (ms : Messages) (p : ℕ) → forwardAnswer (posed q s false ms) p ≡ forwardOf c anchor other channel p
-  pub backward : (ms : Messages) (why : ℕ → Cause) (t slot l k : ℕ)
-      → backAnswer (posed q s false ms) why (t % channel .period) slot l k .back ≡ backwardOf c anchor other channel t slot l k
 
 -- select does not depend on the period, and so the sending does not
 sending-same : (u : ℕ → Bool) (P Q : ℕ) (b : Burst) → ((f j : ℕ) → select u P f j ≡ select u Q f j) → sendingOf u P b ≡ sendingOf u Q b
@@ -126,7 +120,7 @@ module _ (c : Cell) (anchor other : List ℕ) (channel : Channel) (sent : Sent (
         ∙ answer-same refusedBack (λ S. backAt S (insideGrid slot l k) (t % P) (elementOf slot l k)) (posed q s false ms)
         (questionOf c anchor other channel) (same ms)
 
-    asked-on : Asked c anchor other channel s q
+    asked-on : AskedOn c anchor other channel (record { question = q; pattern = s })
     asked-on = record {
       answerable = λ ms. record {
         searchable = λ e. searchable (accepts e) ms;
@@ -204,9 +198,10 @@ sib1-shown c s e =
 -- what the code made
 module _ (c : Cell) (anchor other : List ℕ) (b : Burst) (s : Pattern) (q : Ready)
     (j : Judged (judgeOf c anchor other) (carrierRefusal (c .config)) b q) where
-  pub npbch-asked : b ≡ npbchOf (c .config) .burst → s ≡ npbchPattern → Asked c anchor other (npbchOf (c .config)) s q
+  pub npbch-asked : b ≡ npbchOf (c .config) .burst → s ≡ npbchPattern
+      → AskedOn c anchor other (npbchOf (c .config)) (record { question = q; pattern = s })
   npbch-asked own e = asked-on c anchor other (npbchOf (c .config)) (npbch-sent (c .config)) s (npbch-shown (c .config) s e) b own q j
 
   pub sib1-asked : b ≡ sib1Of (c .config) .burst → s ≡ sib1Pattern (c .config .identity) (c .config .sib1)
-      → Asked c anchor other (sib1Of (c .config)) s q
+      → AskedOn c anchor other (sib1Of (c .config)) (record { question = q; pattern = s })
   sib1-asked own e = asked-on c anchor other (sib1Of (c .config)) (sib1-sent (c .config)) s (sib1-shown (c .config) s e) b own q j

@@ -48,7 +48,7 @@ sib1Of c = record {
   burst = eightOn (sib1Layout c) (sib1Copies (c .sib1)) 1;
 }
 
--- the frame of its i-th subframe, in 02's words: from the first frame on, a copy in every 256 div C, and in it every other frame. A
--- promise says that forward goes there.
+-- the frame of its i-th subframe: a copy begins every 256 div C frames from the first on, and takes every other frame (TS 36.213 clause 16.4.1.3).
+-- No answer reads this; a promise says that forward goes there.
 abbrev pub sib1Frame : ℕ → ℕ → ℕ → ℕ
 sib1Frame identity schedule i = sib1First identity schedule + 256 / sib1Copies schedule * (i / 8) + 2 * (i % 8)

@@ -1,3 +1,4 @@
 pub mod Channels
 pub mod Questions
+pub mod Quick
 pub mod Cases

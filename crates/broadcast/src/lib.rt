@@ -6,6 +6,7 @@ ghost use Rattle.cell.specs.Judge.{judgeOf};
 ghost use Rattle.downlink.specs.Quick.{Judged};
 ghost use Rattle.broadcast.specs.Channels.{eightOn, npbchOf, sib1Of};
 ghost use Rattle.broadcast.specs.Questions.{carrierRefusal, forwardOf, backwardOf};
+ghost use Rattle.broadcast.specs.Quick.{AskedOn};
 use cell::Cell;
 use cell::CellConfig;
 use downlink::Burst;
@@ -14,6 +15,13 @@ use downlink::Ready;
 use elements::Layout;
 use grid::Grid;
 use sending::Back;
+use spans::Pattern;
+
+// The question on a channel, judged, and the pattern of the channel's subframes.
+struct Asked {
+    question: Ready,
+    pattern: Pattern,
+}
 
 // The refusal of a non-anchor.
 const NO_BROADCAST: u64 = 25;
@@ -76,7 +84,7 @@ fn sib1_burst(c: CellConfig) -> Burst
     burst(layout, copies, 1)
 }
 
-// The question on a channel with burst b, judged: the cell's number, then 25 for a non-anchor.
+// A question on burst b, judged: the cell's number, then 25 for a non-anchor.
 fn ready(c: Cell, anchor: &[u8], other: &[u8], b: Burst) -> Ready
     ensures { λ r. ⌜ Judged (judgeOf c (now (anchor .entry)) (now (other .entry))) (carrierRefusal (c .config)) b r ⌝ }
 {
@@ -90,21 +98,38 @@ fn ready(c: Cell, anchor: &[u8], other: &[u8], b: Burst) -> Ready
     Ready { no: 0, burst: b }
 }
 
+// The question on NPBCH, judged.
+fn npbch(c: Cell, anchor: &[u8], other: &[u8]) -> Asked
+    ensures { λ r. ⌜ AskedOn c (now (anchor .entry)) (now (other .entry)) (npbchOf (c .config)) r ⌝ }
+{
+    let question = ready(c, anchor, other, npbch_burst(c.config));
+    let pattern = sync::npbch_pattern();
+    Asked { question, pattern }
+}
+
+// The question on SIB1, judged.
+fn sib1(c: Cell, anchor: &[u8], other: &[u8]) -> Asked
+    ensures { λ r. ⌜ AskedOn c (now (anchor .entry)) (now (other .entry)) (sib1Of (c .config)) r ⌝ }
+{
+    let question = ready(c, anchor, other, sib1_burst(c.config));
+    let pattern = sync::sib1_pattern(c.config.identity, c.config.sib1);
+    Asked { question, pattern }
+}
+
 // The place of position p of NPBCH in its 64 frames, and the symbol there.
 pub fn forward_npbch(c: Cell, anchor: &[u8], other: &[u8], p: u64) -> DownlinkPlace
     ensures { λ r. ⌜ r ≡ forwardOf c (now (anchor .entry)) (now (other .entry)) (npbchOf (c .config)) p ⌝ }
 {
-    let q = ready(c, anchor, other, npbch_burst(c.config));
-    downlink::forward(q, sync::npbch_pattern(), false, messages::none(), p)
+    let a = npbch(c, anchor, other);
+    downlink::forward(a.question, a.pattern, false, messages::none(), p)
 }
 
 // The place of position p of SIB1 in its 256 frames, and the symbol there.
 pub fn forward_sib1(c: Cell, anchor: &[u8], other: &[u8], p: u64) -> DownlinkPlace
     ensures { λ r. ⌜ r ≡ forwardOf c (now (anchor .entry)) (now (other .entry)) (sib1Of (c .config)) p ⌝ }
 {
-    let q = ready(c, anchor, other, sib1_burst(c.config));
-    let s = sync::sib1_pattern(c.config.identity, c.config.sib1);
-    downlink::forward(q, s, false, messages::none(), p)
+    let a = sib1(c, anchor, other);
+    downlink::forward(a.question, a.pattern, false, messages::none(), p)
 }
 
 // What NPBCH has at symbol l and subcarrier k of a slot of subframe t.
@@ -120,11 +145,11 @@ pub fn backward_npbch(
     ensures { λ r. ⌜ r
         ≡ backwardOf c (now (anchor .entry)) (now (other .entry)) (npbchOf (c .config)) t slot l k ⌝ }
 {
-    let q = ready(c, anchor, other, npbch_burst(c.config));
+    let a = npbch(c, anchor, other);
     let b = downlink::backward(
-        q,
+        a.question,
         c,
-        sync::npbch_pattern(),
+        a.pattern,
         false,
         t % NPBCH_PERIOD,
         slot,
@@ -147,8 +172,7 @@ pub fn backward_sib1(
     ensures { λ r. ⌜ r
         ≡ backwardOf c (now (anchor .entry)) (now (other .entry)) (sib1Of (c .config)) t slot l k ⌝ }
 {
-    let q = ready(c, anchor, other, sib1_burst(c.config));
-    let s = sync::sib1_pattern(c.config.identity, c.config.sib1);
-    let b = downlink::backward(q, c, s, false, t % SIB1_PERIOD, slot, l, k);
+    let a = sib1(c, anchor, other);
+    let b = downlink::backward(a.question, c, a.pattern, false, t % SIB1_PERIOD, slot, l, k);
     b.back
 }
