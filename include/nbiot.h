@@ -1,8 +1,9 @@
 /*
  * Where each symbol of an NB-IoT grant stands, and what stands at each place of the grid.
  *
- * Link with libnbiot_c.a. Nothing is kept between calls and nothing is allocated; calls may run side by side.
- * Any numbers may be passed, in any buffers.
+ * Link with libnbiot_c.a, which is for x86-64 and freestanding but for memcpy and memset. Nothing is kept between calls and nothing is
+ * allocated; calls may run side by side. Any numbers may be passed, in any buffers. nbiot_fill and nbiot_element want the processor's
+ * usual rounding to nearest, and floating-point exceptions that are not trapped.
  *
  * Buffers. Each goes with the number of its elements. A pointer points to that many; where there are none it may be any, NULL too.
  * Buffers that are written overlap no other buffer of the call.
