@@ -20,7 +20,7 @@ pub use acknowledgement::{
     backward_ack, backward_ack_windows, forward_ack, forward_ack_windows, plan_ack, plan_ack_windows, step_ack, step_ack_windows,
 };
 pub use broadcast::{backward_npbch, backward_sib1, forward_npbch, forward_sib1, places as broadcast_places};
-pub use cell::{cause, judge};
+pub use cell::{bitmap, cause, judge};
 pub use elements::count;
 pub use downlink::{backward_control, backward_down, forward_control, forward_down, plan_control, plan_down, step_control, step_down};
 pub use fill::{element, fill};

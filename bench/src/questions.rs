@@ -38,6 +38,7 @@ pub fn report(name: &str, ours: f64, fast: f64, agreed: usize, compared: usize) 
 pub fn table(timed: &mut [Scene], ported: &mut [Scene], compared: &mut [Scene]) {
     println!("| question | ours, ns | fast, ns | ours / fast | answers agree |\n|---|---|---|---|---|");
     judge(timed, compared);
+    bitmap(timed, compared);
     count(timed, compared);
     cause(timed, compared);
     plans(timed, compared);
@@ -76,6 +77,14 @@ pub(crate) use judge_line;
 
 fn judge(timed: &mut [Scene], compared: &[Scene]) {
     judge_line!("judge", timed, compared);
+}
+
+fn bitmap(timed: &mut [Scene], compared: &mut [Scene]) {
+    line!(
+        "bitmap", timed, compared, 3,
+        |s, a| ours::bitmap(&s.cell, &s.anchor, &s.other, a),
+        fast::bitmap(&s.cell, &s.anchor, &s.other)
+    );
 }
 
 fn count(timed: &mut [Scene], compared: &mut [Scene]) {

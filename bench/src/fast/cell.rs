@@ -62,7 +62,7 @@ fn reversed(m: u64) -> u64 {
 
 /// The bitmap as a number, subframe i of forty at digit i; none for refusal 7.
 #[inline(always)]
-fn bitmap(bits: u64, own: &[u8]) -> Option<u64> {
+fn bitmap_mask(bits: u64, own: &[u8]) -> Option<u64> {
     match bits {
         0 => Some(ALL),
         10 => {
@@ -87,7 +87,7 @@ pub fn masks(cell: &Cell, messages: Option<&Messages>, anchor: &[u8], others: &[
     }
     let &[_, carrier, identity, _, _, _, schedule, bits] = cell;
     let own = if carrier == 0 { anchor } else { others };
-    let m = bitmap(bits, own).ok_or(7u64)?;
+    let m = bitmap_mask(bits, own).ok_or(7u64)?;
     if messages.is_some_and(|ms| !are_listed(ms)) {
         return Err(21);
     }
@@ -133,6 +133,15 @@ fn number<T>(judged: Result<T, u64>) -> u64 {
 #[inline(never)]
 pub fn judge<const N: usize>(cell: &Cell<N>, anchor: &[u8], others: &[u8]) -> u64 {
     judged_number(cell, anchor, others)
+}
+
+/// The bitmap in force: the buffer that it is a part of, and its bytes; 0, 2 or 5 for 0, 10 or 40 bits.
+#[inline(never)]
+pub fn bitmap<const N: usize>(cell: &Cell<N>, anchor: &[u8], others: &[u8]) -> [u64; 3] {
+    match judged_number(cell, anchor, others) {
+        0 => [0, cell[1], (cell[7] + 7) / 8],
+        no => [no, 0, 0],
+    }
 }
 
 /// The number of the cause of a subframe that is not usable.

@@ -51,7 +51,7 @@ fn lines(r: &mut Random, spaces: &mut Random, schedules: Schedules) {
     let (timed, compared) = (&mut timed[..], &mut compared[..]);
     let named = |question: &str| format!("{question}, {}", schedules.name());
     judge_line!(&named("judge"), timed, compared);
-    count_and_cause(timed, compared, &named);
+    cell(timed, compared, &named);
     plans(timed, compared, &named);
     forwards(timed, compared, &named);
     backwards(timed, compared, &named);
@@ -68,7 +68,12 @@ fn broadcasts(r: &mut Random, schedules: Schedules) {
     broadcast::lines(&mut timed, &mut compared, &|question| format!("{question}, {}", schedules.name()));
 }
 
-fn count_and_cause(timed: &mut [Messaged], compared: &mut [Messaged], named: &impl Fn(&str) -> String) {
+fn cell(timed: &mut [Messaged], compared: &mut [Messaged], named: &impl Fn(&str) -> String) {
+    line!(
+        &named("bitmap"), timed, compared, 3,
+        |s, a| ours::bitmap(&s.cell, &s.anchor, &s.other, a),
+        fast::bitmap(&s.cell, &s.anchor, &s.other)
+    );
     line!(
         &named("count"), timed, compared, 2,
         |s, a| ours::count(&s.cell, &s.anchor, &s.other, a),
