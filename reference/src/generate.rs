@@ -63,6 +63,7 @@ fn passing_value(name: &str) -> &'static str {
     match name {
         "anchor" | "other" | "data" => "-",
         "level" => "00000000",
+        "engine" => "1",
         "w1" | "w2" | "w3" | "w4" => "7,0,7,77",
         "m1" | "m2" | "m3" | "m4" => "7,0,77",
         _ => "77",
@@ -275,7 +276,11 @@ impl<W: Write> Generator<'_, W> {
             Question::Plan(_) if random.chance(50) => scene.other_grant(random).unwrap_or_default(),
             Question::Plan(_) => Vec::new(),
             Question::Forward(_) | Question::Step(_) => {
-                vec![("p", draw_position(random, scene, question).to_string())]
+                let mut words = vec![number("p", draw_position(random, scene, question))];
+                if random.chance(10) {
+                    words.push(number("engine", 1 - scene.engine));
+                }
+                words
             }
             Question::Backward(_) => place_words(random, scene),
             Question::Picture(_) if scene.has_messages() && random.chance(40) => {

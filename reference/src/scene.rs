@@ -32,6 +32,8 @@ pub struct Scene {
     pub listing: Listing,
     /// A search space; an uplink scene doesn't ask for it.
     pub search: Search,
+    /// The engine that its positions are asked of.
+    pub engine: u64,
     pub words: Vec<Word>,
     pub share: Share,
 }
@@ -504,7 +506,9 @@ impl Scene {
             Err(no) => unreachable!("drawn to be accepted, refused with {no}"),
         };
         let search = draw_own(random, &grant);
+        let engine = u64::from(random.chance(30));
         let mut words = grant_words(random, &grant);
+        words.push(number("engine", engine));
         words.extend(own_words(&grant, &search));
         if !kind.is_uplink() {
             words.extend(cell_words(random, &cell));
@@ -520,6 +524,7 @@ impl Scene {
             grant,
             listing,
             search,
+            engine,
             words,
             share,
         }

@@ -36,6 +36,8 @@ pub struct Table {
     pub faults: [u64; 8],
     /// Uplink questions asked with a window or more.
     pub windowed: u64,
+    /// Forward and step asked of the plain engine, by kind.
+    pub plain: [u64; 4],
     pub messages: MessageCounts,
     pub searches: SearchCounts,
     pub broadcasts: BroadcastCounts,
@@ -112,6 +114,7 @@ impl Default for Table {
             rows: questions.map(|q| (q, Row::default())).collect(),
             faults: [0; 8],
             windowed: 0,
+            plain: [0; 4],
             messages: MessageCounts::default(),
             searches: SearchCounts::default(),
             broadcasts: BroadcastCounts::default(),
@@ -128,6 +131,10 @@ impl Table {
         let kind = answer.question().and_then(Question::kind);
         if kind.is_some_and(Kind::is_uplink) && values.windows.count > 0 {
             self.windowed += 1;
+        }
+        let reads_engine = answer.question().is_some_and(Question::reads_engine);
+        if let Some(kind) = kind.filter(|_| reads_engine && values.engine == 1) {
+            self.plain[kind as usize] += 1;
         }
         self.messages.count(answer, values);
         self.searches.count(answer, values);
@@ -173,6 +180,11 @@ impl Table {
         }
         self.total().write(out, "all")?;
         writeln!(out, "uplink questions with windows: {}", self.windowed)?;
+        write!(out, "forward and step of the plain engine:")?;
+        for kind in Kind::ALL {
+            write!(out, " {} {}", kind.word(), self.plain[kind as usize])?;
+        }
+        writeln!(out)?;
         self.messages.write(out)?;
         self.searches.write(out)?;
         self.broadcasts.write(out)?;

@@ -91,6 +91,11 @@ impl Question {
         list
     }
 
+    /// Is it a question that both engines answer?
+    pub fn reads_engine(self) -> bool {
+        matches!(self, Question::Forward(_) | Question::Step(_))
+    }
+
     /// The kind that the question names.
     pub fn kind(self) -> Option<Kind> {
         match self {
@@ -203,6 +208,9 @@ pub struct Values {
     pub l: u64,
     pub k: u64,
     pub i: u64,
+    /// Which engine forward and step of a grant ask: 0 the quick one, 1 the
+    /// plain one. Their answers are the same, and here there is one way only.
+    pub engine: u64,
     pub room: u64,
     pub level: u32,
     pub data: Vec<u8>,
@@ -234,6 +242,7 @@ impl Default for Values {
             l: 0,
             k: 0,
             i: 0,
+            engine: 0,
             room: 336,
             level: 0,
             data: Vec::new(),
@@ -304,6 +313,7 @@ impl Values {
             b"l" => &mut self.l,
             b"k" => &mut self.k,
             b"i" => &mut self.i,
+            b"engine" => &mut self.engine,
             b"room" => &mut self.room,
             _ => return None,
         })
@@ -429,7 +439,12 @@ fn read_level(text: &[u8]) -> Result<Read, Fault> {
 
 fn read_number(name: &[u8], text: &[u8]) -> Result<Read, Fault> {
     let number = decimal(text)?;
-    if name == b"room" && number > 1024 {
+    let largest = match name {
+        b"room" => 1024,
+        b"engine" => 1,
+        _ => u64::MAX,
+    };
+    if number > largest {
         return Err(Fault::Size);
     }
     Ok(Read::Number(number))

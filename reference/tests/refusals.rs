@@ -265,6 +265,20 @@ fn generated_broadcasts() {
     }
 }
 
+/// Each generated question may be asked of the plain engine: another value of
+/// `engine` changes no answer.
+#[test]
+fn generated_engines() {
+    let mut file = Vec::new();
+    generate(Wanted::new(14, 20_000), &mut file).expect("memory takes all");
+    let table = table_of(&mut &file[..]).expect("memory gives all");
+    assert!(table.plain.iter().all(|&count| count >= 200));
+    let text = String::from_utf8_lossy(&file);
+    assert!(text.matches(" engine=0").count() >= 200);
+    let plain = text.replace(" engine=0", " engine=1");
+    assert_eq!(ask(&plain), ask(&text));
+}
+
 #[test]
 fn generated_questions_of_one_kind() {
     let only = Question::Forward(Kind::Up);

@@ -255,6 +255,32 @@ plan up");
     assert_eq!(numbers, expected);
 }
 
+/// The engine is kept; past 1 it is `size` wherever it stands, and no answer changes with it.
+#[test]
+fn engines_answer_alike() {
+    fault(b"set engine=2", "size");
+    fault(b"cell engine=18446744073709551615", "size");
+    fault(b"forward up engine=x", "number");
+    fault(b"forward up engine=18446744073709551616", "number");
+    let set = "set mode=3 nports=1 n=15 rmax=64 subframes=6 r=4 windows=1 w1=40,8,172032,0\n";
+    let mut questions = String::new();
+    for kind in ["down", "control", "up", "ack"] {
+        for question in ["forward", "step"] {
+            for p in [0, 15, 63, 64, 1279, 1280, 1281, u64::MAX] {
+                questions.push_str(&format!("{question} {kind} p={p}\n"));
+            }
+            questions.push_str(&format!("{question} {kind} n=4294967296\nset n=15\n"));
+        }
+    }
+    let quick = ask(&format!("{set}{questions}"));
+    assert_eq!(quick.len(), 8 * 9);
+    assert_eq!(ask(&format!("{set}set engine=1\n{questions}")), quick);
+    assert_eq!(
+        ask(&format!("{set}set engine=1 engine=0\n{questions}")),
+        quick
+    );
+}
+
 /// The window's length starts at 160, the rest at 0.
 #[test]
 fn messages_are_kept() {
