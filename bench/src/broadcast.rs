@@ -2,10 +2,10 @@
 
 use crate::fast::{self, Cell, Messages};
 use crate::measure::versus;
-use crate::messages::{Messaged, Schedules};
+use crate::messages::{InputWithMessages, Schedules};
 use crate::ours;
 use crate::questions::{line, report};
-use crate::scene::{joined, Random, Scene};
+use crate::inputs::{joined, Input, Random};
 
 /// A cell, and a position and a place of each of its two channels.
 pub struct Broadcast<const N: usize = 8> {
@@ -25,7 +25,7 @@ fn near(r: &mut Random, [_, t, slot, l, k, _]: [u64; 6], period: u64) -> [u64; 4
 
 impl<const N: usize> Broadcast<N> {
     /// At positions below the places.
-    fn aimed(r: &mut Random, cell: Cell<N>, [anchor, other]: [[u8; 5]; 2]) -> Broadcast<N> {
+    fn at_picked_places(r: &mut Random, cell: Cell<N>, [anchor, other]: [[u8; 5]; 2]) -> Broadcast<N> {
         let p = fast::broadcast_places(&cell, &anchor, &other).map(|places| r.below(places.max(1)));
         let at_npbch = near(r, fast::forward_npbch(&cell, &anchor, &other, p[0]), 640);
         let at_sib1 = near(r, fast::forward_sib1(&cell, &anchor, &other, p[1]), 2560);
@@ -33,12 +33,12 @@ impl<const N: usize> Broadcast<N> {
     }
 
     /// Now and then a position or a place out of range, or the position after the last.
-    fn wandered(mut self, r: &mut Random) -> Broadcast<N> {
+    fn with_places_out_of_range(mut self, r: &mut Random) -> Broadcast<N> {
         if r.below(3) == 0 {
-            self.p = self.p.map(|p| r.wild(p + 1));
-            let (slot, l, k) = (r.wild(2), r.wild(7), r.wild(12));
-            self.at_npbch = [r.wild(self.at_npbch[0] + 2), slot, l, k];
-            self.at_sib1 = [r.wild(self.at_sib1[0] + 2), slot, l, k];
+            self.p = self.p.map(|p| r.often_below(p + 1));
+            let (slot, l, k) = (r.often_below(2), r.often_below(7), r.often_below(12));
+            self.at_npbch = [r.often_below(self.at_npbch[0] + 2), slot, l, k];
+            self.at_sib1 = [r.often_below(self.at_sib1[0] + 2), slot, l, k];
         } else if r.below(8) == 0 {
             self.p = fast::broadcast_places(&self.cell, &self.anchor, &self.other);
         }
@@ -50,20 +50,20 @@ impl Broadcast {
     /// An anchor that is accepted.
     pub fn accepted(r: &mut Random) -> Broadcast {
         loop {
-            let s = Scene::accepted(r);
+            let s = Input::accepted(r);
             if s.cell[1] == 0 {
-                return Broadcast::aimed(r, s.cell, [s.anchor, s.other]);
+                return Broadcast::at_picked_places(r, s.cell, [s.anchor, s.other]);
             }
         }
     }
 
     /// Any numbers, now and then of a non-anchor.
     pub fn any(r: &mut Random) -> Broadcast {
-        let mut s = Scene::any(r);
+        let mut s = Input::any(r);
         if r.below(4) != 0 {
             s.cell[1] = 0;
         }
-        Broadcast::aimed(r, s.cell, [s.anchor, s.other]).wandered(r)
+        Broadcast::at_picked_places(r, s.cell, [s.anchor, s.other]).with_places_out_of_range(r)
     }
 
     /// With messages beside the cell's numbers; positions and places stay.
@@ -76,14 +76,14 @@ impl Broadcast {
 impl Broadcast<23> {
     /// An accepted anchor with messages.
     pub fn accepted_with(r: &mut Random, schedules: Schedules) -> Broadcast<23> {
-        let s = Messaged::accepted(r, schedules);
-        Broadcast::aimed(r, s.cell, [s.anchor, s.other])
+        let s = InputWithMessages::accepted(r, schedules);
+        Broadcast::at_picked_places(r, s.cell, [s.anchor, s.other])
     }
 
     /// Any numbers with messages, now and then of a non-anchor.
     pub fn any_with(r: &mut Random, schedules: Schedules) -> Broadcast<23> {
-        let s = Messaged::any(r, schedules);
-        Broadcast::aimed(r, s.cell, [s.anchor, s.other]).wandered(r)
+        let s = InputWithMessages::any(r, schedules);
+        Broadcast::at_picked_places(r, s.cell, [s.anchor, s.other]).with_places_out_of_range(r)
     }
 }
 

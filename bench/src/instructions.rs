@@ -1,14 +1,14 @@
-//! Calls whose instructions are counted, each C function once on each of the same accepted scenes. `bench/instructions` has them counted by
-//! valgrind's callgrind, part by part: a count is over all calls of a function in one run. The scenes do not depend on the library.
+//! Calls whose instructions are counted, each C function once on each of the same accepted inputs. `bench/instructions` has them counted by
+//! valgrind's callgrind, part by part: a count is over all calls of a function in one run. The inputs do not depend on the library.
 
 use crate::broadcast::Broadcast;
 use crate::fast::{ControlGrant, DownGrant, SearchSpace};
-use crate::messages::Messaged;
+use crate::messages::InputWithMessages;
 use crate::ours;
 use crate::questions::elements;
-use crate::scene::Scene;
+use crate::inputs::Input;
 
-/// Fails unless all calls of a scene gave this number: what is counted is no refusal but the one that is meant.
+/// Fails unless all calls of a input gave this number: what is counted is no refusal but the one that is meant.
 fn expect<const N: usize>(numbers: [u64; N], expected: u64) {
     assert_eq!(numbers, [expected; N], "not the refusal that was expected");
 }
@@ -25,13 +25,13 @@ struct Downlink<'a> {
     at_control: [u64; 4],
 }
 
-fn downlink(s: &Scene) -> Downlink<'_> {
-    let &Scene { ref cell, ref anchor, ref other, ref down, ref control, ref space, p: [_, p, q, _], at_down, at_control, .. } = s;
+fn downlink(s: &Input) -> Downlink<'_> {
+    let &Input { ref cell, ref anchor, ref other, ref down, ref control, ref space, p: [_, p, q, _], at_down, at_control, .. } = s;
     Downlink { cell, lent: [anchor, other], down, control, space, p: [p, q], at_down, at_control }
 }
 
-fn downlink_with_messages(s: &Messaged) -> Downlink<'_> {
-    let &Messaged { ref cell, ref anchor, ref other, ref down, ref control, ref space, p, at_down, at_control, .. } = s;
+fn downlink_with_messages(s: &InputWithMessages) -> Downlink<'_> {
+    let &InputWithMessages { ref cell, ref anchor, ref other, ref down, ref control, ref space, p, at_down, at_control, .. } = s;
     Downlink { cell, lent: [anchor, other], down, control, space, p, at_down, at_control }
 }
 
@@ -45,7 +45,7 @@ fn cell(s: &Downlink) -> [u64; 4] {
     ]
 }
 
-fn up(s: &Scene) -> [u64; 3] {
+fn up(s: &Input) -> [u64; 3] {
     let [slot, l, k] = s.at_up;
     [
         ours::plan_up(&s.up, &mut [0; 7]),
@@ -54,7 +54,7 @@ fn up(s: &Scene) -> [u64; 3] {
     ]
 }
 
-fn ack(s: &Scene) -> [u64; 3] {
+fn ack(s: &Input) -> [u64; 3] {
     let [slot, l, k] = s.at_ack;
     [
         ours::plan_ack(&s.ack, &mut [0; 7]),
@@ -98,7 +98,7 @@ fn broadcast<const N: usize>(s: &Broadcast<N>) -> [u64; 4] {
 }
 
 /// The numbers of four steps, and how many of them finished.
-fn steps(s: &Scene) -> ([u64; 4], u64) {
+fn steps(s: &Input) -> ([u64; 4], u64) {
     let mut walks = s.clone();
     let mut answers = [[0; 7]; 4];
     let [up, ack, down, control] = &mut answers;
@@ -120,7 +120,7 @@ fn subframe(s: &Downlink, i: u64, bits: &[u8], level: f32) -> [u64; 2] {
 }
 
 /// Beside the windows that are lent to each of the two kinds of grant.
-fn windows(s: &Scene, lent: [&[u64]; 2]) -> [u64; 6] {
+fn windows(s: &Input, lent: [&[u64]; 2]) -> [u64; 6] {
     let ([up, ack], [slot, l, k], [ack_slot, ack_l, ack_k]) = (lent, s.at_up, s.at_ack);
     [
         ours::plan_up_windows(&s.up, up, &mut [0; 7]),
@@ -133,7 +133,7 @@ fn windows(s: &Scene, lent: [&[u64]; 2]) -> [u64; 6] {
 }
 
 /// As `steps`.
-fn windows_steps(s: &Scene, lent: [&[u64]; 2]) -> ([u64; 2], u64) {
+fn windows_steps(s: &Input, lent: [&[u64]; 2]) -> ([u64; 2], u64) {
     let mut walks = s.clone();
     let mut answers = [[0; 7]; 2];
     let [up, ack] = &mut answers;
@@ -144,12 +144,12 @@ fn windows_steps(s: &Scene, lent: [&[u64]; 2]) -> ([u64; 2], u64) {
     (numbers, answers.iter().map(|a| a[1]).sum())
 }
 
-fn lent(s: &Scene) -> [&[u64]; 2] {
+fn lent(s: &Input) -> [&[u64]; 2] {
     [&s.windows[0], &s.windows[1]]
 }
 
 /// What is asked of a cell and its grants without windows.
-fn unwindowed(s: &Scene) {
+fn unwindowed(s: &Input) {
     let lent = downlink(s);
     expect(cell(&lent), 0);
     expect(up(s), 0);
@@ -161,7 +161,7 @@ fn unwindowed(s: &Scene) {
 }
 
 /// The same of a cell with messages: it has no uplink.
-fn with_messages(s: &Messaged) {
+fn with_messages(s: &InputWithMessages) {
     let lent = downlink_with_messages(s);
     expect(cell(&lent), 0);
     expect(down(&lent), 0);
@@ -172,24 +172,24 @@ fn with_messages(s: &Messaged) {
     expect([ours::step_control(&mut walks.walk_control, &s.anchor, &s.other, &mut answer), answer[1]], 0);
 }
 
-fn windowed(s: &Scene, lent: [&[u64]; 2]) {
+fn windowed(s: &Input, lent: [&[u64]; 2]) {
     expect(windows(s, lent), 0);
     assert_eq!(windows_steps(s, lent), ([0; 2], 0));
 }
 
 /// The walks so many positions past their last place.
-fn past(scenes: &[Scene], more: u64) -> Vec<Scene> {
-    let moved = scenes.iter().map(|s| {
-        let mut scene = s.clone();
-        scene.p = s.places().map(|places| places + more);
-        scene.record();
-        scene
+fn past(inputs: &[Input], more: u64) -> Vec<Input> {
+    let moved = inputs.iter().map(|s| {
+        let mut input = s.clone();
+        input.p = s.places().map(|places| places + more);
+        input.set_walks();
+        input
     });
     moved.collect()
 }
 
 /// Steps that all give a number, and a mark of the end.
-fn stopped(plain: &[Scene], beside: &[Scene], number: u64, finished: u64) {
+fn stopped(plain: &[Input], beside: &[Input], number: u64, finished: u64) {
     for s in plain {
         assert_eq!(steps(s), ([number; 4], 4 * finished));
     }
@@ -198,8 +198,8 @@ fn stopped(plain: &[Scene], beside: &[Scene], number: u64, finished: u64) {
     }
 }
 
-/// `plain` are scenes without windows, `ported` those with one port, `beside` those beside windows; `broadcasts` are anchors.
-pub fn call(part: &str, plain: &[Scene], ported: &[Scene], beside: &[Scene], broadcasts: &[Broadcast]) {
+/// `plain` are inputs without windows, `ported` those with one port, `beside` those beside windows; `broadcasts` are anchors.
+pub fn call(part: &str, plain: &[Input], ported: &[Input], beside: &[Input], broadcasts: &[Broadcast]) {
     match part {
         "each" => {
             plain.iter().for_each(unwindowed);
@@ -216,7 +216,7 @@ pub fn call(part: &str, plain: &[Scene], ported: &[Scene], beside: &[Scene], bro
 }
 
 /// Cells of 23 numbers, and the same with one port; and anchors.
-pub fn call_with_messages(plain: &[Messaged], ported: &[Messaged], broadcasts: &[Broadcast<23>]) {
+pub fn call_with_messages(plain: &[InputWithMessages], ported: &[InputWithMessages], broadcasts: &[Broadcast<23>]) {
     plain.iter().for_each(with_messages);
     ported.iter().for_each(|s| expect(subframe(&downlink_with_messages(s), s.i, &s.bits, s.level), 0));
     broadcasts.iter().for_each(|s| expect(broadcast(s), 0));

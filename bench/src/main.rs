@@ -4,24 +4,24 @@
 mod broadcast;
 mod fast;
 mod growth;
+mod inputs;
 mod instructions;
 mod measure;
 mod messages;
-mod none;
+mod no_windows;
 mod ours;
 mod questions;
-mod scene;
 
 use broadcast::Broadcast;
-use messages::{Messaged, Schedules};
-use scene::{Random, Scene};
+use inputs::{Input, Random};
+use messages::{InputWithMessages, Schedules};
 
 const TIMED: usize = 512;
 const COMPARED: usize = 1 << 18;
 
-/// Accepted scenes, and the same with one port. Search spaces are drawn by a generator of their own.
-fn accepted(r: &mut Random, spaces: &mut Random) -> (Vec<Scene>, Vec<Scene>) {
-    let timed: Vec<Scene> = (0..TIMED).map(|_| Scene::accepted(r).with_space(scene::space(spaces))).collect();
+/// Accepted inputs, and the same with one port. Search spaces are drawn by a generator of their own.
+fn accepted(r: &mut Random, spaces: &mut Random) -> (Vec<Input>, Vec<Input>) {
+    let timed: Vec<Input> = (0..TIMED).map(|_| Input::accepted(r).with_space(inputs::space(spaces))).collect();
     let ported = timed.iter().map(|s| s.clone().with_one_port(r)).collect();
     (timed, ported)
 }
@@ -35,13 +35,13 @@ fn broadcast_times(b: &mut Random) {
 
 fn times(mut r: Random, mut w: Random, mut m: Random, mut spaces: Random, mut b: Random) {
     let (mut timed, mut ported) = accepted(&mut r, &mut spaces);
-    let mut compared: Vec<Scene> = (0..COMPARED).map(|_| Scene::any(&mut r).with_space(scene::any_space(&mut spaces))).collect();
-    none::compare(&compared);
+    let mut compared: Vec<Input> = (0..COMPARED).map(|_| Input::any(&mut r).with_space(inputs::any_space(&mut spaces))).collect();
+    no_windows::compare(&compared);
     messages::compare(&compared);
     questions::table(&mut timed, &mut ported, &mut compared);
     broadcast_times(&mut b);
-    let mut timed: Vec<Scene> = timed.into_iter().map(|s| s.beside_windows(&mut w, 3)).collect();
-    let mut compared: Vec<Scene> = compared.into_iter().map(|s| s.beside_any_windows(&mut w)).collect();
+    let mut timed: Vec<Input> = timed.into_iter().map(|s| s.beside_windows(&mut w, 3)).collect();
+    let mut compared: Vec<Input> = compared.into_iter().map(|s| s.beside_any_windows(&mut w)).collect();
     questions::beside_windows(&mut timed, &mut compared);
     growth::table(&mut r);
     growth::uplink_table(&mut w);
@@ -56,28 +56,28 @@ fn messages_times(m: &mut Random, spaces: &mut Random, b: &mut Random) {
     messages::search_grown(spaces);
 }
 
-/// Scenes as the times take them, but that there may be four windows.
+/// Inputs as the times take them, but that there may be four windows.
 fn calls(mut r: Random, mut w: Random, mut spaces: Random, mut b: Random, part: &str) {
     let (plain, ported) = accepted(&mut r, &mut spaces);
-    let beside: Vec<Scene> = plain.iter().map(|s| s.clone().beside_windows(&mut w, 4)).collect();
+    let beside: Vec<Input> = plain.iter().map(|s| s.clone().beside_windows(&mut w, 4)).collect();
     let broadcasts: Vec<Broadcast> = (0..TIMED).map(|_| Broadcast::accepted(&mut b)).collect();
     instructions::call(part, &plain, &ported, &beside, &broadcasts);
 }
 
-/// The same scenes with messages of a count of 0, or others with one schedule.
+/// The same inputs with messages of a count of 0, or others with one schedule.
 fn messages_calls(mut r: Random, mut m: Random, mut spaces: Random, mut b: Random, part: &str) {
     const NONE: fast::Messages = [160, 0, 0, 0, 0, 0, 0, 0, 0, 0, 0, 0, 0, 0, 0];
-    let (plain, ported): (Vec<Messaged>, Vec<Messaged>);
+    let (plain, ported): (Vec<InputWithMessages>, Vec<InputWithMessages>);
     let broadcasts: Vec<Broadcast<23>>;
     if part == "zero" {
-        let scenes = accepted(&mut r, &mut spaces);
-        plain = scenes.0.iter().map(|s| Messaged::of(s, &NONE)).collect();
-        ported = scenes.1.iter().map(|s| Messaged::of(s, &NONE)).collect();
+        let inputs = accepted(&mut r, &mut spaces);
+        plain = inputs.0.iter().map(|s| InputWithMessages::of(s, &NONE)).collect();
+        ported = inputs.1.iter().map(|s| InputWithMessages::of(s, &NONE)).collect();
         broadcasts = (0..TIMED).map(|_| Broadcast::accepted(&mut b).beside(&NONE)).collect();
     } else {
         assert_eq!(part, "one", "no part");
         let one = Schedules::One;
-        plain = (0..TIMED).map(|_| Messaged::accepted(&mut m, one).with_space(messages::space(&mut spaces, one))).collect();
+        plain = (0..TIMED).map(|_| InputWithMessages::accepted(&mut m, one).with_space(messages::space(&mut spaces, one))).collect();
         ported = plain.iter().map(|s| s.clone().with_one_port(&mut m)).collect();
         broadcasts = (0..TIMED).map(|_| Broadcast::accepted_with(&mut b, one)).collect();
     }

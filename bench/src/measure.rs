@@ -10,22 +10,22 @@ fn median(mut times: Vec<f64>) -> f64 {
     times[times.len() / 2]
 }
 
-/// Nanoseconds a call over all scenes, the median of many rounds, of ours and of fast by turns.
+/// Nanoseconds a call over all inputs, the median of many rounds, of ours and of fast by turns.
 pub fn versus<S, A, B>(
-    scenes: &mut [S],
+    inputs: &mut [S],
     mut ours: impl FnMut(&mut S) -> A,
     mut fast: impl FnMut(&mut S) -> B,
 ) -> (f64, f64) {
     let (mut first, mut second) = (Vec::new(), Vec::new());
-    let calls = scenes.len() as f64;
+    let calls = inputs.len() as f64;
     for _ in 0..ROUNDS {
         let start = Instant::now();
-        for scene in scenes.iter_mut() {
-            black_box(&ours(black_box(scene)));
+        for input in inputs.iter_mut() {
+            black_box(&ours(black_box(input)));
         }
         let middle = Instant::now();
-        for scene in scenes.iter_mut() {
-            black_box(&fast(black_box(scene)));
+        for input in inputs.iter_mut() {
+            black_box(&fast(black_box(input)));
         }
         first.push((middle - start).as_nanos() as f64 / calls);
         second.push(middle.elapsed().as_nanos() as f64 / calls);

@@ -3,7 +3,7 @@
 use crate::fast;
 use crate::measure::versus;
 use crate::ours;
-use crate::scene::Scene;
+use crate::inputs::Input;
 
 /// One question with an answer of numbers: a line of the table.
 macro_rules! line {
@@ -34,8 +34,8 @@ pub fn report(name: &str, ours: f64, fast: f64, agreed: usize, compared: usize) 
     assert_eq!(agreed, compared, "{name}: the answers differ");
 }
 
-/// `timed` are accepted scenes, `ported` those of them with one port, `compared` any scenes.
-pub fn table(timed: &mut [Scene], ported: &mut [Scene], compared: &mut [Scene]) {
+/// `timed` are accepted inputs, `ported` those of them with one port, `compared` any inputs.
+pub fn table(timed: &mut [Input], ported: &mut [Input], compared: &mut [Input]) {
     println!("| question | ours, ns | fast, ns | ours / fast | answers agree |\n|---|---|---|---|---|");
     judge(timed, compared);
     bitmap(timed, compared);
@@ -50,8 +50,8 @@ pub fn table(timed: &mut [Scene], ported: &mut [Scene], compared: &mut [Scene]) 
     fill(ported, compared);
 }
 
-/// The uplink's lines again, of scenes with random access windows.
-pub fn beside_windows(timed: &mut [Scene], compared: &mut [Scene]) {
+/// The uplink's lines again, of inputs with random access windows.
+pub fn beside_windows(timed: &mut [Input], compared: &mut [Input]) {
     plans_beside(timed, compared);
     forwards_beside(timed, compared);
     backwards_beside(timed, compared);
@@ -75,11 +75,11 @@ macro_rules! judge_line {
 }
 pub(crate) use judge_line;
 
-fn judge(timed: &mut [Scene], compared: &[Scene]) {
+fn judge(timed: &mut [Input], compared: &[Input]) {
     judge_line!("judge", timed, compared);
 }
 
-fn bitmap(timed: &mut [Scene], compared: &mut [Scene]) {
+fn bitmap(timed: &mut [Input], compared: &mut [Input]) {
     line!(
         "bitmap", timed, compared, 3,
         |s, a| ours::bitmap(&s.cell, &s.anchor, &s.other, a),
@@ -87,7 +87,7 @@ fn bitmap(timed: &mut [Scene], compared: &mut [Scene]) {
     );
 }
 
-fn count(timed: &mut [Scene], compared: &mut [Scene]) {
+fn count(timed: &mut [Input], compared: &mut [Input]) {
     line!(
         "count", timed, compared, 2,
         |s, a| ours::count(&s.cell, &s.anchor, &s.other, a),
@@ -95,7 +95,7 @@ fn count(timed: &mut [Scene], compared: &mut [Scene]) {
     );
 }
 
-fn cause(timed: &mut [Scene], compared: &mut [Scene]) {
+fn cause(timed: &mut [Input], compared: &mut [Input]) {
     line!(
         "cause", timed, compared, 2,
         |s, a| ours::cause(&s.cell, &s.anchor, &s.other, s.at_down[0], a),
@@ -103,7 +103,7 @@ fn cause(timed: &mut [Scene], compared: &mut [Scene]) {
     );
 }
 
-fn plans(timed: &mut [Scene], compared: &mut [Scene]) {
+fn plans(timed: &mut [Input], compared: &mut [Input]) {
     line!(
         "plan up", timed, compared, 7,
         |s, a| ours::plan_up(&s.up, a),
@@ -126,7 +126,7 @@ fn plans(timed: &mut [Scene], compared: &mut [Scene]) {
     );
 }
 
-fn plans_beside(timed: &mut [Scene], compared: &mut [Scene]) {
+fn plans_beside(timed: &mut [Input], compared: &mut [Input]) {
     line!(
         "plan up, windows", timed, compared, 7,
         |s, a| ours::plan_up_windows(&s.up, &s.windows[0], a),
@@ -139,7 +139,7 @@ fn plans_beside(timed: &mut [Scene], compared: &mut [Scene]) {
     );
 }
 
-fn forwards(timed: &mut [Scene], compared: &mut [Scene]) {
+fn forwards(timed: &mut [Input], compared: &mut [Input]) {
     line!(
         "forward up", timed, compared, 5,
         |s, a| ours::forward_up(&s.up, s.p[0], a),
@@ -162,7 +162,7 @@ fn forwards(timed: &mut [Scene], compared: &mut [Scene]) {
     );
 }
 
-fn forwards_beside(timed: &mut [Scene], compared: &mut [Scene]) {
+fn forwards_beside(timed: &mut [Input], compared: &mut [Input]) {
     line!(
         "forward up, windows", timed, compared, 5,
         |s, a| ours::forward_up_windows(&s.up, &s.windows[0], s.p[0], a),
@@ -175,7 +175,7 @@ fn forwards_beside(timed: &mut [Scene], compared: &mut [Scene]) {
     );
 }
 
-fn backwards(timed: &mut [Scene], compared: &mut [Scene]) {
+fn backwards(timed: &mut [Input], compared: &mut [Input]) {
     line!(
         "backward up", timed, compared, 5,
         |s, a| ours::backward_up(&s.up, s.at_up[0], s.at_up[1], s.at_up[2], a),
@@ -204,7 +204,7 @@ fn backwards(timed: &mut [Scene], compared: &mut [Scene]) {
     );
 }
 
-fn backwards_beside(timed: &mut [Scene], compared: &mut [Scene]) {
+fn backwards_beside(timed: &mut [Input], compared: &mut [Input]) {
     line!(
         "backward up, windows", timed, compared, 5,
         |s, a| ours::backward_up_windows(&s.up, &s.windows[0], s.at_up[0], s.at_up[1], s.at_up[2], a),
@@ -217,7 +217,7 @@ fn backwards_beside(timed: &mut [Scene], compared: &mut [Scene]) {
     );
 }
 
-/// A step from the scene's position: the record's position is set before each, and the records that are left are compared too.
+/// A step from the input's position: the record's position is set before each, and the records that are left are compared too.
 macro_rules! step {
     ($name:expr, $timed:expr, $compared:expr, $walk:ident, $p:literal, |$s:ident, $a:ident| $ours:expr, $fast:expr) => {{
         line!(
@@ -233,14 +233,14 @@ macro_rules! step {
         );
         let mut same = 0;
         for $s in $compared.iter_mut() {
-            $s.record();
+            $s.set_walks();
             let $a = &mut [0; 7];
             $ours;
             let moved = $s.$walk;
-            $s.record();
+            $s.set_walks();
             $fast;
             same += (moved == $s.$walk) as usize;
-            $s.record();
+            $s.set_walks();
         }
         records($name, same, $compared.len());
     }};
@@ -251,7 +251,7 @@ fn records(name: &str, same: usize, compared: usize) {
     assert_eq!(same, compared, "{name}: the records differ");
 }
 
-fn steps(timed: &mut [Scene], compared: &mut [Scene]) {
+fn steps(timed: &mut [Input], compared: &mut [Input]) {
     step!(
         "step up", timed, compared, walk_up, 0,
         |s, a| ours::step_up(&mut s.walk_up, a),
@@ -274,7 +274,7 @@ fn steps(timed: &mut [Scene], compared: &mut [Scene]) {
     );
 }
 
-fn steps_beside(timed: &mut [Scene], compared: &mut [Scene]) {
+fn steps_beside(timed: &mut [Input], compared: &mut [Input]) {
     step!(
         "step up, windows", timed, compared, walk_up, 0,
         |s, a| ours::step_up_windows(&mut s.walk_up, &s.windows[0], a),
@@ -287,7 +287,7 @@ fn steps_beside(timed: &mut [Scene], compared: &mut [Scene]) {
     );
 }
 
-fn search(timed: &mut [Scene], compared: &mut [Scene]) {
+fn search(timed: &mut [Input], compared: &mut [Input]) {
     line!(
         "search", timed, compared, 48,
         |s, a| ours::search(&s.cell, &s.anchor, &s.other, &s.space, a),
@@ -331,7 +331,7 @@ macro_rules! element_line {
 }
 pub(crate) use element_line;
 
-fn element(timed: &mut [Scene], compared: &[Scene]) {
+fn element(timed: &mut [Input], compared: &[Input]) {
     element_line!("element", timed, compared);
 }
 
@@ -357,6 +357,6 @@ macro_rules! fill_line {
 }
 pub(crate) use fill_line;
 
-fn fill(timed: &mut [Scene], compared: &[Scene]) {
+fn fill(timed: &mut [Input], compared: &[Input]) {
     fill_line!("fill", timed, compared);
 }

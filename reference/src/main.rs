@@ -1,9 +1,14 @@
 //! `reference answer`, `reference generate SEED COUNT [--only "forward up"]`, `reference counts`,
 //! `reference spaces`, `reference subframes SEED CELLS`, `reference periods SCHEDULE`, `reference table`.
 
-use reference::generate::{generate, Wanted};
-use reference::text::{read_line, Question, Values};
-use reference::{answer, counts, periods, spaces, subframes, table};
+use reference::generator::question_file::{write_question_file, QuestionFile};
+use reference::generator::{
+    every_broadcast_place, every_count, every_search_space, every_subframe, table,
+};
+use reference::text::answer;
+use reference::text::question::Question;
+use reference::text::read_question::read_line;
+use reference::text::values::Values;
 use std::io::{self, BufReader, BufWriter, Write};
 use std::process::ExitCode;
 
@@ -38,29 +43,29 @@ fn run(words: &[&str]) -> io::Result<bool> {
     let mut out = BufWriter::with_capacity(1 << 16, io::stdout().lock());
     match words {
         ["answer"] => answer::answer_all(&mut input, &mut out)?,
-        ["counts"] => counts::write_counts(&mut out)?,
-        ["spaces"] => spaces::write_spaces(&mut out)?,
+        ["counts"] => every_count::write_every_count(&mut out)?,
+        ["spaces"] => every_search_space::write_every_search_space(&mut out)?,
         ["table"] => {
-            table::table_of(&mut input)?.write(&mut out)?;
+            table::table_of_questions(&mut input)?.write(&mut out)?;
             out.flush()?;
         }
         ["generate", seed, count, options @ ..] => {
-            let Some(wanted) = read_wanted(seed, count, options) else {
+            let Some(file) = read_question_file(seed, count, options) else {
                 return Ok(false);
             };
-            generate(wanted, &mut out)?;
+            write_question_file(file, &mut out)?;
         }
         ["subframes", seed, cells] => {
             let (Ok(seed), Ok(cells)) = (seed.parse(), cells.parse()) else {
                 return Ok(false);
             };
-            subframes::write_subframes(seed, cells, &mut out)?;
+            every_subframe::write_every_subframe(seed, cells, &mut out)?;
         }
         ["periods", schedule] => {
             let Some(schedule) = schedule.parse().ok().filter(|&s: &u64| s < 12) else {
                 return Ok(false);
             };
-            periods::write_periods(schedule, &mut out)?;
+            every_broadcast_place::write_every_broadcast_place(schedule, &mut out)?;
         }
         _ => return Ok(false),
     }
@@ -76,13 +81,13 @@ fn read_only(text: &str) -> Option<Question> {
 }
 
 /// The question file that the words ask for.
-fn read_wanted(seed: &str, count: &str, options: &[&str]) -> Option<Wanted> {
+fn read_question_file(seed: &str, count: &str, options: &[&str]) -> Option<QuestionFile> {
     let only = match options {
         [] => None,
         ["--only", question] => Some(read_only(question)?),
         _ => return None,
     };
-    Some(Wanted {
+    Some(QuestionFile {
         seed: seed.parse().ok()?,
         count: count.parse().ok()?,
         only,

@@ -1,14 +1,14 @@
 //! The first table's lines for cells with messages.
 
-use super::scene::{space, Messaged, Schedules};
+use super::inputs::{space, InputWithMessages, Schedules};
 use crate::broadcast::{self, Broadcast};
 use crate::fast;
 use crate::measure::versus;
 use crate::ours;
 use crate::questions::{element_line, elements, fill_line, judge_line, line, step};
-use crate::scene::{any_space, Random};
+use crate::inputs::{any_space, Random};
 
-/// How many accepted scenes are timed, and how many of any kind compared: fewer where an answer takes longer.
+/// How many accepted inputs are timed, and how many of any kind compared: fewer where an answer takes longer.
 fn many(schedules: Schedules) -> (usize, usize) {
     match schedules {
         Schedules::One | Schedules::Apart | Schedules::Meeting => (512, 1 << 16),
@@ -45,9 +45,11 @@ pub fn table(r: &mut Random, spaces: &mut Random, b: &mut Random) {
 
 fn lines(r: &mut Random, spaces: &mut Random, schedules: Schedules) {
     let (timed, compared) = many(schedules);
-    let mut timed: Vec<Messaged> = (0..timed).map(|_| Messaged::accepted(r, schedules).with_space(space(spaces, schedules))).collect();
-    let mut ported: Vec<Messaged> = timed.iter().map(|s| s.clone().with_one_port(r)).collect();
-    let mut compared: Vec<Messaged> = (0..compared).map(|_| Messaged::any(r, schedules).with_space(any_space(spaces))).collect();
+    let accepted = (0..timed).map(|_| InputWithMessages::accepted(r, schedules).with_space(space(spaces, schedules)));
+    let mut timed: Vec<InputWithMessages> = accepted.collect();
+    let mut ported: Vec<InputWithMessages> = timed.iter().map(|s| s.clone().with_one_port(r)).collect();
+    let any = (0..compared).map(|_| InputWithMessages::any(r, schedules).with_space(any_space(spaces)));
+    let mut compared: Vec<InputWithMessages> = any.collect();
     let (timed, compared) = (&mut timed[..], &mut compared[..]);
     let named = |question: &str| format!("{question}, {}", schedules.name());
     judge_line!(&named("judge"), timed, compared);
@@ -68,7 +70,7 @@ fn broadcasts(r: &mut Random, schedules: Schedules) {
     broadcast::lines(&mut timed, &mut compared, &|question| format!("{question}, {}", schedules.name()));
 }
 
-fn cell(timed: &mut [Messaged], compared: &mut [Messaged], named: &impl Fn(&str) -> String) {
+fn cell(timed: &mut [InputWithMessages], compared: &mut [InputWithMessages], named: &impl Fn(&str) -> String) {
     line!(
         &named("bitmap"), timed, compared, 3,
         |s, a| ours::bitmap(&s.cell, &s.anchor, &s.other, a),
@@ -86,7 +88,7 @@ fn cell(timed: &mut [Messaged], compared: &mut [Messaged], named: &impl Fn(&str)
     );
 }
 
-fn plans(timed: &mut [Messaged], compared: &mut [Messaged], named: &impl Fn(&str) -> String) {
+fn plans(timed: &mut [InputWithMessages], compared: &mut [InputWithMessages], named: &impl Fn(&str) -> String) {
     line!(
         &named("plan down"), timed, compared, 5,
         |s, a| ours::plan_down(&s.cell, &s.anchor, &s.other, &s.down, a),
@@ -99,7 +101,7 @@ fn plans(timed: &mut [Messaged], compared: &mut [Messaged], named: &impl Fn(&str
     );
 }
 
-fn forwards(timed: &mut [Messaged], compared: &mut [Messaged], named: &impl Fn(&str) -> String) {
+fn forwards(timed: &mut [InputWithMessages], compared: &mut [InputWithMessages], named: &impl Fn(&str) -> String) {
     line!(
         &named("forward down"), timed, compared, 6,
         |s, a| ours::forward_down(&s.cell, &s.anchor, &s.other, &s.down, s.p[0], a),
@@ -112,7 +114,7 @@ fn forwards(timed: &mut [Messaged], compared: &mut [Messaged], named: &impl Fn(&
     );
 }
 
-fn backwards(timed: &mut [Messaged], compared: &mut [Messaged], named: &impl Fn(&str) -> String) {
+fn backwards(timed: &mut [InputWithMessages], compared: &mut [InputWithMessages], named: &impl Fn(&str) -> String) {
     line!(
         &named("backward down"), timed, compared, 6,
         |s, a| {
@@ -131,7 +133,7 @@ fn backwards(timed: &mut [Messaged], compared: &mut [Messaged], named: &impl Fn(
     );
 }
 
-fn steps(timed: &mut [Messaged], compared: &mut [Messaged], named: &impl Fn(&str) -> String) {
+fn steps(timed: &mut [InputWithMessages], compared: &mut [InputWithMessages], named: &impl Fn(&str) -> String) {
     step!(
         &named("step down"), timed, compared, walk_down, 0,
         |s, a| ours::step_down(&mut s.walk_down, &s.anchor, &s.other, a),
@@ -144,7 +146,7 @@ fn steps(timed: &mut [Messaged], compared: &mut [Messaged], named: &impl Fn(&str
     );
 }
 
-fn search(timed: &mut [Messaged], compared: &mut [Messaged], named: &impl Fn(&str) -> String) {
+fn search(timed: &mut [InputWithMessages], compared: &mut [InputWithMessages], named: &impl Fn(&str) -> String) {
     line!(
         &named("search"), timed, compared, 48,
         |s, a| ours::search(&s.cell, &s.anchor, &s.other, &s.space, a),

@@ -1,6 +1,6 @@
 //! Asks lines and gives the answer lines.
 
-use reference::answer::answer_all;
+use reference::text::answer::answer_all;
 
 pub fn ask_bytes(questions: &[u8]) -> Vec<String> {
     let mut out = Vec::new();
