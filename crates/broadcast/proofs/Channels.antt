@@ -1,134 +1,149 @@
--- A channel and the pattern that has its subframes: an answer over the pattern is the answer over the channel.
+-- A channel of a cell, and the answers of a question on it: by closed forms of the subframe and of its index.
 use mathlib.Core.Bool.{Bool, true, false, cond}
 use mathlib.Core.List.{List}
-use mathlib.Core.Path.{_≡_, refl, sym, ap, _∙_, subst, fun-ext}
-use Prim.Native.Nat.{ℕ, zero, suc, _+_, _%_, _≤_, _<_}
-use native.Mathlib.Nat.{mod-one, mul-pos}
+use mathlib.Core.Logic.{⊎-elim}
+use mathlib.Core.Path.{_≡_, refl, sym, ap, _∙_, subst}
+use Prim.Native.Nat.{ℕ, zero, suc, _+_, _-_, _*_, _/_, _%_, _≤_, _<_}
+use native.Mathlib.Nat.{mod-one, mul-pos, zero-add}
 use native.Mathlib.Omega.{arith}
-use lib.Dec.{ltb}
-use Rattle.counting.specs.Counting.{rank, select}
-use Rattle.counting.proofs.Facts.{chained}
-use Rattle.counting.proofs.Rank.{rank-mono}
-use Rattle.counting.proofs.Period.{select-same}
+use lib.Dec.{leb, ltb}
+use Rattle.counting.specs.Counting.{rank, count, select, amongFirst}
+use Rattle.counting.proofs.Facts.{order, chained}
+use Rattle.counting.proofs.Range.{and-none}
+use Rattle.counting.proofs.Rank.{rank-zero, rank-strict, count-between}
+use Rattle.counting.proofs.Select.{among}
+use Rattle.counting.proofs.Period.{select-is, select-from}
 use Rattle.grid.specs.Grid.{elementOf}
-use Rattle.spans.specs.declared.Pattern.{Pattern}
-use Rattle.spans.specs.Pattern.{allows, Regular}
 use Rattle.sync.specs.Sync.{bySchedule, sib1Copies}
-use Rattle.sync.specs.Quick.{npbchPattern, sib1Pattern}
-use Rattle.sync.proofs.Taken.{sib1-regular, sib1-allows}
-use Rattle.sync.proofs.Broadcast.{npbch-regular, npbch-allows, npbch-again, npbch-rank, sib1-again, sib1-rank}
-use Rattle.messages.specs.declared.Messages.{Messages}
-use Rattle.messages.specs.Messages.{allPeriods}
-use Rattle.subframes.specs.Subframes.{leftIn, Searchable}
-use Rattle.subframes.proofs.Left.{allows-again, left-alone}
+use Rattle.sync.proofs.Broadcast.{npbch-again, npbch-rank, sib1-again, sib1-rank}
 use Rattle.cell.specs.declared.CellConfig.{CellConfig}
 use Rattle.cell.specs.declared.Cell.{Cell}
-use Rattle.cell.specs.declared.Cause.{Cause}
 use Rattle.cell.specs.Judge.{judgeOf}
 use Rattle.cell.specs.Quick.{WellFormed}
 use Rattle.cell.proofs.Accepted.{layout-valid}
+use Rattle.elements.specs.Elements.{countOf, elementAt}
 use Rattle.elements.proofs.Laws.{whole-part}
-use Rattle.sending.specs.Answer.{refusedBack, placeAt, backAt}
-use Rattle.sending.proofs.Answer.{Same, answer-same, answer-map}
+use Rattle.sending.specs.declared.Back.{Back}
+use Rattle.sending.specs.CopyOrder.{carried}
+use Rattle.sending.specs.Sending.{notOurs}
+use Rattle.sending.specs.Answer.{Question, backOf, refusedBack, placeAt, backAt}
+use Rattle.sending.proofs.Answer.{accepted, refused-as, past-at, outside-at}
 use Rattle.downlink.specs.declared.Burst.{Burst}
-use Rattle.downlink.specs.declared.Ready.{Ready}
-use Rattle.downlink.specs.declared.DownlinkBack.{DownlinkBack}
 use Rattle.downlink.specs.Fits.{Fits}
-use Rattle.downlink.specs.Mapping.{sentSubframes, sendingOf}
+use Rattle.downlink.specs.Mapping.{sentSubframes, firstOf, isSent, sendingOf, places}
 use Rattle.downlink.specs.Cells.{questionRefusal}
-use Rattle.downlink.specs.Answers.{refusedPlace, placeOf, refusedWhy, backWhy, insideGrid, forwardAnswer, backAnswer}
-use Rattle.downlink.specs.Quick.{Judged, posed}
+use Rattle.downlink.specs.Answers.{refusedPlace, placeOf, insideGrid}
+use Rattle.downlink.specs.Quick.{contentIn}
 use Rattle.downlink.proofs.Judging.{accepted-cell}
+use Rattle.downlink.proofs.Joined.{forward-is, backward-unsent, backward-sent}
 use Rattle.broadcast.specs.Channels.{Channel, npbchOf, sib1Of}
-use Rattle.broadcast.specs.Quick.{AskedOn}
 use Rattle.broadcast.specs.Questions.{carrierRefusal, questionOf, forwardOf, backwardOf}
 
--- a channel of cell c sends in every one of its subframes of a period, and pattern s has just these
+-- a channel of cell c sends in every one of its subframes of a period
 pub record Sent (c : CellConfig) (channel : Channel) : Type 0 where
   pub again : (t : ℕ) → channel .isOwn (t + channel .period) ≡ channel .isOwn t
   pub all : rank (channel .isOwn) (channel .period) ≡ sentSubframes (channel .burst)
-  pub short : channel .period ≤ allPeriods
   pub start : (channel .burst .from ≡ 0) × (channel .burst .skip ≡ 0)
   pub fits : WellFormed c → Fits (channel .burst)
 
-pub record Shown (channel : Channel) (s : Pattern) : Type 0 where
-  pub regular : Regular s
-  pub shows : (t : ℕ) → allows s t ≡ channel .isOwn t
+-- ---- the answers of a question on it, by what the code has worked out
 
--- select does not depend on the period, and so the sending does not
-sending-same : (u : ℕ → Bool) (P Q : ℕ) (b : Burst) → ((f j : ℕ) → select u P f j ≡ select u Q f j) → sendingOf u P b ≡ sendingOf u Q b
-sending-same u P Q b e = let f : select u P ≡ select u Q = fun-ext (λ x. fun-ext (e x)) in rw f refl
-
-module _ (c : Cell) (anchor other : List ℕ) (channel : Channel) (sent : Sent (c .config) channel) (s : Pattern) (shown : Shown channel s) where
+module _ (c : Cell) (anchor other : List ℕ) (channel : Channel) (sent : Sent (c .config) channel) where
   abbrev u : ℕ → Bool
   u = channel .isOwn
 
   abbrev P : ℕ
   P = channel .period
 
-  -- the pattern's subframes, with no message laid
-  left-is : (ms : Messages) → leftIn s false ms ≡ u
-  left-is ms = left-alone s false ms refl ∙ fun-ext (shown .shows)
+  abbrev q : Question
+  q = questionOf c anchor other channel
 
-  again-all : (t : ℕ) → u (t + allPeriods) ≡ u t
-  again-all t = sym (shown .shows (t + allPeriods)) ∙ allows-again s (shown .regular) t ∙ shown .shows t
-
-  module _ (f : Fits (channel .burst)) where
-    some : 0 < rank u P
-    some = omega (arith, sent .all, mul-pos (f .copies) (f .codeword))
-
-    some-all : 0 < rank u allPeriods
-    some-all = omega (arith, some, rank-mono u P allPeriods (sent .short))
-
-    searchable : (ms : Messages) → Searchable s false ms
-    searchable ms = record {
-      on = record { regular = shown .regular; listed = λ e. absurd (not-true e) };
-      some = subst (λ (v : ℕ → Bool). 0 < rank v allPeriods) (sym (left-is ms)) some-all;
-    }
-      where
-        not-true : false ≡ true → ⊥
-        not-true e = let z : _≡_ {A = ℕ} 0 1 = cc in omega arith
-
-    sending-is : (ms : Messages) → sendingOf (leftIn s false ms) allPeriods (channel .burst) ≡ sendingOf u P (channel .burst)
-    sending-is ms =
-        ap (λ (v : ℕ → Bool). sendingOf v allPeriods (channel .burst)) (left-is ms)
-        ∙ sending-same u allPeriods P (channel .burst) (select-same u allPeriods P again-all (sent .again) some-all some)
-
-  -- the question on it, judged
-  module _ (b : Burst) (own : b ≡ channel .burst) (q : Ready) (j : Judged (judgeOf c anchor other) (carrierRefusal (c .config)) b q) where
-    accepts : q .no ≡ 0 → Fits (channel .burst)
-    accepts e =
-        sent .fits (accepted-cell c anchor other (chained (judgeOf c anchor other) (carrierRefusal (c .config)) (sym (j .number) ∙ e) .0))
-
-    same : (ms : Messages) → Same (posed q s false ms) (questionOf c anchor other channel)
-    unfolding questionRefusal
-    same ms = record {
-      number = j .number;
-      sending = λ e. ap (sendingOf (leftIn s false ms) allPeriods) (j .burst e ∙ own) ∙ sending-is (accepts e) ms;
-    }
-
-    forward-on : (ms : Messages) (p : ℕ) → forwardAnswer (posed q s false ms) p ≡ forwardOf c anchor other channel p
+  module _ (n : ℕ) (e : n ≡ q .no) (h : n ≡ 0 → ⊥) where
+    pub forward-refused : (p : ℕ) → refusedPlace n ≡ forwardOf c anchor other channel p
     unfolding forwardOf
-    forward-on ms p =
-        answer-same refusedPlace (λ S. placeAt refusedPlace placeOf S p) (posed q s false ms) (questionOf c anchor other channel) (same ms)
+    forward-refused p = refused-as refusedPlace (λ S. placeAt refusedPlace placeOf S p) q n e h
 
-    backward-on : (ms : Messages) (why : ℕ → Cause) (t slot l k : ℕ)
-        → backAnswer (posed q s false ms) why (t % P) slot l k .back ≡ backwardOf c anchor other channel t slot l k
-    unfolding backwardOf backWhy
-    backward-on ms why t slot l k =
-        answer-map (λ (x : DownlinkBack). x .back) refusedWhy (q .no) (backWhy (posed q s false ms .sending) why (t % P) slot l k)
-        ∙ answer-same refusedBack (λ S. backAt S (insideGrid slot l k) (t % P) (elementOf slot l k)) (posed q s false ms)
-        (questionOf c anchor other channel) (same ms)
+    pub backward-refused : (t slot l k : ℕ) → refusedBack n ≡ backwardOf c anchor other channel t slot l k
+    unfolding backwardOf
+    backward-refused t slot l k = refused-as refusedBack (λ S. backAt S (insideGrid slot l k) (t % P) (elementOf slot l k)) q n e h
 
-    asked-on : AskedOn c anchor other channel (record { question = q; pattern = s })
-    asked-on = record {
-      answerable = λ ms. record {
-        searchable = λ e. searchable (accepts e) ms;
-        fits = λ e. subst Fits (sym (j .burst e ∙ own)) (accepts e);
-      };
-      forward = forward-on;
-      backward = backward-on;
-    }
+  -- an accepted one, with the burst that the code made
+  module _ (zero : q .no ≡ 0) (b : Burst) (own : b ≡ channel .burst) where
+    pub fits : Fits b
+    unfolding questionRefusal
+    fits = subst Fits (sym own) (sent .fits (accepted-cell c anchor other (chained (judgeOf c anchor other) (carrierRefusal (c .config)) zero .0)))
+
+    pub some : 0 < rank u P
+    some = omega (arith, sent .all, ap sentSubframes own, mul-pos (fits .copies) (fits .codeword))
+
+    all : rank u P ≡ sentSubframes b
+    all = sent .all ∙ sym (ap sentSubframes own)
+
+    -- counted from subframe 0
+    pub time-is : (i : ℕ) → select u P (firstOf u P b) i ≡ select u P 0 i
+    time-is i =
+        rw (ap (λ (b : Burst). b .from) own ∙ sent .start .0, ap (λ (b : Burst). b .skip) own ∙ sent .start .1)
+        (select-from u P (sent .again) some 0 0 i ∙ ap (select u P 0) (zero-add i))
+
+    module _ (p : ℕ) where
+      shown : placeAt refusedPlace placeOf (sendingOf u P b) p ≡ forwardOf c anchor other channel p
+      unfolding forwardOf
+      shown =
+          ap (λ (b : Burst). placeAt refusedPlace placeOf (sendingOf u P b) p) own
+          ∙ sym (accepted refusedPlace (q .no) (placeAt refusedPlace placeOf (q .sending) p) zero)
+
+      pub forward-past : places b ≤ p → refusedPlace 14 ≡ forwardOf c anchor other channel p
+      forward-past h = sym (past-at refusedPlace placeOf (sendingOf u P b) p h) ∙ shown
+
+      -- transmitted subframe i, and element e of it
+      pub forward-at : (w i e t x unit symbol : ℕ) → p < places b → w ≡ countOf (b .layout) (b .low) (b .width) → i ≡ p / w → e ≡ p % w
+          → t ≡ select u P 0 i → x ≡ elementAt (b .layout) (b .low) (b .width) e → unit ≡ carried (b .consecutive) 1 (b .codeword) i
+          → symbol ≡ unit * w + e → placeOf (record { time = t; element = x; symbol = symbol }) ≡ forwardOf c anchor other channel p
+      forward-at w i e t x unit symbol h hw hi he ht hx hu hs =
+          forward-is u P b p w t x unit symbol h hw (ht ∙ ap (select u P 0) hi ∙ sym (time-is (p / w)))
+          (hx ∙ ap (elementAt (b .layout) (b .low) (b .width)) he) (hu ∙ ap (carried (b .consecutive) 1 (b .codeword)) hi)
+          (hs ∙ ap (λ (y : ℕ). unit * w + y) he)
+          ∙ shown
+
+    module _ (t slot l k : ℕ) where
+      told : backAt (sendingOf u P b) (insideGrid slot l k) (t % P) (elementOf slot l k) ≡ backwardOf c anchor other channel t slot l k
+      unfolding backwardOf
+      told =
+          ap (λ (b : Burst). backAt (sendingOf u P b) (insideGrid slot l k) (t % P) (elementOf slot l k)) own
+          ∙ sym (accepted refusedBack (q .no) (backAt (q .sending) (insideGrid slot l k) (t % P) (elementOf slot l k)) zero)
+
+      pub backward-outside : insideGrid slot l k ≡ false → refusedBack 14 ≡ backwardOf c anchor other channel t slot l k
+      backward-outside h = sym (outside-at (sendingOf u P b) (insideGrid slot l k) (t % P) (elementOf slot l k) h) ∙ told
+
+      module _ (inside : insideGrid slot l k ≡ true) where
+        absent : u (t % P) ≡ false → isSent u P b (t % P) ≡ false
+        unfolding amongFirst
+        absent h = simp (h, and-none (leb (firstOf u P b) (t % P)))
+
+        pub backward-not : u (t % P) ≡ false → backOf (notOurs 0) ≡ backwardOf c anchor other channel t slot l k
+        backward-not h = backward-unsent u P b (t % P) slot l k inside (absent h) ∙ told
+
+        -- all that is the channel's in a period is sent
+        module _ (y : u (t % P) ≡ true) (below : t % P < P) where
+          first-rank : rank u (firstOf u P b) ≡ 0
+          first-rank =
+              let z : firstOf u P b ≡ select u P 0 0 = rw (ap (λ (b : Burst). b .from) own ∙ sent .start .0, ap (λ (b : Burst). b .skip) own ∙ sent .start .1) refl in
+              omega (arith, ap (rank u) z, select-is u P (sent .again) some 0 0 .before, rank-zero u)
+
+          late : firstOf u P b ≤ t % P
+          late =
+              ⊎-elim (λ (h : t % P < firstOf u P b). absurd (omega (arith, rank-strict u (t % P) (firstOf u P b) y h, first-rank))) (λ h. h)
+              (order (t % P) (firstOf u P b))
+
+          index-is : count u (firstOf u P b) (t % P - firstOf u P b) ≡ rank u (t % P)
+          index-is = omega (arith, count-between u (firstOf u P b) (t % P) late, first-rank)
+
+          pub backward-at : (i : ℕ) → i ≡ rank u (t % P) → (r : Back) → r ≡ backOf (contentIn b i (elementOf slot l k))
+              → r ≡ backwardOf c anchor other channel t slot l k
+          backward-at i e r h =
+              h ∙ backward-sent u P b (t % P) slot l k inside i (elementOf slot l k)
+              (among u (firstOf u P b) (sentSubframes b) (t % P) late y (omega (arith, index-is, rank-strict u (t % P) P y below, all)))
+              (index-is ∙ sym e) refl ∙ told
 
 -- ---- the two channels
 
@@ -136,7 +151,6 @@ pub npbch-sent : (c : CellConfig) → Sent c (npbchOf c)
 npbch-sent c = record {
   again = npbch-again;
   all = npbch-rank;
-  short = omega arith;
   start = (refl, refl);
   fits = λ w. record {
     layout = record { shift = omega arith; narrowband = (omega arith, omega arith); cell = (omega arith, λ z. omega arith); region = omega arith };
@@ -153,11 +167,8 @@ npbch-sent c = record {
   };
 }
 
-npbch-shown : (c : CellConfig) (s : Pattern) → s ≡ npbchPattern → Shown (npbchOf c) s
-npbch-shown c s e = subst (Shown (npbchOf c)) (sym e) (record { regular = npbch-regular; shows = npbch-allows })
-
 -- 4, 8 or 16
-copies-few : (r : ℕ) → (0 < bySchedule r 4 8 16) × (bySchedule r 4 8 16 ≤ 16)
+pub copies-few : (r : ℕ) → (0 < bySchedule r 4 8 16) × (bySchedule r 4 8 16 ≤ 16)
 copies-few zero = (omega arith, omega arith)
 copies-few (suc zero) = (omega arith, omega arith)
 copies-few (suc (suc r)) = (omega arith, omega arith)
@@ -170,7 +181,6 @@ pub sib1-sent : (c : CellConfig) → Sent c (sib1Of c)
 sib1-sent c = record {
   again = sib1-again (c .identity) (c .sib1);
   all = sib1-rank (c .identity) (c .sib1);
-  short = omega arith;
   start = (refl, refl);
   fits = λ w.
       let v = layout-valid c w in
@@ -189,19 +199,3 @@ sib1-sent c = record {
         consecutiveSmall = omega arith;
       };
 }
-
-sib1-shown : (c : CellConfig) (s : Pattern) → s ≡ sib1Pattern (c .identity) (c .sib1) → Shown (sib1Of c) s
-sib1-shown c s e =
-    subst (Shown (sib1Of c)) (sym e)
-    (record { regular = sib1-regular (c .identity) (c .sib1); shows = sib1-allows (c .identity) (c .sib1) })
-
--- what the code made
-module _ (c : Cell) (anchor other : List ℕ) (b : Burst) (s : Pattern) (q : Ready)
-    (j : Judged (judgeOf c anchor other) (carrierRefusal (c .config)) b q) where
-  pub npbch-asked : b ≡ npbchOf (c .config) .burst → s ≡ npbchPattern
-      → AskedOn c anchor other (npbchOf (c .config)) (record { question = q; pattern = s })
-  npbch-asked own e = asked-on c anchor other (npbchOf (c .config)) (npbch-sent (c .config)) s (npbch-shown (c .config) s e) b own q j
-
-  pub sib1-asked : b ≡ sib1Of (c .config) .burst → s ≡ sib1Pattern (c .config .identity) (c .config .sib1)
-      → AskedOn c anchor other (sib1Of (c .config)) (record { question = q; pattern = s })
-  sib1-asked own e = asked-on c anchor other (sib1Of (c .config)) (sib1-sent (c .config)) s (sib1-shown (c .config) s e) b own q j

@@ -1,4 +1,3 @@
 pub mod Channels
 pub mod Questions
-pub mod Quick
 pub mod Cases

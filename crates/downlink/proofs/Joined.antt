@@ -1,18 +1,23 @@
 -- The parts of an answer, joined: an equation for each number that the code works out, and no path through the code.
-use mathlib.Core.Bool.{Bool, true, false}
+use mathlib.Core.Bool.{Bool, true, false, _&&_}
 use mathlib.Core.Path.{_≡_, refl, sym, ap, _∙_}
 use Prim.Native.Nat.{ℕ, _+_, _-_, _*_, _/_, _%_, _^_, _≤_, _<_}
 use native.Mathlib.Nat.{mul-le-mul, mod-lt, div-lt-iff-lt-mul}
 use native.Mathlib.Omega.{arith}
+use lib.Dec.{ltb}
+use borrow.Author.Tests.{ltb-true}
 use Rattle.counting.specs.Counting.{count, select}
-use Rattle.grid.specs.Grid.{elements, elementOf}
+use Rattle.counting.proofs.Facts.{both-parts}
+use Rattle.grid.specs.Grid.{elements, slots, symbols, subcarriers, elementOf}
 use Rattle.sending.specs.CopyOrder.{carried}
 use Rattle.sending.specs.Sending.{ours, notOurs}
 use Rattle.sending.specs.Answer.{backOf, placeAt, backAt}
 use Rattle.sending.proofs.Answer.{inside-at}
 use Rattle.sending.proofs.Demand.{spot-path}
-use Rattle.elements.specs.Elements.{kindOf, used, countOf, elementAt, numberOf}
-use Rattle.elements.proofs.Laws.{count-some}
+use Rattle.elements.specs.declared.ElementUse.{ElementUse}
+use Rattle.elements.specs.declared.ElementUse.the-variants.{Used}
+use Rattle.elements.specs.Elements.{kindOf, used, countOf, elementAt, numberOf, elementUseOf}
+use Rattle.elements.proofs.Laws.{count-some, used-listed, use-used}
 use Rattle.downlink.specs.declared.Burst.{Burst}
 use Rattle.downlink.specs.Fits.{Fits}
 use Rattle.downlink.specs.Mapping.{sentSubframes, firstOf, isSent, sendingOf, places}
@@ -48,6 +53,18 @@ module _ (u : ℕ → Bool) (P : ℕ) (b : Burst) (p : ℕ) where
       ∙ sym (inside-at refusedPlace placeOf (sendingOf u P b) p h)
 
 -- ---- backward
+
+pub inside-parts : (slot l k : ℕ) → insideGrid slot l k ≡ true → (slot < slots) × (l < symbols) × (k < subcarriers)
+inside-parts slot l k h =
+    let a = both-parts (ltb slot slots) (ltb l symbols && ltb k subcarriers) h in
+    let b = both-parts (ltb l symbols) (ltb k subcarriers) (a .1) in
+    (ltb-true _ _ (a .0), ltb-true _ _ (b .0), ltb-true _ _ (b .1))
+
+-- the number of a used element is below the used elements
+pub use-below : (b : Burst) (x : ℕ) (at : ElementUse) → at ≡ elementUseOf (b .layout) (b .low) (b .width) x → (e : ℕ) → at ≡ Used e → e < W b
+use-below b x at u e h =
+    let o = use-used (b .layout) (b .low) (b .width) x e (sym u ∙ h) in
+    omega (arith, o .1, used-listed (b .layout) (b .low) (b .width) .below x (o .0))
 
 module _ (b : Burst) (i x : ℕ) where
   pub content-ours : (w e unit symbol p : ℕ) → used (b .layout) (b .low) (b .width) x ≡ true → w ≡ W b → e ≡ numberOf (b .layout) (b .low) (b .width) x

@@ -3,7 +3,7 @@ use mathlib.Core.Bool.{Bool, true, false, cond, _&&_}
 use mathlib.Core.List.{List}
 use mathlib.Core.Path.{_≡_, refl, sym, ap, _∙_, subst⁻¹}
 use Prim.Native.Nat.{ℕ, _+_, _*_, _/_, _%_, _<_}
-use native.Mathlib.Nat.{mod-mod, mod-eq-of-lt, mul-pos, zero-add, div-lt-iff-lt-mul}
+use native.Mathlib.Nat.{mod-mod, mod-eq-of-lt, div-lt-iff-lt-mul}
 use native.Mathlib.Omega.{arith}
 use lib.Dec.{eqb}
 use borrow.Author.Tests.{eq-eqb, ne-eqb, eqb-true}
@@ -11,7 +11,7 @@ use Rattle.counting.specs.Counting.{rank, select}
 use Rattle.counting.proofs.Facts.{both-parts}
 use Rattle.counting.proofs.Rank.{rank-zero, rank-later}
 use Rattle.counting.proofs.Select.{among-parts}
-use Rattle.counting.proofs.Period.{test-split, select-is, select-from}
+use Rattle.counting.proofs.Period.{test-split, select-is}
 use Rattle.grid.specs.Grid.{subcarriers, elementOf}
 use Rattle.grid.proofs.Numbering.{inside}
 use Rattle.sync.specs.Sync.{npbch, sib1}
@@ -35,9 +35,9 @@ use Rattle.downlink.specs.Mapping.{sendingOf, places, codewordSymbols}
 use Rattle.downlink.specs.Cells.{questionRefusal}
 use Rattle.downlink.specs.Answers.{refusedPlace, placeOf, insideGrid}
 use Rattle.downlink.proofs.Lawfulness.{lawful}
-use Rattle.downlink.proofs.Judging.{accepted-cell}
 use Rattle.broadcast.specs.Channels.{Channel, npbchLayout, npbchOf, sib1Layout, sib1Of}
 use Rattle.broadcast.specs.Questions.{carrierRefusal, questionOf, forwardOf, backwardOf}
+use Rattle.broadcast.proofs.Channels as channels
 use Rattle.broadcast.proofs.Channels.{Sent, npbch-sent, sib1-sent}
 use Rattle.broadcast.proofs.Frames.{npbch-at, sib1-at}
 use Rattle.promises.specs.Demand.{Forward, found, Answers, Granted, Demand}
@@ -98,17 +98,17 @@ module _ (c : Cell) (anchor other : List ℕ) (channel : Channel) (sent : Sent (
   zero = rw (j, eq-eqb (c .config .carrier) 0 carrier) refl
 
   f : Fits (channel .burst)
-  f = sent .fits (accepted-cell c anchor other j)
+  f = channels.fits c anchor other channel sent zero (channel .burst) refl
 
   some : 0 < rank u P
-  some = omega (arith, sent .all, mul-pos (f .copies) (f .codeword))
+  some = channels.some c anchor other channel sent zero (channel .burst) refl
 
   L : Lawful S (channel .burst .codeword) (channel .burst .copies)
   L = lawful u P (sent .again) some (channel .burst) f
 
   -- counted from subframe 0
   time-is : (i : ℕ) → S .time i ≡ select u P 0 i
-  time-is i = rw (sent .start .0, sent .start .1) (select-from u P (sent .again) some 0 0 i ∙ ap (select u P 0) (zero-add i))
+  time-is = channels.time-is c anchor other channel sent zero (channel .burst) refl
 
   -- all that is sent lies in the period
   within : (i : ℕ) → i < S .K → S .time i < P

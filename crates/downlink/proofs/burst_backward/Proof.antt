@@ -1,12 +1,10 @@
-use mathlib.Core.Bool.{Bool, true, cond, _&&_}
+use mathlib.Core.Bool.{Bool, true, cond}
 use mathlib.Core.Path.{_≡_, refl, sym, ap, _∙_}
 use Prim.Native.Nat.{ℕ, _≤_, _<_, _^_}
 use native.Mathlib.Omega.{arith}
-use lib.Dec.{ltb}
 use borrow.Author.Needs.{needs}
-use borrow.Author.Tests.{ltb-true, not-true, not-false}
+use borrow.Author.Tests.{not-true, not-false}
 use Rattle.counting.specs.Counting.{select}
-use Rattle.counting.proofs.Facts.{both-parts}
 use Rattle.grid.specs.Grid.{slots, symbols, subcarriers}
 use Rattle.sending.proofs.Answer.{outside-at}
 use Rattle.spans.specs.declared.Found.{Found}
@@ -19,7 +17,7 @@ use Rattle.spans.specs.Found.{foundAmong}
 use Rattle.spans.proofs.Located.{at-index, at-below, at-between, at-nothing}
 use Rattle.downlink.specs.Mapping.{sentSubframes, firstOf, sendingOf}
 use Rattle.downlink.specs.Answers.{insideGrid}
-use Rattle.downlink.proofs.Joined.{backward-unsent, backward-sent}
+use Rattle.downlink.proofs.Joined.{inside-parts, backward-unsent, backward-sent}
 use Rattle.downlink.proofs.Skipped.{joined, outside-none, unmissed-none, missed-why, sent-none}
 use Rattle.downlink.proofs.burst_backward.Statement.{statement}
 use Rattle.downlink.proofs.burst_backward.Tie as tie
@@ -30,10 +28,7 @@ module _ (c : tie.Else1) where
   inside = not-false _ (c .if1 .left)
 
   parts : (c .before .args .slot < slots) × (c .before .args .l < symbols) × (c .before .args .k < subcarriers)
-  parts =
-      let a = both-parts (ltb (c .before .args .slot) slots) (ltb (c .before .args .l) symbols && ltb (c .before .args .k) subcarriers) inside in
-      let b = both-parts (ltb (c .before .args .l) symbols) (ltb (c .before .args .k) subcarriers) (a .1) in
-      (ltb-true _ _ (a .0), ltb-true _ _ (b .0), ltb-true _ _ (b .1))
+  parts = inside-parts (c .before .args .slot) (c .before .args .l) (c .before .args .k) inside
 
 -- the subframes that are searched
 abbrev left : tie.Start → ℕ → Bool
