@@ -1,3 +1,4 @@
 pub mod Short
 pub mod Replies
 pub mod Steps
+pub mod Parts

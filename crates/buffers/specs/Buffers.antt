@@ -6,9 +6,7 @@ use Prim.Native.Nat.{ℕ, zero, suc, _+_, _≤_}
 use lib.Dec.{eqb, ltb}
 use lib.Ieee.{Float}
 use lib.ListN.{length, getD, drop}
-use Rattle.messages.specs.declared.Schedule.{Schedule}
-use Rattle.messages.specs.declared.Messages.{Messages}
-use Rattle.messages.specs.Messages.{noMessages}
+use Rattle.subframes.specs.Subframes.{messagesIn}
 use Rattle.cell.specs.declared.CellConfig.{CellConfig}
 use Rattle.cell.specs.declared.Cell.{Cell}
 use Rattle.cell.specs.declared.CauseAnswer.{CauseAnswer}
@@ -53,28 +51,9 @@ configAt s i = record {
   bits = getD s (i + 7) 0;
 }
 
-abbrev pub scheduleAt : List ℕ → ℕ → Schedule
-scheduleAt s i = record { period = getD s i 0; every = getD s (i + 1) 0; size = getD s (i + 2) 0 }
-
--- messages: window, offset, count and four schedules, 15 numbers
-abbrev pub messagesAt : List ℕ → ℕ → Messages
-messagesAt s j = record {
-  window = getD s j 0;
-  offset = getD s (j + 1) 0;
-  count = getD s (j + 2) 0;
-  s1 = scheduleAt s (j + 3);
-  s2 = scheduleAt s (j + 6);
-  s3 = scheduleAt s (j + 9);
-  s4 = scheduleAt s (j + 12);
-}
-
--- a buffer that ends before has none
-unfoldable pub messagesFrom : List ℕ → ℕ → Messages
-messagesFrom s j = cond (ltb (length s) (j + 15)) noMessages (messagesAt s j)
-
--- a cell, its eight numbers from one place on and its messages from another
+-- a cell, its eight numbers from one place on and its messages from another; a buffer that ends before has none
 abbrev pub cellIn : List ℕ → ℕ → ℕ → Cell
-cellIn s i j = record { config = configAt s i; messages = messagesFrom s j }
+cellIn s i j = record { config = configAt s i; messages = messagesIn (drop j s) }
 
 abbrev pub windowAt : List ℕ → ℕ → Window
 windowAt s i = record { period = getD s i 0; start = getD s (i + 1) 0; length = getD s (i + 2) 0; tone = getD s (i + 3) 0 }

@@ -2,13 +2,13 @@
 ghost use mathlib.Core.List.{[], _∷_};
 ghost use mathlib.Core.Path.{_≡_};
 ghost use Prim.Native.Nat.{_+_, _^_, _≤_, _<_};
-ghost use lib.ListN.{length, getD};
+ghost use lib.ListN.{length, getD, drop};
 ghost use lib.Seq.{sets};
 ghost use Rattle.nprach.specs.Windows.{none};
 ghost use Rattle.search_space.specs.Candidates.{room};
+ghost use Rattle.subframes.specs.Subframes.{messagesIn};
 ghost use Rattle.symbol.specs.Outgoing.{numbersOf};
-ghost use Rattle.buffers.specs.Buffers.{configAt, scheduleAt, messagesAt, messagesFrom, cellIn};
-ghost use Rattle.buffers.specs.Buffers.{windowAt, windowsOf};
+ghost use Rattle.buffers.specs.Buffers.{configAt, cellIn, windowAt, windowsOf};
 ghost use Rattle.buffers.specs.Buffers.{npuschAt, harqAckAt, npdschAt, npdcchAt, searchSpaceAt};
 ghost use Rattle.buffers.specs.Buffers.{causeNumbers, countNumbers, uplinkPlanNumbers, downlinkPlanNumbers};
 ghost use Rattle.buffers.specs.Buffers.{uplinkPlaceNumbers, downlinkPlaceNumbers, backNumbers};
@@ -24,7 +24,6 @@ use downlink::DownlinkPlace;
 use downlink::DownlinkPlan;
 use harq_ack::HarqAckGrant;
 use messages::Messages;
-use messages::Schedule;
 use npdcch::NpdcchGrant;
 use npdsch::NpdschGrant;
 use nprach::Window;
@@ -40,9 +39,6 @@ use uplink::UplinkPlan;
 
 // The numbers of windows: the count, and four of four.
 const WINDOWS: usize = 17;
-
-// The numbers of messages: window, offset, count, and four of three.
-const MESSAGES: usize = 15;
 
 // ---- buffers too short
 
@@ -77,7 +73,7 @@ pub fn short_beside(windows: &[u64], m: usize, n: usize, s: usize, t: usize) -> 
 
 // ---- what is asked: records whose numbers stand from a place of a buffer on
 
-fn config_at(s: &[u64], i: usize) -> CellConfig
+pub fn config_at(s: &[u64], i: usize) -> CellConfig
     requires { ⌜ i + 8 ≤ length (now s) ⌝ }
     ensures { λ r. ⌜ r ≡ configAt (now (s .entry)) i ⌝ }
 {
@@ -93,48 +89,14 @@ fn config_at(s: &[u64], i: usize) -> CellConfig
     }
 }
 
-fn schedule_at(s: &[u64], i: usize) -> Schedule
-    requires { ⌜ i + 3 ≤ length (now s) ⌝ }
-    ensures { λ r. ⌜ r ≡ scheduleAt (now (s .entry)) i ⌝ }
-{
-    Schedule {
-        period: s[i],
-        every: s[i + 1],
-        size: s[i + 2],
-    }
-}
-
-fn messages_at(s: &[u64], j: usize) -> Messages
-    requires { ⌜ j + 15 ≤ length (now s) ⌝ }
-    ensures { λ r. ⌜ r ≡ messagesAt (now (s .entry)) j ⌝ }
-{
-    let s1 = schedule_at(s, j + 3);
-    let s2 = schedule_at(s, j + 6);
-    let s3 = schedule_at(s, j + 9);
-    let s4 = schedule_at(s, j + 12);
-    Messages {
-        window: s[j],
-        offset: s[j + 1],
-        count: s[j + 2],
-        s1,
-        s2,
-        s3,
-        s4,
-    }
-}
-
 // Messages whose numbers stand from a place on; a buffer that ends before has none.
 fn messages_from(s: &[u64], j: usize) -> Messages
-    ensures { λ r. ⌜ r ≡ messagesFrom (now (s .entry)) j ⌝ }
+    ensures { λ r. ⌜ r ≡ messagesIn (drop j (now (s .entry))) ⌝ }
 {
-    let n = s.len();
-    if n < MESSAGES {
+    if s.len() < j {
         return messages::none();
     }
-    if n - MESSAGES < j {
-        return messages::none();
-    }
-    messages_at(s, j)
+    subframes::messages_in(&s[j..])
 }
 
 // A cell, its eight numbers from one place on and its messages from another.

@@ -64,6 +64,10 @@ config-bitmap c own e =
     bitmap-good (c .bits) own
     (passed (badBitmap (c .bits) own) 7 0 (omega arith) (chained (numbersRefusal c) (cond (badBitmap (c .bits) own) 7 0) e .1) .0)
 
+pub config-numbers : (c : CellConfig) (own : List ℕ) → configRefusal c own ≡ 0 → WellFormed c
+unfolding configRefusal
+config-numbers c own e = numbers-good c (chained (numbersRefusal c) (cond (badBitmap (c .bits) own) 7 0) e .0)
+
 module _ (c : Cell) (own : List ℕ) where
   form-parts : formRefusal c own ≡ 0
       → (numbersRefusal (c .config) ≡ 0) × (badBitmap (c .config .bits) own ≡ false) × (not (areListed (c .messages)) ≡ false)

@@ -1,5 +1,5 @@
 -- What the quick code chooses: the cell's masks, and the cause read off a mask. No definition of 01 or 02 cites this file.
-use mathlib.Core.Bool.{Bool, true, cond, _&&_}
+use mathlib.Core.Bool.{Bool, true, cond, not, _&&_}
 use mathlib.Core.List.{List}
 use mathlib.Core.Path.{_≡_}
 use mathlib.Core.Logic.{_⊎_}
@@ -11,7 +11,7 @@ use Rattle.spans.specs.Pattern.{span, maskBit, maskAt, allows, Regular}
 use Rattle.bitmap.specs.Quick.{BitmapFits, Loaded}
 use Rattle.messages.specs.declared.Messages.{Messages}
 use Rattle.messages.specs.Quick.{isSilent}
-use Rattle.subframes.specs.Subframes.{leftIn, Searchable}
+use Rattle.subframes.specs.Subframes.{messagesIn, leftIn, Searchable}
 use Rattle.cell.specs.declared.CellConfig.{CellConfig}
 use Rattle.cell.specs.declared.Cell.{Cell}
 use Rattle.cell.specs.declared.Cause.{Cause}
@@ -24,7 +24,11 @@ use Rattle.grid.specs.Grid.{elements}
 use Rattle.elements.specs.Elements.{eligible}
 use Rattle.cell.specs.declared.ElementCount.{ElementCount}
 use Rattle.cell.specs.Layout.{layoutOf}
-use Rattle.cell.specs.Judge.{cellRefusal}
+use Rattle.cell.specs.Judge.{cellPortsListed, controlListed, portsDiffer, cellRefusal}
+
+-- 4, 5 and 24
+unfoldable pub bandRefusal : CellConfig → ℕ
+bandRefusal c = cond (not (cellPortsListed c)) 4 (cond (not (controlListed c)) 5 (cond (portsDiffer c) 24 0))
 
 -- bit i of a span's mask says whether subframe i of the span is free
 pub record Shows (c : CellConfig) (b : List ℕ) (p : Pattern) : Type 0 where
@@ -38,6 +42,10 @@ pub record ShowsLoaded (c : CellConfig) (m : ℕ) (p : Pattern) : Type 0 where
 -- a cell of these eight numbers
 abbrev pub withMessages : CellConfig → Messages → Cell
 withMessages c ms = record { config = c; messages = ms }
+
+-- a cell whose messages are lent as numbers
+abbrev pub lentCell : CellConfig → List ℕ → Cell
+lentCell c si = withMessages c (messagesIn si)
 
 -- messages are laid on an anchor that has some
 abbrev pub laysMessages : Cell → Bool

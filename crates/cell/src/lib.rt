@@ -1,4 +1,6 @@
 // A cell: its refusals, its bitmap in force, its free subframes as a pattern of spans, and why another is not usable.
+// What ends in `_lent` has the cell's eight numbers and, as lent numbers `si`, its messages: these are read where they
+// are needed, and a cell without any pays nothing for them. The questions on a `Cell` lend its messages to these.
 ghost use mathlib.Core.Path.{_≡_};
 ghost use mathlib.Core.Bool.{true, cond, _&&_, _||_};
 ghost use lib.Bits.{bitAnd};
@@ -6,12 +8,13 @@ ghost use lib.Dec.{eqb, leb};
 ghost use Rattle.spans.specs.Pattern.{Regular};
 ghost use Rattle.messages.specs.declared.Messages.{Messages};
 ghost use Rattle.messages.specs.Quick.{isSilent};
-ghost use Rattle.subframes.specs.Subframes.{Laid};
+ghost use Rattle.subframes.specs.Subframes.{messagesIn, Laid};
 ghost use Rattle.cell.specs.Bitmap.{ownBuffer};
 ghost use Rattle.cell.specs.Judge.{numbersRefusal, configRefusal, formRefusal, cellRefusal, judgeOf, inForceOf};
 ghost use Rattle.cell.specs.Judge.{causeOf};
-ghost use Rattle.cell.specs.Quick.{whyNotFree, whyNot, seen, ShowsLoaded};
-ghost use Rattle.cell.specs.Quick.{withMessages, VerdictOn, VerdictAlone, causeOn, countAfter, WellFormed};
+ghost use Rattle.cell.specs.Quick.{bandRefusal, whyNotFree, whyNot, seen, ShowsLoaded};
+ghost use Rattle.cell.specs.Quick.{withMessages, lentCell, VerdictOn, VerdictAlone, causeOn, countAfter};
+ghost use Rattle.cell.specs.Quick.{WellFormed};
 ghost use Rattle.cell.specs.Usable.{causeNumber};
 ghost use Rattle.cell.specs.Layout.{layoutOf, elementCountOf};
 pub use bitmap::bytes as bitmap_bytes;
@@ -62,11 +65,36 @@ pub struct Verdict {
     pub pattern: Pattern,
 }
 
+// Refusals 4, 5 and 24. In-band there are 1, 2 or 4 cell reference ports, in mode 0 as many as narrowband ports, and a
+// control region of 1 to 3 symbols; else neither.
+fn band_refusal(c: CellConfig) -> u64
+    ensures { λ r. ⌜ r ≡ bandRefusal c ⌝ }
+{
+    if c.mode < 2 {
+        if !((c.cports == 1) | ((c.cports == 2) | (c.cports == 4))) {
+            return 4;
+        }
+        if !((1 <= c.control) & (c.control <= 3)) {
+            return 5;
+        }
+        if (c.mode == 0) & (c.cports != c.nports) {
+            return 24;
+        }
+        return 0;
+    }
+    if c.cports != 0 {
+        return 4;
+    }
+    if c.control != 0 {
+        return 5;
+    }
+    0
+}
+
 // Refusals 1 to 6 and 24.
 fn numbers_refusal(c: CellConfig) -> u64
     ensures { λ r. ⌜ r ≡ numbersRefusal c ⌝ }
 {
-    let in_band = c.mode < 2;
     if (c.mode > 3) | (c.carrier > 1) {
         return 1;
     }
@@ -76,39 +104,14 @@ fn numbers_refusal(c: CellConfig) -> u64
     if !((c.nports == 1) | (c.nports == 2)) {
         return 3;
     }
-    if !listed_ports(in_band, c.cports) {
-        return 4;
-    }
-    if !listed_control(in_band, c.control) {
-        return 5;
-    }
-    if (c.mode == 0) & (c.cports != c.nports) {
-        return 24;
+    let no = band_refusal(c);
+    if no != 0 {
+        return no;
     }
     if c.sib1 > 11 {
         return 6;
     }
     0
-}
-
-// Cell reference ports 1, 2 or 4 in-band, else 0.
-fn listed_ports(in_band: bool, cports: u64) -> bool
-    ensures { λ r. ⌜ r ≡ cond in_band (eqb cports 1 || (eqb cports 2 || eqb cports 4)) (eqb cports 0) ⌝ }
-{
-    if in_band {
-        return (cports == 1) | ((cports == 2) | (cports == 4));
-    }
-    cports == 0
-}
-
-// Control region 1 to 3 in-band, else 0.
-fn listed_control(in_band: bool, control: u64) -> bool
-    ensures { λ r. ⌜ r ≡ cond in_band (leb 1 control && leb control 3) (eqb control 0) ⌝ }
-{
-    if in_band {
-        return (1 <= control) & (control <= 3);
-    }
-    control == 0
 }
 
 // Refusals 1 to 7 and 24.
@@ -126,14 +129,14 @@ fn config_refusal(c: CellConfig, own: &[u8]) -> u64
 }
 
 // Refusals 1 to 7, 24 and 21.
-fn form_refusal(c: Cell, own: &[u8]) -> u64
-    ensures { λ r. ⌜ r ≡ formRefusal c (now (own .entry)) ⌝ }
+fn form_refusal(c: CellConfig, si: &[u64], own: &[u8]) -> u64
+    ensures { λ r. ⌜ r ≡ formRefusal (lentCell c (now (si .entry))) (now (own .entry)) ⌝ }
 {
-    let no = config_refusal(c.config, own);
+    let no = config_refusal(c, own);
     if no != 0 {
         return no;
     }
-    if !messages::are_listed(c.messages) {
+    if !messages::are_listed(subframes::messages_in(si)) {
         return 21;
     }
     0
@@ -204,17 +207,18 @@ fn formed_alone(c: CellConfig, own: &[u8]) -> Verdict
 }
 
 // 8, 18 or the pattern, of a cell with none of the refusals before.
-fn formed(c: Cell, own: &[u8]) -> Verdict
-    requires { ⌜ formRefusal c (now own) ≡ 0 ⌝ }
-    ensures { λ r. ⌜ VerdictOn c (now (own .entry)) r ⌝ }
+fn formed(c: CellConfig, si: &[u64], own: &[u8]) -> Verdict
+    requires { ⌜ formRefusal (lentCell c (now si)) (now own) ≡ 0 ⌝ }
+    ensures { λ r. ⌜ VerdictOn (lentCell c (now (si .entry))) (now (own .entry)) r ⌝ }
 {
-    let m = bitmap::load(c.config.bits, own);
+    let m = bitmap::load(c.bits, own);
     if m == 0 {
         return refused(8);
     }
-    let p = pattern(c.config, m);
-    let laid = (c.config.carrier == 0) & (0 < c.messages.count);
-    if subframes::is_empty(p, laid, c.messages) {
+    let p = pattern(c, m);
+    let ms = subframes::messages_in(si);
+    let laid = (c.carrier == 0) & (0 < ms.count);
+    if subframes::is_empty(p, laid, si) {
         return refused(18);
     }
     Verdict {
@@ -225,7 +229,7 @@ fn formed(c: Cell, own: &[u8]) -> Verdict
 }
 
 // Eight numbers judged by their own buffer.
-fn judged_alone(c: CellConfig, own: &[u8]) -> Verdict
+fn judged_own(c: CellConfig, own: &[u8]) -> Verdict
     ensures { λ r. ⌜ VerdictAlone c (now (own .entry)) r ⌝ }
 {
     let no = config_refusal(c, own);
@@ -235,32 +239,56 @@ fn judged_alone(c: CellConfig, own: &[u8]) -> Verdict
     formed_alone(c, own)
 }
 
-// A cell judged by its own buffer.
-fn judged_beside(c: Cell, own: &[u8]) -> Verdict
-    ensures { λ r. ⌜ VerdictOn c (now (own .entry)) r ⌝ }
+fn judged_alone(c: CellConfig, anchor: &[u8], other: &[u8]) -> Verdict
+    ensures { λ r. ⌜ VerdictAlone c (ownBuffer c (now (anchor .entry)) (now (other .entry))) r ⌝ }
 {
-    let no = form_refusal(c, own);
+    if c.carrier == 0 {
+        return judged_own(c, anchor);
+    }
+    judged_own(c, other)
+}
+
+// A cell judged by its own buffer.
+fn judged_with(c: CellConfig, si: &[u64], own: &[u8]) -> Verdict
+    ensures { λ r. ⌜ VerdictOn (lentCell c (now (si .entry))) (now (own .entry)) r ⌝ }
+{
+    let no = form_refusal(c, si, own);
     if no != 0 {
         return refused(no);
     }
-    formed(c, own)
+    formed(c, si, own)
+}
+
+// The compiler puts this in where it is asked, and what it passes on is then copied there, on the way with messages
+// alone.
+fn judged_beside(c: CellConfig, si: &[u64], anchor: &[u8], other: &[u8]) -> Verdict
+    ensures { λ r. ⌜ VerdictOn (lentCell c (now (si .entry)))
+        (ownBuffer c (now (anchor .entry)) (now (other .entry))) r ⌝ }
+{
+    if c.carrier == 0 {
+        return judged_with(c, si, anchor);
+    }
+    judged_with(c, si, other)
 }
 
 // A cell's refusal number, and the pattern of an accepted one. With no message the eight numbers are asked by
-// themselves, here and below: the messages are then not passed on.
+// themselves, here and below.
+pub fn judged_lent(c: CellConfig, si: &[u64], anchor: &[u8], other: &[u8]) -> Verdict
+    ensures { λ r. ⌜ VerdictOn (lentCell c (now (si .entry)))
+        (ownBuffer c (now (anchor .entry)) (now (other .entry))) r ⌝ }
+{
+    if subframes::is_silent(si) {
+        return judged_alone(c, anchor, other);
+    }
+    judged_beside(c, si, anchor, other)
+}
+
+// The same on a cell, which lends its messages.
 pub fn judged(c: Cell, anchor: &[u8], other: &[u8]) -> Verdict
     ensures { λ r. ⌜ VerdictOn c (ownBuffer (c .config) (now (anchor .entry)) (now (other .entry))) r ⌝ }
 {
-    if messages::is_silent(c.messages) {
-        if c.config.carrier == 0 {
-            return judged_alone(c.config, anchor);
-        }
-        return judged_alone(c.config, other);
-    }
-    if c.config.carrier == 0 {
-        return judged_beside(c, anchor);
-    }
-    judged_beside(c, other)
+    let si = subframes::numbers(c.messages);
+    judged_lent(c.config, &si, anchor, other)
 }
 
 // The refusal number of eight numbers, by their own buffer.
@@ -274,20 +302,28 @@ fn judge_alone(c: CellConfig, own: &[u8]) -> u64
     formed_alone(c, own).no
 }
 
-// Judge a cell: its refusal number, or 0.
+// Judge a cell: its refusal number, or 0. The test is the shortest, so that the compiler puts this in where it is
+// asked.
+pub fn judge_lent(c: CellConfig, si: &[u64], anchor: &[u8], other: &[u8]) -> u64
+    ensures { λ r. ⌜ r ≡ judgeOf (lentCell c (now (si .entry))) (now (anchor .entry)) (now (other .entry)) ⌝ }
+{
+    if subframes::are_none(si) {
+        if c.carrier == 0 {
+            return judge_alone(c, anchor);
+        }
+        return judge_alone(c, other);
+    }
+    if c.carrier == 0 {
+        return judged_with(c, si, anchor).no;
+    }
+    judged_with(c, si, other).no
+}
+
 pub fn judge(c: Cell, anchor: &[u8], other: &[u8]) -> u64
     ensures { λ r. ⌜ r ≡ judgeOf c (now (anchor .entry)) (now (other .entry)) ⌝ }
 {
-    if messages::is_silent(c.messages) {
-        if c.config.carrier == 0 {
-            return judge_alone(c.config, anchor);
-        }
-        return judge_alone(c.config, other);
-    }
-    if c.config.carrier == 0 {
-        return judged_beside(c, anchor).no;
-    }
-    judged_beside(c, other).no
+    let si = subframes::numbers(c.messages);
+    judge_lent(c.config, &si, anchor, other)
 }
 
 // The bitmap in force: the first 0, 2 or 5 bytes of the carrier's own buffer; an empty part for a refused cell.
@@ -338,18 +374,18 @@ pub fn why_not(c: CellConfig, p: Pattern, laid: bool, t: u64) -> Cause
 }
 
 // Why subframe t is not usable, p the pattern of the free ones.
-pub fn why(c: Cell, p: Pattern, laid: bool, t: u64) -> Cause
-    requires { ⌜ Laid p laid (c .messages) ⌝ }
-    ensures { λ r. ⌜ r ≡ seen c p laid t ⌝ }
+pub fn why(c: CellConfig, si: &[u64], p: Pattern, laid: bool, t: u64) -> Cause
+    requires { ⌜ Laid p laid (messagesIn (now si)) ⌝ }
+    ensures { λ r. ⌜ r ≡ seen (lentCell c (now (si .entry))) p laid t ⌝ }
 {
-    if subframes::is_left(p, laid, c.messages, t) {
+    if subframes::is_left(p, laid, si, t) {
         return Cause::None;
     }
-    why_not(c.config, p, laid, t)
+    why_not(c, p, laid, t)
 }
 
 // Why subframe t is not usable to eight numbers, by their own buffer.
-fn cause_alone(c: CellConfig, own: &[u8], t: u64) -> CauseAnswer
+fn cause_own(c: CellConfig, own: &[u8], t: u64) -> CauseAnswer
     ensures { λ r. ⌜ ((ms : Messages) → isSilent ms ≡ true → r ≡ causeOn (withMessages c ms) (now (own .entry)) t) ⌝ }
 {
     let no = config_refusal(c, own);
@@ -378,11 +414,21 @@ fn cause_alone(c: CellConfig, own: &[u8], t: u64) -> CauseAnswer
     }
 }
 
-// Why subframe t is not usable, by the cell's own buffer.
-fn cause_beside(c: Cell, own: &[u8], t: u64) -> CauseAnswer
-    ensures { λ r. ⌜ r ≡ causeOn c (now (own .entry)) t ⌝ }
+fn cause_alone(c: CellConfig, anchor: &[u8], other: &[u8], t: u64) -> CauseAnswer
+    ensures { λ r. ⌜ ((ms : Messages) → isSilent ms ≡ true
+        → r ≡ causeOf (withMessages c ms) (now (anchor .entry)) (now (other .entry)) t) ⌝ }
 {
-    let v = judged_beside(c, own);
+    if c.carrier == 0 {
+        return cause_own(c, anchor, t);
+    }
+    cause_own(c, other, t)
+}
+
+// Why subframe t is not usable, beside messages.
+fn cause_beside(c: CellConfig, si: &[u64], anchor: &[u8], other: &[u8], t: u64) -> CauseAnswer
+    ensures { λ r. ⌜ r ≡ causeOf (lentCell c (now (si .entry))) (now (anchor .entry)) (now (other .entry)) t ⌝ }
+{
+    let v = judged_beside(c, si, anchor, other);
     if v.no != 0 {
         return CauseAnswer {
             no: v.no,
@@ -391,24 +437,25 @@ fn cause_beside(c: Cell, own: &[u8], t: u64) -> CauseAnswer
     }
     CauseAnswer {
         no: 0,
-        cause: why(c, v.pattern, v.laid, t),
+        cause: why(c, si, v.pattern, v.laid, t),
     }
 }
 
 // Why subframe t is not usable: the first cause, or none.
+pub fn cause_lent(c: CellConfig, si: &[u64], anchor: &[u8], other: &[u8], t: u64) -> CauseAnswer
+    ensures { λ r. ⌜ r ≡ causeOf (lentCell c (now (si .entry))) (now (anchor .entry)) (now (other .entry)) t ⌝ }
+{
+    if subframes::is_silent(si) {
+        return cause_alone(c, anchor, other, t);
+    }
+    cause_beside(c, si, anchor, other, t)
+}
+
 pub fn cause_at(c: Cell, anchor: &[u8], other: &[u8], t: u64) -> CauseAnswer
     ensures { λ r. ⌜ r ≡ causeOf c (now (anchor .entry)) (now (other .entry)) t ⌝ }
 {
-    if messages::is_silent(c.messages) {
-        if c.config.carrier == 0 {
-            return cause_alone(c.config, anchor, t);
-        }
-        return cause_alone(c.config, other, t);
-    }
-    if c.config.carrier == 0 {
-        return cause_beside(c, anchor, t);
-    }
-    cause_beside(c, other, t)
+    let si = subframes::numbers(c.messages);
+    cause_lent(c.config, &si, anchor, other, t)
 }
 
 // The number of a cause.
@@ -458,9 +505,41 @@ fn counted(c: CellConfig, no: u64) -> ElementCount
     }
 }
 
+// E of eight numbers, by their own buffer.
+fn count_own(c: CellConfig, own: &[u8]) -> ElementCount
+    ensures { λ r. ⌜ ((ms : Messages) → isSilent ms ≡ true
+        → r ≡ countAfter (cellRefusal (withMessages c ms) (now (own .entry))) c) ⌝ }
+{
+    let no = config_refusal(c, own);
+    if no != 0 {
+        return ElementCount { no, e: 0 };
+    }
+    counted(c, formed_alone(c, own).no)
+}
+
+fn count_alone(c: CellConfig, anchor: &[u8], other: &[u8]) -> ElementCount
+    ensures { λ r. ⌜ ((ms : Messages) → isSilent ms ≡ true
+        → r ≡ elementCountOf (withMessages c ms) (now (anchor .entry)) (now (other .entry))) ⌝ }
+{
+    if c.carrier == 0 {
+        return count_own(c, anchor);
+    }
+    count_own(c, other)
+}
+
 // E of a cell: the eligible elements of a subframe.
+pub fn count_lent(c: CellConfig, si: &[u64], anchor: &[u8], other: &[u8]) -> ElementCount
+    ensures { λ r. ⌜ r ≡ elementCountOf (lentCell c (now (si .entry))) (now (anchor .entry)) (now (other .entry)) ⌝ }
+{
+    if subframes::is_silent(si) {
+        return count_alone(c, anchor, other);
+    }
+    counted(c, judged_beside(c, si, anchor, other).no)
+}
+
 pub fn element_count(c: Cell, anchor: &[u8], other: &[u8]) -> ElementCount
     ensures { λ r. ⌜ r ≡ elementCountOf c (now (anchor .entry)) (now (other .entry)) ⌝ }
 {
-    counted(c.config, judge(c, anchor, other))
+    let si = subframes::numbers(c.messages);
+    count_lent(c.config, &si, anchor, other)
 }

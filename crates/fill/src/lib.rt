@@ -7,10 +7,12 @@ ghost use Rattle.counting.specs.Counting.{rank, count};
 ghost use Rattle.grid.specs.Grid.{subcarriers, slots, slotElements, slotNumbers};
 ghost use Rattle.elements.specs.Elements.{Valid, used};
 ghost use Rattle.elements.specs.Quick.{hasIn};
+ghost use Rattle.cell.specs.Quick.{lentCell};
 ghost use Rattle.fill.specs.Refusals.{fillRefusal};
 ghost use Rattle.fill.specs.Fill.{laid, outputOf};
 ghost use Rattle.fill.specs.Quick.{writtenInRow, writtenIn};
 use cell::Cell;
+use cell::CellConfig;
 use elements::Layout;
 use elements::Row;
 use grid::Grid;
@@ -74,6 +76,37 @@ fn write_slot(
 }
 
 // The 336 numbers of transmitted subframe i; answers the refusal number, or 0.
+pub fn fill_lent(
+    c: CellConfig,
+    si: &[u64],
+    anchor: &[u8],
+    other: &[u8],
+    g: NpdschGrant,
+    i: u64,
+    bits: &[u8],
+    level: f32,
+    out: &mut [f32],
+) -> u64
+    ensures { λ r. ⌜ (r
+        ≡ fillRefusal (lentCell c (now (si .entry))) (now (anchor .entry)) (now (other .entry))
+        g i (now (bits .entry)) level (now (out .entry)))
+        × (now (out .exit)
+        ≡ outputOf (lentCell c (now (si .entry))) (now (anchor .entry)) (now (other .entry))
+        g i (now (bits .entry)) level (now (out .entry))) ⌝ }
+{
+    let wrong = out.len() as u64 != Grid::NUMBERS;
+    let call = transmitted::judged(c, si, anchor, other, g, i, false, bits, wrong, level);
+    if call.no != 0 {
+        return call.no;
+    }
+    let layout = transmitted::layout(c, call.v);
+    let four = symbol::symbols(level);
+    let next = write_slot(&mut out[0..SLOT_NUMBERS], layout, 0, call.first, bits, four);
+    write_slot(&mut out[SLOT_NUMBERS..], layout, 1, next, bits, four);
+    0
+}
+
+// The same on a cell, which lends its messages.
 pub fn fill(
     c: Cell,
     anchor: &[u8],
@@ -89,14 +122,6 @@ pub fn fill(
         × (now (out .exit)
         ≡ outputOf c (now (anchor .entry)) (now (other .entry)) g i (now (bits .entry)) level (now (out .entry))) ⌝ }
 {
-    let wrong = out.len() as u64 != Grid::NUMBERS;
-    let call = transmitted::judged(c, anchor, other, g, i, false, bits, wrong, level);
-    if call.no != 0 {
-        return call.no;
-    }
-    let layout = transmitted::layout(c.config, call.v);
-    let four = symbol::symbols(level);
-    let next = write_slot(&mut out[0..SLOT_NUMBERS], layout, 0, call.first, bits, four);
-    write_slot(&mut out[SLOT_NUMBERS..], layout, 1, next, bits, four);
-    0
+    let si = subframes::numbers(c.messages);
+    fill_lent(c.config, &si, anchor, other, g, i, bits, level, out)
 }

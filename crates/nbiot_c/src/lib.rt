@@ -1,4 +1,5 @@
 // The public questions for C: numbers and slices in, answers into lent buffers, in the order of include/nbiot.h.
+// What follows a cell's eight numbers is lent on as its messages.
 // A buffer that is too short gets 255, before anything else is judged, and nothing is written.
 ghost use mathlib.Core.List.{[]};
 ghost use mathlib.Core.Path.{_≡_};
@@ -24,7 +25,7 @@ pub extern "C" fn nbiot_judge(cell: &[u64], anchor: &[u8], other: &[u8]) -> u64
     if cell.len() < 8 {
         return TOO_SHORT;
     }
-    nbiot::judge(buffers::cell_in(cell, 0, 8), anchor, other)
+    cell::judge_lent(buffers::config_at(cell, 0), &cell[8..], anchor, other)
 }
 
 // The bitmap in force: the buffer that it is a part of, and its bytes, counted without a second verdict.
@@ -36,13 +37,13 @@ pub extern "C" fn nbiot_bitmap(cell: &[u64], anchor: &[u8], other: &[u8], answer
     if buffers::short2(8, 3, cell.len(), answer.len()) {
         return TOO_SHORT;
     }
-    let c = buffers::cell_in(cell, 0, 8);
-    let no = nbiot::judge(c, anchor, other);
+    let c = buffers::config_at(cell, 0);
+    let no = cell::judge_lent(c, &cell[8..], anchor, other);
     if no != 0 {
         return buffers::put3(answer, no, 0, 0);
     }
-    let n = cell::bitmap_bytes(c.config.bits);
-    buffers::put3(answer, 0, c.config.carrier, n as u64)
+    let n = cell::bitmap_bytes(c.bits);
+    buffers::put3(answer, 0, c.carrier, n as u64)
 }
 
 // Why subframe t is not usable.
@@ -60,7 +61,7 @@ pub extern "C" fn nbiot_cause(
     if buffers::short2(8, 2, cell.len(), answer.len()) {
         return TOO_SHORT;
     }
-    let a = nbiot::cause(buffers::cell_in(cell, 0, 8), anchor, other, t);
+    let a = cell::cause_lent(buffers::config_at(cell, 0), &cell[8..], anchor, other, t);
     buffers::put_cause(answer, a)
 }
 
@@ -73,7 +74,7 @@ pub extern "C" fn nbiot_count(cell: &[u64], anchor: &[u8], other: &[u8], answer:
     if buffers::short2(8, 2, cell.len(), answer.len()) {
         return TOO_SHORT;
     }
-    let a = nbiot::count(buffers::cell_in(cell, 0, 8), anchor, other);
+    let a = cell::count_lent(buffers::config_at(cell, 0), &cell[8..], anchor, other);
     buffers::put_count(answer, a)
 }
 
@@ -389,9 +390,9 @@ pub extern "C" fn nbiot_plan_down(
     if buffers::short3(8, 5, 5, cell.len(), grant.len(), answer.len()) {
         return TOO_SHORT;
     }
-    let c = buffers::cell_in(cell, 0, 8);
+    let c = buffers::config_at(cell, 0);
     let g = buffers::npdsch_at(grant, 0);
-    let a = nbiot::plan_down(c, anchor, other, g);
+    let a = npdsch::plan_lent(c, &cell[8..], anchor, other, g);
     buffers::put_downlink_plan(answer, a)
 }
 
@@ -412,9 +413,9 @@ pub extern "C" fn nbiot_forward_down(
     if buffers::short3(8, 5, 6, cell.len(), grant.len(), answer.len()) {
         return TOO_SHORT;
     }
-    let c = buffers::cell_in(cell, 0, 8);
+    let c = buffers::config_at(cell, 0);
     let g = buffers::npdsch_at(grant, 0);
-    let a = nbiot::forward_down(c, anchor, other, g, p);
+    let a = npdsch::forward_lent(c, &cell[8..], anchor, other, g, p);
     buffers::put_downlink_place(answer, a)
 }
 
@@ -438,9 +439,9 @@ pub extern "C" fn nbiot_backward_down(
     if buffers::short3(8, 5, 6, cell.len(), grant.len(), answer.len()) {
         return TOO_SHORT;
     }
-    let c = buffers::cell_in(cell, 0, 8);
+    let c = buffers::config_at(cell, 0);
     let g = buffers::npdsch_at(grant, 0);
-    let a = nbiot::backward_down(c, anchor, other, g, t, slot, l, k);
+    let a = npdsch::backward_lent(c, &cell[8..], anchor, other, g, t, slot, l, k);
     buffers::put_downlink_back(answer, a)
 }
 
@@ -459,10 +460,11 @@ pub extern "C" fn nbiot_step_down(
         return TOO_SHORT;
     }
     let p = walk[0];
-    let c = buffers::cell_in(walk, 1, 14);
+    let c = buffers::config_at(walk, 1);
     let g = buffers::npdsch_at(walk, 9);
-    let a = nbiot::forward_down(c, anchor, other, g, p);
-    let end = a.no == 14 && buffers::downlink_end(nbiot::plan_down(c, anchor, other, g), p);
+    let a = npdsch::forward_lent(c, &walk[14..], anchor, other, g, p);
+    let end = a.no == 14
+        && buffers::downlink_end(npdsch::plan_lent(c, &walk[14..], anchor, other, g), p);
     buffers::put_step(walk, answer, end, a.no, a.t, a.slot, a.l, a.k, a.symbol)
 }
 
@@ -483,9 +485,9 @@ pub extern "C" fn nbiot_plan_control(
     if buffers::short3(8, 4, 5, cell.len(), grant.len(), answer.len()) {
         return TOO_SHORT;
     }
-    let c = buffers::cell_in(cell, 0, 8);
+    let c = buffers::config_at(cell, 0);
     let g = buffers::npdcch_at(grant, 0);
-    let a = nbiot::plan_control(c, anchor, other, g);
+    let a = npdcch::plan_lent(c, &cell[8..], anchor, other, g);
     buffers::put_downlink_plan(answer, a)
 }
 
@@ -506,9 +508,9 @@ pub extern "C" fn nbiot_forward_control(
     if buffers::short3(8, 4, 6, cell.len(), grant.len(), answer.len()) {
         return TOO_SHORT;
     }
-    let c = buffers::cell_in(cell, 0, 8);
+    let c = buffers::config_at(cell, 0);
     let g = buffers::npdcch_at(grant, 0);
-    let a = nbiot::forward_control(c, anchor, other, g, p);
+    let a = npdcch::forward_lent(c, &cell[8..], anchor, other, g, p);
     buffers::put_downlink_place(answer, a)
 }
 
@@ -532,9 +534,9 @@ pub extern "C" fn nbiot_backward_control(
     if buffers::short3(8, 4, 6, cell.len(), grant.len(), answer.len()) {
         return TOO_SHORT;
     }
-    let c = buffers::cell_in(cell, 0, 8);
+    let c = buffers::config_at(cell, 0);
     let g = buffers::npdcch_at(grant, 0);
-    let a = nbiot::backward_control(c, anchor, other, g, t, slot, l, k);
+    let a = npdcch::backward_lent(c, &cell[8..], anchor, other, g, t, slot, l, k);
     buffers::put_downlink_back(answer, a)
 }
 
@@ -553,10 +555,11 @@ pub extern "C" fn nbiot_step_control(
         return TOO_SHORT;
     }
     let p = walk[0];
-    let c = buffers::cell_in(walk, 1, 13);
+    let c = buffers::config_at(walk, 1);
     let g = buffers::npdcch_at(walk, 9);
-    let a = nbiot::forward_control(c, anchor, other, g, p);
-    let end = a.no == 14 && buffers::downlink_end(nbiot::plan_control(c, anchor, other, g), p);
+    let a = npdcch::forward_lent(c, &walk[13..], anchor, other, g, p);
+    let end = a.no == 14
+        && buffers::downlink_end(npdcch::plan_lent(c, &walk[13..], anchor, other, g), p);
     buffers::put_step(walk, answer, end, a.no, a.t, a.slot, a.l, a.k, a.symbol)
 }
 
@@ -577,9 +580,9 @@ pub extern "C" fn nbiot_search(
     if buffers::short3(8, 4, 48, cell.len(), space.len(), answer.len()) {
         return TOO_SHORT;
     }
-    let c = buffers::cell_in(cell, 0, 8);
+    let c = buffers::config_at(cell, 0);
     let s = buffers::search_space_at(space, 0);
-    let a = nbiot::search(c, anchor, other, s);
+    let a = search_space::search_lent(c, &cell[8..], anchor, other, s);
     buffers::put_search(answer, a)
 }
 
@@ -688,9 +691,9 @@ pub extern "C" fn nbiot_fill(
     if buffers::short2(8, 5, cell.len(), grant.len()) {
         return TOO_SHORT;
     }
-    let c = buffers::cell_in(cell, 0, 8);
+    let c = buffers::config_at(cell, 0);
     let g = buffers::npdsch_at(grant, 0);
-    nbiot::fill(c, anchor, other, g, i, bits, level, output)
+    fill::fill_lent(c, &cell[8..], anchor, other, g, i, bits, level, output)
 }
 
 // One element of transmitted subframe i.
@@ -718,8 +721,8 @@ pub extern "C" fn nbiot_element(
     {
         return TOO_SHORT;
     }
-    let c = buffers::cell_in(cell, 0, 8);
+    let c = buffers::config_at(cell, 0);
     let g = buffers::npdsch_at(grant, 0);
-    let e = nbiot::element(c, anchor, other, g, i, slot, l, k, bits, level);
+    let e = transmitted::element_lent(c, &cell[8..], anchor, other, g, i, slot, l, k, bits, level);
     buffers::put_element(answer, amplitudes, e)
 }

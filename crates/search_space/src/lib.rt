@@ -8,6 +8,7 @@ ghost use Rattle.grid.specs.Grid.{lastSubframe};
 ghost use Rattle.grid.specs.Tables.{isRepetition};
 ghost use Rattle.spans.specs.Pattern.{allows, periodOf, Regular, OnesOf};
 ghost use Rattle.messages.specs.Messages.{allPeriods, areListed, remaining};
+ghost use Rattle.cell.specs.Quick.{lentCell};
 ghost use Rattle.subframes.specs.Subframes.{leftIn, Searchable};
 ghost use Rattle.search_space.specs.Starts.{hyperframe, doubledPeriod, isStart};
 ghost use Rattle.search_space.specs.Refusals.{spaceRefusal};
@@ -15,6 +16,7 @@ ghost use Rattle.search_space.specs.Candidates.{blank};
 ghost use Rattle.search_space.specs.Questions.{refusedSearch, monitoredIn, searchOf};
 ghost use Rattle.search_space.specs.Quick.{FirstFrom, cutOf, CutFits, BlocksOf, digitOf, entryIn};
 use cell::Cell;
+use cell::CellConfig;
 use messages::Messages;
 use spans::Ends;
 use spans::Pattern;
@@ -294,10 +296,16 @@ fn monitored(p: Pattern, laid: bool, ms: Messages, s: SearchSpace) -> SearchAnsw
 }
 
 // Where control may start: the first start from subframe n on, and all candidates by first subframe, then R.
-pub fn search(c: Cell, anchor: &[u8], other: &[u8], s: SearchSpace) -> SearchAnswer
-    ensures { λ r. ⌜ r ≡ searchOf c (now (anchor .entry)) (now (other .entry)) s ⌝ }
+pub fn search_lent(
+    c: CellConfig,
+    si: &[u64],
+    anchor: &[u8],
+    other: &[u8],
+    s: SearchSpace,
+) -> SearchAnswer
+    ensures { λ r. ⌜ r ≡ searchOf (lentCell c (now (si .entry))) (now (anchor .entry)) (now (other .entry)) s ⌝ }
 {
-    let v = cell::judged(c, anchor, other);
+    let v = cell::judged_lent(c, si, anchor, other);
     if v.no != 0 {
         return refused(v.no);
     }
@@ -305,5 +313,13 @@ pub fn search(c: Cell, anchor: &[u8], other: &[u8], s: SearchSpace) -> SearchAns
     if no != 0 {
         return refused(no);
     }
-    monitored(v.pattern, v.laid, c.messages, s)
+    monitored(v.pattern, v.laid, subframes::messages_in(si), s)
+}
+
+// The same on a cell, which lends its messages.
+pub fn search(c: Cell, anchor: &[u8], other: &[u8], s: SearchSpace) -> SearchAnswer
+    ensures { λ r. ⌜ r ≡ searchOf c (now (anchor .entry)) (now (other .entry)) s ⌝ }
+{
+    let si = subframes::numbers(c.messages);
+    search_lent(c.config, &si, anchor, other, s)
 }

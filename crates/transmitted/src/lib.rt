@@ -5,6 +5,7 @@ ghost use Rattle.grid.specs.Grid.{subcarriers, symbols, slots, elementOf};
 ghost use Rattle.elements.specs.Elements.{Valid, countOf};
 ghost use Rattle.downlink.specs.Fits.{Fits};
 ghost use Rattle.cell.specs.Layout.{layoutOf};
+ghost use Rattle.cell.specs.Quick.{lentCell};
 ghost use Rattle.transmitted.specs.Refusals.{lateRefusal};
 ghost use Rattle.transmitted.specs.Element.{elementAnswer};
 ghost use Rattle.transmitted.specs.Quick.{goesIn, CallFor};
@@ -63,7 +64,8 @@ fn late_refusal(
 
 // The call judged, for the fill and for one element alike.
 pub fn judged(
-    c: Cell,
+    c: CellConfig,
+    si: &[u64],
     anchor: &[u8],
     other: &[u8],
     g: NpdschGrant,
@@ -73,11 +75,11 @@ pub fn judged(
     wrong: bool,
     level: f32,
 ) -> Call
-    ensures { λ r. ⌜ CallFor c (now (anchor .entry)) (now (other .entry)) g i outside
+    ensures { λ r. ⌜ CallFor (lentCell c (now (si .entry))) (now (anchor .entry)) (now (other .entry)) g i outside
         (now (bits .entry)) wrong level r ⌝ }
 {
-    let v = cell::judged(c, anchor, other);
-    let q = npdsch::ready(v.no, c.config, g);
+    let v = cell::judged_lent(c, si, anchor, other);
+    let q = npdsch::ready(v.no, c, g);
     if q.no != 0 {
         return refused(q.no);
     }
@@ -126,6 +128,33 @@ fn outgoing(layout: Layout, first: u64, slot: u64, l: u64, k: u64) -> Outgoing
 }
 
 // One element of transmitted subframe i.
+pub fn element_lent(
+    c: CellConfig,
+    si: &[u64],
+    anchor: &[u8],
+    other: &[u8],
+    g: NpdschGrant,
+    i: u64,
+    slot: u64,
+    l: u64,
+    k: u64,
+    bits: &[u8],
+    level: f32,
+) -> Element
+    ensures { λ r. ⌜ r
+        ≡ elementAnswer (lentCell c (now (si .entry))) (now (anchor .entry)) (now (other .entry))
+        g i slot l k (now (bits .entry)) level ⌝ }
+{
+    let inside = (slot < Grid::SLOTS) & ((l < Grid::SYMBOLS) & (k < Grid::SUBCARRIERS));
+    let call = judged(c, si, anchor, other, g, i, !inside, bits, false, level);
+    if call.no != 0 {
+        return Element::Refused(call.no);
+    }
+    let o = outgoing(layout(c, call.v), call.first, slot, l, k);
+    symbol::answer(o, bits, level)
+}
+
+// The same on a cell, which lends its messages.
 pub fn element(
     c: Cell,
     anchor: &[u8],
@@ -141,11 +170,6 @@ pub fn element(
     ensures { λ r. ⌜ r
         ≡ elementAnswer c (now (anchor .entry)) (now (other .entry)) g i slot l k (now (bits .entry)) level ⌝ }
 {
-    let inside = (slot < Grid::SLOTS) & ((l < Grid::SYMBOLS) & (k < Grid::SUBCARRIERS));
-    let call = judged(c, anchor, other, g, i, !inside, bits, false, level);
-    if call.no != 0 {
-        return Element::Refused(call.no);
-    }
-    let o = outgoing(layout(c.config, call.v), call.first, slot, l, k);
-    symbol::answer(o, bits, level)
+    let si = subframes::numbers(c.messages);
+    element_lent(c.config, &si, anchor, other, g, i, slot, l, k, bits, level)
 }

@@ -1,30 +1,27 @@
-use Prim.Native.Nat.{_+_}
 use native.Mathlib.Omega.{arith}
-use lib.ListN.{length}
+use lib.ListN.{length, drop, length-drop}
 use borrow.Author.Needs.{needs}
-use borrow.Author.Tests.{lt-ltb, le-ltb}
-use Rattle.buffers.specs.Buffers.{messagesFrom}
+use borrow.Author.Tests.{lt-ltb}
+use Rattle.subframes.specs.Subframes.{messagesIn}
+use Rattle.buffers.proofs.Parts.{to-end}
 use Rattle.buffers.proofs.messages_from.Statement.{statement}
 use Rattle.buffers.proofs.messages_from.Tie as tie
 
 returns : tie.Need-returns
-unfolding messagesFrom
+unfolding messagesIn
 returns c =
     let a = c .before .before .before .args in
-    simp (c .none .ensures, lt-ltb (length (a .s .now)) (a .j + 15) (omega (arith, c .before .if1 .taken)))
-
-returns-2 : tie.Need-returns-2
-unfolding messagesFrom
-returns-2 c =
-    let a = c .before .before .before .before .args in
-    simp (c .none2 .ensures, lt-ltb (length (a .s .now)) (a .j + 15) (omega (arith, c .before .if2 .taken)))
-
-returns-3 : tie.Need-returns-3
-unfolding messagesFrom
-returns-3 c =
-    let a = c .before .before .before .before .args in
-    simp (c .messages-at .ensures, le-ltb (length (a .s .now)) (a .j + 15) (omega (arith, c .before .if2 .left)))
+    simp (c .none .ensures, lt-ltb (length (drop (a .j) (a .s .now))) 15 (omega (arith, c .before .if1 .taken, length-drop (a .j) (a .s .now))))
 
 pub messages-from-spec : {M : Type 1} → statement M
 messages-from-spec =
-    tie.close (tie.spec (λ c κs. tt) returns (λ c κs. tt) returns-2 (λ c κs. search needs) returns-3)
+    tie.close
+    (tie.spec
+    (λ c κs. tt)
+    returns
+    (λ c. search needs)
+    (λ c. c .if1 .left)
+    (λ c. c .if1 .left)
+    (λ c. search needs)
+    (λ c κs. tt)
+    (λ c. simp (c .messages-in .ensures, to-end)))

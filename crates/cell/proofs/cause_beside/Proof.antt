@@ -1,8 +1,10 @@
+use Rattle.cell.specs.Judge.{judgeOf, causeOf}
 use Rattle.cell.proofs.Judging.{cause-refused, cause-told}
 use Rattle.cell.proofs.cause_beside.Statement.{statement}
 use Rattle.cell.proofs.cause_beside.Tie as tie
 
 pub cause-beside-spec : {M : Type 1} → statement M
+unfolding judgeOf causeOf
 cause-beside-spec =
     tie.close
     (tie.spec

@@ -10,14 +10,16 @@ returns c = simp (← c .before .config-refusal .ensures, ne-eqb _ _ (c .if1 .ta
 returns-2 : tie.Need-returns-2
 unfolding formRefusal
 returns-2 c =
-    let e1 = c .before .before in
-    simp (← e1 .before .config-refusal .ensures, eq-eqb _ _ (e1 .if1 .left), ← c .before .are-listed .ensures, c .if2 .taken)
+    let m = c .before .before in
+    let e1 = m .before in
+    simp (← e1 .before .config-refusal .ensures, eq-eqb _ _ (e1 .if1 .left), ← m .messages-in .ensures, ← c .before .are-listed .ensures, c .if2 .taken)
 
 returns-3 : tie.Need-returns-3
 unfolding formRefusal
 returns-3 c =
-    let e1 = c .before .before in
-    simp (← e1 .before .config-refusal .ensures, eq-eqb _ _ (e1 .if1 .left), ← c .before .are-listed .ensures, c .if2 .left)
+    let m = c .before .before in
+    let e1 = m .before in
+    simp (← e1 .before .config-refusal .ensures, eq-eqb _ _ (e1 .if1 .left), ← m .messages-in .ensures, ← c .before .are-listed .ensures, c .if2 .left)
 
 pub form-refusal-spec : {M : Type 1} → statement M
-form-refusal-spec = tie.close (tie.spec (λ c κs. tt) returns (λ c κs. tt) returns-2 returns-3)
+form-refusal-spec = tie.close (tie.spec (λ c κs. tt) returns (λ c κs. tt) (λ c κs. tt) returns-2 returns-3)

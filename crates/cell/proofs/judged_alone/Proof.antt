@@ -1,14 +1,12 @@
-use mathlib.Core.Path.{sym, _∙_}
-use Rattle.cell.proofs.Judging.{refused-alone}
+use borrow.Author.Tests.{eq-eqb, ne-eqb}
 use Rattle.cell.proofs.judged_alone.Statement.{statement}
 use Rattle.cell.proofs.judged_alone.Tie as tie
-
-returns : tie.Need-returns
-returns c ms silent =
-    let t = c .before in
-    refused-alone _ _ ms silent _ (c .refused .ensures ∙ t .before .config-refusal .ensures) (λ z. t .if1 .taken (sym (c .refused .ensures) ∙ z))
 
 pub judged-alone-spec : {M : Type 1} → statement M
 judged-alone-spec =
     tie.close
-    (tie.spec (λ c κs. tt) (λ c κs. tt) returns (λ c κs. sym (c .before .config-refusal .ensures) ∙ c .if1 .left) (λ c. c .formed-alone .ensures))
+    (tie.spec
+    (λ c κs. tt)
+    (λ c ms silent. rw (eq-eqb _ _ (c .before .if1 .taken)) (c .judged-own .ensures ms silent))
+    (λ c κs. tt)
+    (λ c ms silent. rw (ne-eqb _ _ (c .before .if1 .left)) (c .judged-own2 .ensures ms silent)))

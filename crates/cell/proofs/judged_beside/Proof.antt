@@ -1,14 +1,12 @@
-use mathlib.Core.Path.{sym, _∙_}
-use Rattle.cell.proofs.Judging.{refused-form}
+use borrow.Author.Tests.{eq-eqb, ne-eqb}
 use Rattle.cell.proofs.judged_beside.Statement.{statement}
 use Rattle.cell.proofs.judged_beside.Tie as tie
-
-returns : tie.Need-returns
-returns c =
-    let t = c .before in
-    refused-form _ _ _ (c .refused .ensures ∙ t .before .form-refusal .ensures) (λ z. t .if1 .taken (sym (c .refused .ensures) ∙ z))
 
 pub judged-beside-spec : {M : Type 1} → statement M
 judged-beside-spec =
     tie.close
-    (tie.spec (λ c κs. tt) (λ c κs. tt) returns (λ c κs. sym (c .before .form-refusal .ensures) ∙ c .if1 .left) (λ c. c .formed .ensures))
+    (tie.spec
+    (λ c κs. tt)
+    (λ c. rw (eq-eqb _ _ (c .before .if1 .taken)) (c .judged-with .ensures))
+    (λ c κs. tt)
+    (λ c. rw (ne-eqb _ _ (c .before .if1 .left)) (c .judged-with2 .ensures)))

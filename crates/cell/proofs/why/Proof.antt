@@ -7,7 +7,7 @@ unfolding seen
 why-spec =
     tie.close
     (tie.spec
-    (λ c κs. c .pre)
+    (λ c κs. c .before .pre)
     (λ c. simp (← c .before .is-left .ensures, c .if1 .taken))
-    (λ c κs. c .before .before .pre .regular)
+    (λ c κs. c .before .before .before .pre .regular)
     (λ c. simp (← c .before .before .is-left .ensures, c .before .if1 .left, c .why-not .ensures)))

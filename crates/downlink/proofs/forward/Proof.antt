@@ -10,5 +10,5 @@ forward-spec =
     (tie.spec
     (λ c κs. tt)
     (λ c. c .refused-place .ensures ∙ sym (refused refusedPlace _ _ (c .before .if1 .taken)))
-    (λ c κs. let a = c .before .before in (a .pre .searchable (c .if1 .left), a .pre .fits (c .if1 .left)))
+    (λ c κs. let a = c .before .before .before in (a .pre .searchable (c .if1 .left), a .pre .fits (c .if1 .left)))
     (λ c. c .burst-forward .ensures ∙ sym (accepted refusedPlace _ _ (c .before .if1 .left))))

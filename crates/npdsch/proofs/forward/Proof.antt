@@ -1,19 +1,13 @@
-use mathlib.Core.Path.{_∙_}
-use Rattle.downlink.proofs.Cells.{forward-ready}
-use Rattle.npdsch.specs.Questions.{forwardOf}
-use Rattle.npdsch.proofs.Accepting.{question}
+use borrow.Author.Needs.{needs}
+use Rattle.subframes.specs.Subframes.{lent-again}
 use Rattle.npdsch.proofs.forward.Statement.{statement}
 use Rattle.npdsch.proofs.forward.Tie as tie
-
-returns : tie.Need-returns
-unfolding forwardOf
-returns c =
-    let r = c .before in
-    c .forward .ensures ∙ forward-ready _ _ _ _ _ _ _ (question _ _ _ _ (r .before .judged .result) (r .before .judged .ensures) (r .ready .result) (r .ready .ensures)) _
 
 pub forward-spec : {M : Type 1} → statement M
 forward-spec =
     tie.close
-    (tie.spec (λ c κs. tt) (λ c κs. tt)
-    (λ c κs. question _ _ _ _ (c .before .judged .result) (c .before .judged .ensures) (c .ready .result) (c .ready .ensures) .answerable)
-    returns)
+    (tie.spec
+    (λ c κs. tt)
+    (λ c. search needs)
+    (λ c κs. tt)
+    (λ c. rw (c .before .before .numbers .ensures, lent-again _) at (c .forward-lent .ensures)))

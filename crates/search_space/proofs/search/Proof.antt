@@ -1,5 +1,5 @@
-use mathlib.Core.Path.{sym, _∙_}
-use Rattle.search_space.proofs.Accepting.{by-cell, by-space, by-none}
+use borrow.Author.Needs.{needs}
+use Rattle.subframes.specs.Subframes.{lent-again}
 use Rattle.search_space.proofs.search.Statement.{statement}
 use Rattle.search_space.proofs.search.Tie as tie
 
@@ -8,21 +8,6 @@ search-spec =
     tie.close
     (tie.spec
     (λ c κs. tt)
+    (λ c. search needs)
     (λ c κs. tt)
-    (λ c.
-    let j = c .before .before .before .judged in
-    c .refused .ensures ∙ by-cell _ _ _ _ (j .result) (j .ensures) (c .before .if1 .taken))
-    (λ c κs. tt)
-    (λ c κs. tt)
-    (λ c.
-    let s = c .before .before in
-    let j = s .before .before .before .judged in
-    c .refused2 .ensures ∙ by-space _ _ _ _ (j .result) (j .ensures) _ (s .space-refusal .ensures) (s .before .if1 .left) (c .before .if2 .taken))
-    (λ c κs.
-    let s = c .before in
-    (s .before .before .before .judged .ensures .searchable (s .before .if1 .left), sym (s .space-refusal .ensures) ∙ c .if2 .left))
-    (λ c.
-    let s = c .before .before in
-    let j = s .before .before .before .judged in
-    c .monitored .ensures
-    ∙ by-none _ _ _ _ (j .result) (j .ensures) (s .before .if1 .left) (sym (s .space-refusal .ensures) ∙ c .before .if2 .left)))
+    (λ c. rw (c .before .before .numbers .ensures, lent-again _) at (c .search-lent .ensures)))

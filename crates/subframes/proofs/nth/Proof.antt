@@ -7,8 +7,10 @@ pub nth-spec : {M : Type 1} → statement M
 nth-spec =
     tie.close
     (tie.spec
-    (λ c κs. let q = c .before .pre in let y = c .if1 .taken in (q .0 .on .listed y, q .0 .on .regular, some-laid _ _ _ (q .0) y, q .1, q .2))
-    (λ c. rw (left-laid _ _ _ (c .before .if1 .taken)) (c .nth .ensures))
-    (λ c κs. let q = c .before .pre in (q .0 .on .regular, some-of-pattern _ _ _ (q .0) (c .if1 .left), q .1, q .2))
-    (λ c. let q = c .before .before .pre .0 in let n = c .before .if1 .left in
+    (λ c κs. tt)
+    (λ c κs. let q = c .before .before .before .pre in let y = c .before .if1 .taken in
+    rw (c .messages-in .ensures) (q .0 .on .listed y, q .0 .on .regular, some-laid _ _ _ (q .0) y, q .1, q .2))
+    (λ c. let b = c .before in rw (left-laid _ _ _ (b .before .if1 .taken), ← b .messages-in .ensures) (c .nth .ensures))
+    (λ c κs. let q = c .before .before .pre in (q .0 .on .regular, some-of-pattern _ _ _ (q .0) (c .if1 .left), q .1, q .2))
+    (λ c. let q = c .before .before .before .pre .0 in let n = c .before .if1 .left in
     rw (left-alone _ _ _ n) (c .nth2 .ensures ∙ select-alone _ (q .on .regular) (some-whole _ _ _ q n) _ _)))
