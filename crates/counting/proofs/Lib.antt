@@ -4,6 +4,7 @@ pub mod Range
 pub mod Rows
 pub mod Select
 pub mod Period
+pub mod Scan
 pub mod Ones
 pub mod Powers
 pub mod Listed

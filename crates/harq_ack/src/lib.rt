@@ -41,7 +41,7 @@ fn above_largest(g: HarqAckGrant) -> bool
 }
 
 // The number with which the grant is refused, or 0.
-fn judge(g: HarqAckGrant) -> u64
+pub fn judge(g: HarqAckGrant) -> u64
     ensures { λ r. ⌜ r ≡ fieldsRefusal g ⌝ }
 {
     let n = g.n;
@@ -92,7 +92,7 @@ fn reference(spacing: u64) -> u64
 }
 
 // The shape of an accepted grant.
-fn shape(g: HarqAckGrant) -> Shape
+pub fn shape(g: HarqAckGrant) -> Shape
     requires { ⌜ fieldsRefusal g ≡ 0 ⌝ }
     ensures { λ r. ⌜ r ≡ shapeOf g ⌝ }
 {

@@ -71,7 +71,7 @@ fn burst(c: CellConfig, g: NpdcchGrant) -> Burst
 }
 
 // The grant judged, after its cell's number.
-fn ready(cell: u64, c: CellConfig, g: NpdcchGrant) -> Ready
+pub fn ready(cell: u64, c: CellConfig, g: NpdcchGrant) -> Ready
     ensures { λ r. ⌜ Judged cell (grantRefusal g) (burstOf c g) r ⌝ }
 {
     if cell != 0 {

@@ -33,11 +33,17 @@ pub struct Windows {
 const SHORTEST: u64 = 40;
 
 // A multiple of every period, and above every start.
-const ALL_PERIODS: u64 = 2560;
+pub const ALL_PERIODS: u64 = 2560;
 
-const UNITS_OF_MS: u64 = 30_720;
+pub const UNITS_OF_MS: u64 = 30_720;
 
 const TONES: u64 = 12;
+
+// The refusals: a fifth window, a number that is not listed, or tones past 47; no group is ever free on the granted
+// tones.
+pub const NOT_LISTED: u64 = 19;
+
+pub const NEVER_FREE: u64 = 20;
 
 fn is_period(x: u64) -> bool
     ensures { λ r. ⌜ r ≡ isOneOf periods x ⌝ }
@@ -94,7 +100,7 @@ pub fn are_listed(ws: Windows) -> bool
 }
 
 // A window that is read has one of `tones` tones from `tone` on.
-fn concerns(tone: u64, tones: u64, read: bool, w: Window) -> bool
+pub fn concerns(tone: u64, tones: u64, read: bool, w: Window) -> bool
     requires { ⌜ (tone ≤ 48) × (tones ≤ 48) × (read ≡ true → isListed w ≡ true) ⌝ }
     ensures { λ r. ⌜ r ≡ (read && sharesTone tone tones w) ⌝ }
 {

@@ -40,7 +40,7 @@ fn above_largest(g: NpuschGrant) -> bool
 }
 
 // The number with which the grant is refused, or 0.
-fn judge(g: NpuschGrant) -> u64
+pub fn judge(g: NpuschGrant) -> u64
     ensures { λ r. ⌜ r ≡ fieldsRefusal g ⌝ }
 {
     let n = g.n;
@@ -62,7 +62,7 @@ fn judge(g: NpuschGrant) -> u64
 }
 
 // The shape of an accepted grant.
-fn shape(g: NpuschGrant) -> Shape
+pub fn shape(g: NpuschGrant) -> Shape
     requires { ⌜ fieldsRefusal g ≡ 0 ⌝ }
     ensures { λ r. ⌜ r ≡ shapeOf g ⌝ }
 {

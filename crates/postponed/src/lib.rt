@@ -10,12 +10,6 @@ use uplink::Shape;
 use uplink::UplinkPlace;
 use uplink::UplinkPlan;
 
-// A fifth window, a number that is not listed, or tones past 47.
-const NOT_LISTED: u64 = 19;
-
-// No group is ever free on the granted tones.
-const NEVER_FREE: u64 = 20;
-
 pub fn plan(spacing: u64, s: Shape, ws: Windows, size: u64, order: u64) -> UplinkPlan
     requires { ⌜ Fits s × AtSpacing spacing s ⌝ }
     ensures { λ r. ⌜ r ≡ planAnswer size order (questionBeside spacing s ws) ⌝ }
@@ -24,11 +18,11 @@ pub fn plan(spacing: u64, s: Shape, ws: Windows, size: u64, order: u64) -> Uplin
         return uplink::plan(s, size, order);
     }
     if !nprach::are_listed(ws) {
-        return uplink::refused_plan(NOT_LISTED);
+        return uplink::refused_plan(nprach::NOT_LISTED);
     }
     let nested = nprach::nested_closures(spacing, s.tone, s.tones, ws);
     if nested.clear == 0 {
-        return uplink::refused_plan(NEVER_FREE);
+        return uplink::refused_plan(nprach::NEVER_FREE);
     }
     uplink::plan_beside(s, nested, size, order)
 }
@@ -42,11 +36,11 @@ pub fn forward(spacing: u64, s: Shape, ws: Windows, p: u64) -> UplinkPlace
         return uplink::forward(s, p, at, uplink::slot_at(s, at.i));
     }
     if !nprach::are_listed(ws) {
-        return uplink::refused_place(NOT_LISTED);
+        return uplink::refused_place(nprach::NOT_LISTED);
     }
     let nested = nprach::nested_closures(spacing, s.tone, s.tones, ws);
     if nested.clear == 0 {
-        return uplink::refused_place(NEVER_FREE);
+        return uplink::refused_place(nprach::NEVER_FREE);
     }
     let at = uplink::taken_apart(s, p);
     uplink::forward(s, p, at, uplink::slot_at_beside(s, nested, at.i))
@@ -60,11 +54,11 @@ pub fn backward(spacing: u64, s: Shape, ws: Windows, slot: u64, l: u64, k: u64) 
         return uplink::backward(s, slot, uplink::locate(s, slot), l, k);
     }
     if !nprach::are_listed(ws) {
-        return sending::refused(NOT_LISTED);
+        return sending::refused(nprach::NOT_LISTED);
     }
     let nested = nprach::nested_closures(spacing, s.tone, s.tones, ws);
     if nested.clear == 0 {
-        return sending::refused(NEVER_FREE);
+        return sending::refused(nprach::NEVER_FREE);
     }
     uplink::backward(s, slot, uplink::locate_beside(s, nested, slot), l, k)
 }

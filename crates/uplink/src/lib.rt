@@ -18,6 +18,8 @@ use sending::Back;
 mod data;
 mod timing;
 
+pub use data::is_granted;
+pub use data::is_reference;
 pub use data::split as taken_apart;
 
 // Slots from `first` on, in blocks of sending with a gap after each; `tones` of the grid's `subcarriers` from `tone`

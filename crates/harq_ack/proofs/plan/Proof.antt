@@ -2,20 +2,19 @@ use mathlib.Core.Path.{sym, _∙_}
 use Rattle.sending.specs.Answer.{extentOf}
 use Rattle.uplink.specs.Answers.{refusedPlan, planShown}
 use Rattle.nprach.specs.Windows.{none}
-use Rattle.postponed.proofs.Beside.{refused-first, asked-alone}
+use Rattle.postponed.proofs.Beside.{asked-alone}
 use Rattle.harq_ack.specs.Refusals.{fieldsRefusal, refusal}
 use Rattle.harq_ack.specs.Shaping.{shapeOf}
 use Rattle.harq_ack.specs.Questions.{planOf}
 use Rattle.harq_ack.proofs.Accepting.{ready}
+use Rattle.harq_ack.proofs.Answered.{plan-refused}
 use Rattle.harq_ack.proofs.plan.Statement.{statement}
 use Rattle.harq_ack.proofs.plan.Tie as tie
 
 returns : tie.Need-returns
-unfolding planOf refusal shapeOf
 returns c =
     let j = c .before .before in
-    let a = j .before .args in
-    c .refused-plan .ensures ∙ refused-first (a .g .spacing) _ (fieldsRefusal (a .g)) (shapeOf (a .g)) (j .judge .ensures) refusedPlan (λ S. planShown 1 1 (extentOf S)) none (c .before .if1 .taken)
+    c .refused-plan .ensures ∙ plan-refused (j .before .args .g) none _ (j .judge .ensures) (c .before .if1 .taken)
 
 returns-2 : tie.Need-returns-2
 unfolding planOf refusal shapeOf

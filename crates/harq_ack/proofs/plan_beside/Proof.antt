@@ -1,29 +1,8 @@
 use mathlib.Core.Path.{sym, _∙_}
-use Rattle.sending.specs.Answer.{extentOf}
-use Rattle.uplink.specs.Answers.{refusedPlan, planShown}
-use Rattle.postponed.proofs.Beside.{refused-first, asked-beside}
-use Rattle.harq_ack.specs.Refusals.{fieldsRefusal, refusal}
-use Rattle.harq_ack.specs.Shaping.{shapeOf}
-use Rattle.harq_ack.specs.Questions.{planOf}
 use Rattle.harq_ack.proofs.Accepting.{ready}
+use Rattle.harq_ack.proofs.Answered.{plan-refused, plan-asked}
 use Rattle.harq_ack.proofs.plan_beside.Statement.{statement}
 use Rattle.harq_ack.proofs.plan_beside.Tie as tie
-
-returns : tie.Need-returns
-unfolding planOf refusal shapeOf
-returns c =
-    let j = c .before .before in
-    let a = j .before .args in
-    c .refused-plan .ensures ∙ refused-first (a .g .spacing) _ (fieldsRefusal (a .g)) (shapeOf (a .g)) (j .judge .ensures) refusedPlan (λ S. planShown 1 1 (extentOf S)) (a .ws) (c .before .if1 .taken)
-
-returns-2 : tie.Need-returns-2
-unfolding planOf refusal shapeOf
-returns-2 c =
-    let s = c .before in
-    let e = s .before in
-    let a = e .before .before .args in
-    c .plan .ensures
-    ∙ asked-beside (a .g .spacing) _ (fieldsRefusal (a .g)) (shapeOf (a .g)) (e .before .judge .ensures) refusedPlan (λ S. planShown 1 1 (extentOf S)) (e .if1 .left) _ (s .shape .ensures) (a .ws)
 
 pub plan-beside-spec : {M : Type 1} → statement M
 plan-beside-spec =
@@ -31,7 +10,14 @@ plan-beside-spec =
     (tie.spec
     (λ c κs. tt)
     (λ c κs. tt)
-    returns
+    (λ c.
+    let j = c .before .before in
+    let a = j .before .args in
+    c .refused-plan .ensures ∙ plan-refused (a .g) (a .ws) _ (j .judge .ensures) (c .before .if1 .taken))
     (λ c κs. sym (c .before .judge .ensures) ∙ c .if1 .left)
     (λ c κs. let e = c .before in ready _ _ (e .before .judge .ensures) (e .if1 .left) _ (c .shape .ensures))
-    returns-2)
+    (λ c.
+    let s = c .before in
+    let e = s .before in
+    let a = e .before .before .args in
+    c .plan .ensures ∙ plan-asked (a .g) (a .ws) _ (e .before .judge .ensures) (e .if1 .left) _ (s .shape .ensures)))

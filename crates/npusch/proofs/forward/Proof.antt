@@ -6,11 +6,12 @@ use Rattle.uplink.specs.Fits.{Fits}
 use Rattle.uplink.specs.Mapping.{sendingOf}
 use Rattle.uplink.specs.Answers.{refusedPlace, placeIn}
 use Rattle.nprach.specs.Windows.{none}
-use Rattle.postponed.proofs.Beside.{refused-first, asked-alone}
+use Rattle.postponed.proofs.Beside.{asked-alone}
 use Rattle.npusch.specs.Refusals.{fieldsRefusal, refusal}
 use Rattle.npusch.specs.Shaping.{shapeOf}
 use Rattle.npusch.specs.Questions.{forwardOf}
 use Rattle.npusch.proofs.Acceptance.{ready, subcarriers-own}
+use Rattle.npusch.proofs.Answered.{forward-refused}
 use Rattle.npusch.proofs.forward.Statement.{statement}
 use Rattle.npusch.proofs.forward.Tie as tie
 
@@ -18,11 +19,10 @@ fitting : (c : tie.After-shape) → Fits (c .shape .result)
 fitting c = ready _ _ (c .before .before .judge .ensures) (c .before .if1 .left) _ (c .shape .ensures) .0
 
 returns : tie.Need-returns
-unfolding forwardOf refusal shapeOf
 returns c =
     let j = c .before .before in
     let a = j .before .args in
-    c .refused-place .ensures ∙ refused-first (a .g .spacing) _ (fieldsRefusal (a .g)) (shapeOf (a .g)) (j .judge .ensures) refusedPlace (λ S. placeIn (uplinkSubcarriers (a .g .spacing)) S (a .p)) none (c .before .if1 .taken)
+    c .refused-place .ensures ∙ forward-refused (a .g) none _ (j .judge .ensures) (a .p) (c .before .if1 .taken)
 
 returns-2 : tie.Need-returns-2
 unfolding forwardOf refusal shapeOf

@@ -4,21 +4,20 @@ use Rattle.uplink.specs.Timing.{allOpen}
 use Rattle.uplink.specs.Mapping.{sendingOf}
 use Rattle.uplink.specs.Answers.{refusedPlan, planShown}
 use Rattle.nprach.specs.Windows.{none}
-use Rattle.postponed.proofs.Beside.{refused-first, asked-alone}
+use Rattle.postponed.proofs.Beside.{asked-alone}
 use Rattle.npusch.specs.declared.Sizes.{Sizes}
 use Rattle.npusch.specs.Refusals.{fieldsRefusal, refusal}
 use Rattle.npusch.specs.Shaping.{shapeOf, grantSize, grantOrder}
 use Rattle.npusch.specs.Questions.{planOf}
 use Rattle.npusch.proofs.Acceptance.{ready}
+use Rattle.npusch.proofs.Answered.{plan-refused}
 use Rattle.npusch.proofs.plan.Statement.{statement}
 use Rattle.npusch.proofs.plan.Tie as tie
 
 returns : tie.Need-returns
-unfolding planOf refusal shapeOf
 returns c =
     let j = c .before .before in
-    let a = j .before .args in
-    c .refused-plan .ensures ∙ refused-first (a .g .spacing) _ (fieldsRefusal (a .g)) (shapeOf (a .g)) (j .judge .ensures) refusedPlan (λ S. planShown (grantSize (a .g)) (grantOrder (a .g)) (extentOf S)) none (c .before .if1 .taken)
+    c .refused-plan .ensures ∙ plan-refused (j .before .args .g) none _ (j .judge .ensures) (c .before .if1 .taken)
 
 returns-2 : tie.Need-returns-2
 unfolding planOf refusal shapeOf

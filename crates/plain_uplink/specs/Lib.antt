@@ -1,0 +1,3 @@
+pub mod Obstacles
+pub mod Elements
+pub mod Places
