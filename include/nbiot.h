@@ -114,8 +114,8 @@ enum {
 /*
  * Random access windows, which postpone uplink slots: a count up to 4, then four windows; those past the count are not read, but
  * the buffer has all 17 numbers. Window i, from 0, has its numbers from NBIOT_WINDOWS_FIRST + i * NBIOT_WINDOW_NUMBERS on.
- * Each uplink function is here twice: by its plain name it knows no window; where the name ends in _windows they are lent, after
- * the grant or the walk. Lent a buffer of no numbers or a count of 0, that one answers what the plain one does.
+ * Each uplink function is here twice: by its short name it knows no window; where the name ends in _windows they are lent, after
+ * the grant or the walk. Lent a buffer of no numbers or a count of 0, that one answers what the short one does.
  */
 enum {
     NBIOT_WINDOW_PERIOD, /* 40, 80, 160, 320, 640, 1280 or 2560 ms */
@@ -403,6 +403,50 @@ uint64_t nbiot_step_control(uint64_t *walk, size_t walk_len,
                             const uint8_t *anchor, size_t anchor_len,
                             const uint8_t *other, size_t other_len,
                             uint64_t *answer, size_t answer_len);
+
+/*
+ * The plain engine, for acceptance tests: forward and step once more, by an engine that uses none of the quick search. It goes one subframe
+ * or slot at a time and keeps only that number and running counts, so that its time grows with the way to the position. On every input each
+ * of these functions returns, answers and leaves what the function without _plain does; an uplink one what the one that ends in _windows
+ * does, where windows of no numbers are no window.
+ */
+uint64_t nbiot_forward_up_plain(const uint64_t *grant, size_t grant_len,
+                                const uint64_t *windows, size_t windows_len, uint64_t p,
+                                uint64_t *answer, size_t answer_len);
+
+uint64_t nbiot_forward_ack_plain(const uint64_t *grant, size_t grant_len,
+                                 const uint64_t *windows, size_t windows_len, uint64_t p,
+                                 uint64_t *answer, size_t answer_len);
+
+uint64_t nbiot_forward_down_plain(const uint64_t *cell, size_t cell_len,
+                                  const uint8_t *anchor, size_t anchor_len,
+                                  const uint8_t *other, size_t other_len,
+                                  const uint64_t *grant, size_t grant_len, uint64_t p,
+                                  uint64_t *answer, size_t answer_len);
+
+uint64_t nbiot_forward_control_plain(const uint64_t *cell, size_t cell_len,
+                                     const uint8_t *anchor, size_t anchor_len,
+                                     const uint8_t *other, size_t other_len,
+                                     const uint64_t *grant, size_t grant_len, uint64_t p,
+                                     uint64_t *answer, size_t answer_len);
+
+uint64_t nbiot_step_up_plain(uint64_t *walk, size_t walk_len,
+                             const uint64_t *windows, size_t windows_len,
+                             uint64_t *answer, size_t answer_len);
+
+uint64_t nbiot_step_ack_plain(uint64_t *walk, size_t walk_len,
+                              const uint64_t *windows, size_t windows_len,
+                              uint64_t *answer, size_t answer_len);
+
+uint64_t nbiot_step_down_plain(uint64_t *walk, size_t walk_len,
+                               const uint8_t *anchor, size_t anchor_len,
+                               const uint8_t *other, size_t other_len,
+                               uint64_t *answer, size_t answer_len);
+
+uint64_t nbiot_step_control_plain(uint64_t *walk, size_t walk_len,
+                                  const uint8_t *anchor, size_t anchor_len,
+                                  const uint8_t *other, size_t other_len,
+                                  uint64_t *answer, size_t answer_len);
 
 /*
  * Where NPDCCH may start: the first start of the search space not before n, which need not be usable, and all candidates of format 1 from

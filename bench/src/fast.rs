@@ -1,5 +1,6 @@
 //! The questions in plain Rust, as fast as we can write them. Nothing is kept between calls: each call judges its cell and
-//! its grant. No loop runs over subframes or elements, but for the fill, which writes its numbers once.
+//! its grant. No loop runs over subframes or elements, but for the fill, which writes its numbers once, and for `plain`, the plain engine
+//! by hand.
 //! Cells, grants, windows and answers are in the order of include/nbiot.h. A cell is of 8 numbers, or of 23 with its messages, a walk's
 //! record of 15 more with them; which it is the compiler knows, so that a cell of 8 is asked nothing about messages.
 
@@ -11,6 +12,7 @@ mod elements;
 mod fill;
 mod left;
 mod messages;
+mod plain;
 mod search;
 mod timeline;
 mod timetable;
@@ -25,6 +27,7 @@ pub use elements::count;
 pub use downlink::{backward_control, backward_down, forward_control, forward_down, plan_control, plan_down, step_control, step_down};
 pub use fill::{element, fill};
 pub use messages::Messages;
+pub use plain::{forward_ack_plain, forward_control_plain, forward_down_plain, forward_up_plain};
 pub use search::search;
 pub use uplink::{
     backward_up, backward_up_windows, forward_up, forward_up_windows, plan_up, plan_up_windows, step_up, step_up_windows,

@@ -1,5 +1,6 @@
 //! The proved library beside hand-written Rust: times of each question, and how they grow. With the word `messages` cells with messages
-//! alone are timed. With the word `instructions` the library alone is called, for a count of its instructions.
+//! alone are timed, with the word `plain` the plain engine. With the word `instructions` the library alone is called, for a count of its
+//! instructions.
 
 mod broadcast;
 mod fast;
@@ -10,6 +11,7 @@ mod measure;
 mod messages;
 mod no_windows;
 mod ours;
+mod plain;
 mod questions;
 
 use broadcast::Broadcast;
@@ -18,6 +20,9 @@ use messages::{InputWithMessages, Schedules};
 
 const TIMED: usize = 512;
 const COMPARED: usize = 1 << 18;
+
+/// What the plain engine's inputs are drawn from.
+const PLAIN: u64 = 0x5851_f42d_4c95_7f2d;
 
 /// Accepted inputs, and the same with one port. Search spaces are drawn by a generator of their own.
 fn accepted(r: &mut Random, spaces: &mut Random) -> (Vec<Input>, Vec<Input>) {
@@ -46,6 +51,7 @@ fn times(mut r: Random, mut w: Random, mut m: Random, mut spaces: Random, mut b:
     growth::table(&mut r);
     growth::uplink_table(&mut w);
     growth::search_table(&mut spaces);
+    plain::table(&mut Random::new(PLAIN));
     messages_times(&mut m, &mut spaces, &mut b);
 }
 
@@ -92,9 +98,10 @@ fn main() {
     match words.iter().map(String::as_str).collect::<Vec<_>>()[..] {
         [] => times(r, w, m, spaces, b),
         ["messages"] => messages_times(&mut m, &mut spaces, &mut b),
+        ["plain"] => plain::table(&mut Random::new(PLAIN)),
         ["instructions"] => calls(r, w, spaces, b, "each"),
         ["instructions", part] => calls(r, w, spaces, b, part),
         ["instructions", "messages", part] => messages_calls(r, m, spaces, b, part),
-        _ => panic!("expected nothing, or: messages, or: instructions [PART], or: instructions messages PART"),
+        _ => panic!("expected nothing, or: messages, or: plain, or: instructions [PART], or: instructions messages PART"),
     }
 }

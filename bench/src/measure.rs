@@ -11,14 +11,20 @@ fn median(mut times: Vec<f64>) -> f64 {
 }
 
 /// Nanoseconds a call over all inputs, the median of many rounds, of ours and of fast by turns.
-pub fn versus<S, A, B>(
+pub fn versus<S, A, B>(inputs: &mut [S], ours: impl FnMut(&mut S) -> A, fast: impl FnMut(&mut S) -> B) -> (f64, f64) {
+    versus_in(ROUNDS, inputs, ours, fast)
+}
+
+/// The same in so many rounds.
+pub fn versus_in<S, A, B>(
+    rounds: usize,
     inputs: &mut [S],
     mut ours: impl FnMut(&mut S) -> A,
     mut fast: impl FnMut(&mut S) -> B,
 ) -> (f64, f64) {
     let (mut first, mut second) = (Vec::new(), Vec::new());
     let calls = inputs.len() as f64;
-    for _ in 0..ROUNDS {
+    for _ in 0..rounds {
         let start = Instant::now();
         for input in inputs.iter_mut() {
             black_box(&ours(black_box(input)));

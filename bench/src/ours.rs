@@ -15,6 +15,14 @@ extern "C" {
     fn nbiot_step_control(
         walk: *mut u64, walks: usize, anchor: *const u8, anchors: usize, other: *const u8, others: usize, answer: *mut u64, answers: usize,
     ) -> u64;
+    fn nbiot_step_up_plain(walk: *mut u64, walks: usize, windows: *const u64, lent: usize, answer: *mut u64, answers: usize) -> u64;
+    fn nbiot_step_ack_plain(walk: *mut u64, walks: usize, windows: *const u64, lent: usize, answer: *mut u64, answers: usize) -> u64;
+    fn nbiot_step_down_plain(
+        walk: *mut u64, walks: usize, anchor: *const u8, anchors: usize, other: *const u8, others: usize, answer: *mut u64, answers: usize,
+    ) -> u64;
+    fn nbiot_step_control_plain(
+        walk: *mut u64, walks: usize, anchor: *const u8, anchors: usize, other: *const u8, others: usize, answer: *mut u64, answers: usize,
+    ) -> u64;
     fn nbiot_fill(
         cell: *const u64, cells: usize, anchor: *const u8, anchors: usize, other: *const u8, others: usize,
         grant: *const u64, grants: usize, i: u64, bits: *const u8, bytes: usize, level: f32, output: *mut f32, outputs: usize,
@@ -84,6 +92,8 @@ downlink! {
     plan_control nbiot_plan_control () ControlGrant, 5;
     forward_down nbiot_forward_down (p) DownGrant, 6;
     forward_control nbiot_forward_control (p) ControlGrant, 6;
+    forward_down_plain nbiot_forward_down_plain (p) DownGrant, 6;
+    forward_control_plain nbiot_forward_control_plain (p) ControlGrant, 6;
     backward_down nbiot_backward_down (t, slot, l, k) DownGrant, 6;
     backward_control nbiot_backward_control (t, slot, l, k) ControlGrant, 6;
     search nbiot_search () SearchSpace, 48;
@@ -123,6 +133,29 @@ uplink! {
     forward_ack nbiot_forward_ack, forward_ack_windows nbiot_forward_ack_windows (p) AckGrant, 5;
     backward_up nbiot_backward_up, backward_up_windows nbiot_backward_up_windows (slot, l, k) UpGrant, 5;
     backward_ack nbiot_backward_ack, backward_ack_windows nbiot_backward_ack_windows (slot, l, k) AckGrant, 5;
+}
+
+/// Forward of the plain engine, beside the windows that are lent.
+macro_rules! plain {
+    ($($name:ident $extern:ident $grant:ty;)*) => {
+        extern "C" {
+            $(fn $extern(
+                grant: *const u64, grants: usize, windows: *const u64, lent: usize, p: u64, answer: *mut u64, answers: usize,
+            ) -> u64;)*
+        }
+        $(#[inline(always)]
+        pub fn $name(grant: &$grant, windows: &[u64], p: u64, answer: &mut [u64; 5]) -> u64 {
+            // SAFETY: the pointers and lengths are those of slices, and only `answer` is written.
+            unsafe {
+                $extern(grant.as_ptr(), grant.len(), windows.as_ptr(), windows.len(), p, answer.as_mut_ptr(), answer.len())
+            }
+        })*
+    };
+}
+
+plain! {
+    forward_up_plain nbiot_forward_up_plain UpGrant;
+    forward_ack_plain nbiot_forward_ack_plain AckGrant;
 }
 
 #[inline(always)]
@@ -174,6 +207,42 @@ pub fn step_control(walk: &mut [u64], anchor: &[u8], other: &[u8], answer: &mut 
     // SAFETY: as above; only `walk` and `answer` are written.
     unsafe {
         nbiot_step_control(
+            walk.as_mut_ptr(), walk.len(), anchor.as_ptr(), anchor.len(), other.as_ptr(), other.len(), answer.as_mut_ptr(), answer.len(),
+        )
+    }
+}
+
+#[inline(always)]
+pub fn step_up_plain(walk: &mut UpWalk, windows: &[u64], answer: &mut [u64; 7]) -> u64 {
+    // SAFETY: as above; only `walk` and `answer` are written.
+    unsafe {
+        nbiot_step_up_plain(walk.as_mut_ptr(), walk.len(), windows.as_ptr(), windows.len(), answer.as_mut_ptr(), answer.len())
+    }
+}
+
+#[inline(always)]
+pub fn step_ack_plain(walk: &mut AckWalk, windows: &[u64], answer: &mut [u64; 7]) -> u64 {
+    // SAFETY: as above; only `walk` and `answer` are written.
+    unsafe {
+        nbiot_step_ack_plain(walk.as_mut_ptr(), walk.len(), windows.as_ptr(), windows.len(), answer.as_mut_ptr(), answer.len())
+    }
+}
+
+#[inline(always)]
+pub fn step_down_plain(walk: &mut [u64], anchor: &[u8], other: &[u8], answer: &mut [u64; 7]) -> u64 {
+    // SAFETY: as above; only `walk` and `answer` are written.
+    unsafe {
+        nbiot_step_down_plain(
+            walk.as_mut_ptr(), walk.len(), anchor.as_ptr(), anchor.len(), other.as_ptr(), other.len(), answer.as_mut_ptr(), answer.len(),
+        )
+    }
+}
+
+#[inline(always)]
+pub fn step_control_plain(walk: &mut [u64], anchor: &[u8], other: &[u8], answer: &mut [u64; 7]) -> u64 {
+    // SAFETY: as above; only `walk` and `answer` are written.
+    unsafe {
+        nbiot_step_control_plain(
             walk.as_mut_ptr(), walk.len(), anchor.as_ptr(), anchor.len(), other.as_ptr(), other.len(), answer.as_mut_ptr(), answer.len(),
         )
     }

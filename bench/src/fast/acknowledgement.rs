@@ -8,15 +8,15 @@ const NARROW_DELAYS: [u8; 2] = [13, 21];
 const WIDE_DELAYS: [u8; 4] = [13, 15, 17, 18];
 
 /// An accepted grant; `copies` is a logarithm.
-struct Shape {
-    wide: u32,
-    first: u64,
-    tone: u64,
+pub(super) struct Shape {
+    pub(super) wide: u32,
+    pub(super) first: u64,
+    pub(super) tone: u64,
     copies: u32,
 }
 
 #[inline(always)]
-fn shape(grant: &AckGrant) -> Result<Shape, u64> {
+pub(super) fn shape(grant: &AckGrant) -> Result<Shape, u64> {
     let &[n, spacing, field, copies] = grant;
     if n > LAST_NPDSCH {
         return Err(9);
@@ -40,13 +40,13 @@ impl Shape {
     }
 
     #[inline(always)]
-    fn sent(&self) -> u64 {
+    pub(super) fn sent(&self) -> u64 {
         4 << self.copies
     }
 
     /// The first of the three reference symbols.
     #[inline(always)]
-    fn reference(&self) -> u64 {
+    pub(super) fn reference(&self) -> u64 {
         2 * self.wide as u64
     }
 }

@@ -12,8 +12,8 @@ const DELAYS: [[u32; 8]; 2] = [[0, 4, 8, 12, 16, 32, 64, 128], [0, 16, 32, 64, 1
 pub struct Burst<S> {
     subframes: S,
     pub layout: Layout,
-    from: u64,
-    skip: u64,
+    pub(super) from: u64,
+    pub(super) skip: u64,
     /// Subframes of the codeword, copies, and the logarithm of the copies sent in a row.
     pub length: u32,
     copies: u32,
@@ -46,7 +46,7 @@ pub fn down<S>(judged: Result<S, u64>, cell: &Cell, grant: &DownGrant) -> Result
 }
 
 #[inline(always)]
-fn control<S>(judged: Result<S, u64>, cell: &Cell, grant: &ControlGrant) -> Result<Burst<S>, u64> {
+pub(super) fn control<S>(judged: Result<S, u64>, cell: &Cell, grant: &ControlGrant) -> Result<Burst<S>, u64> {
     let subframes = judged?;
     let &[n, r, format, ncce] = grant;
     if n > LAST_SUBFRAME {

@@ -33,6 +33,12 @@ fn is_listed(period: u64, start: u64, length: u64, tone: u64) -> bool {
         && tone <= 36
 }
 
+/// Refusal 19 is not due: no windows, or up to four that are listed.
+pub(super) fn are_listed(windows: &[u64]) -> bool {
+    let Some((&count, rest)) = windows.split_first() else { return true };
+    count <= 4 && rest.chunks_exact(4).take(count as usize).all(|w| is_listed(w[0], w[1], w[2], w[3]))
+}
+
 /// A window that shares a tone, in whole groups: its period, its first millisecond from the first slot on, and how long it is.
 #[derive(Clone, Copy, Default)]
 struct Closed {

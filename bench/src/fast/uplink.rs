@@ -18,11 +18,11 @@ const ORDERS: [u8; 5] = [1, 1, 2, 2, 2];
 const TONES: [(u32, u32, u32); 4] = [(1, 4, 1024), (3, 3, 342), (6, 2, 171), (12, 1, 86)];
 
 /// An accepted grant. `slots` and `row` are logarithms, of the slots in a unit and of the groups sent in a row.
-struct Shape {
-    wide: u32,
-    first: u64,
-    tone: u32,
-    tones: u32,
+pub(super) struct Shape {
+    pub(super) wide: u32,
+    pub(super) first: u64,
+    pub(super) tone: u32,
+    pub(super) tones: u32,
     inverse: u32,
     length: u32,
     slots: u32,
@@ -31,7 +31,7 @@ struct Shape {
 }
 
 #[inline(always)]
-fn shape(grant: &UpGrant) -> Result<Shape, u64> {
+pub(super) fn shape(grant: &UpGrant) -> Result<Shape, u64> {
     let &[n, spacing, subcarrier, units, copies, delay, mcs] = grant;
     if n > LAST_SUBFRAME {
         return Err(9);
@@ -70,7 +70,7 @@ impl Shape {
     }
 
     #[inline(always)]
-    fn sent(&self) -> u32 {
+    pub(super) fn sent(&self) -> u32 {
         self.length << (self.slots + self.copies)
     }
 
@@ -88,7 +88,7 @@ impl Shape {
 
     /// The codeword slot that transmitted slot i carries.
     #[inline(always)]
-    fn carried(&self, i: u32) -> u32 {
+    pub(super) fn carried(&self, i: u32) -> u32 {
         let within = self.slots + self.row;
         let r = (i >> within) % self.length << within | i & ((1 << within) - 1);
         r >> (self.wide + self.row) << self.wide | r & self.wide

@@ -10,10 +10,11 @@ ghost use Rattle.subframes.specs.Subframes.{messagesIn};
 ghost use Rattle.symbol.specs.Outgoing.{numbersOf};
 ghost use Rattle.buffers.specs.Buffers.{configAt, cellIn, windowAt, windowsOf};
 ghost use Rattle.buffers.specs.Buffers.{npuschAt, harqAckAt, npdschAt, npdcchAt, searchSpaceAt};
+ghost use Rattle.buffers.specs.Buffers.{npuschWalk, harqAckWalk, npdschWalk, npdcchWalk};
 ghost use Rattle.buffers.specs.Buffers.{causeNumbers, countNumbers, uplinkPlanNumbers, downlinkPlanNumbers};
 ghost use Rattle.buffers.specs.Buffers.{uplinkPlaceNumbers, downlinkPlaceNumbers, backNumbers};
 ghost use Rattle.buffers.specs.Buffers.{downlinkBackNumbers, candidateNumbers, searchNumbers};
-ghost use Rattle.buffers.specs.Buffers.{Short2, Short3, ShortBeside, put, putMoved, putElement, placeAt};
+ghost use Rattle.buffers.specs.Buffers.{Short2, Short3, ShortBeside, put, putStepped, putMoved, putElement, placeAt};
 ghost use Rattle.buffers.specs.Buffers.{movedBy, endOf};
 use cell::CauseAnswer;
 use cell::Cell;
@@ -36,6 +37,9 @@ use sending::Back;
 use symbol::Element;
 use uplink::UplinkPlace;
 use uplink::UplinkPlan;
+use walk::Grant;
+use walk::Stepped;
+use walk::Walk;
 
 // The numbers of windows: the count, and four of four.
 const WINDOWS: usize = 17;
@@ -219,6 +223,80 @@ pub fn search_space_at(s: &[u64], i: usize) -> SearchSpace
         rmax: s[i + 1],
         g: s[i + 2],
         alpha: s[i + 3],
+    }
+}
+
+// ---- a walk's record
+
+// An uplink walk's cell, which is not looked at.
+fn no_cell() -> Cell
+    ensures { λ r. ⌜ r ≡ cellIn [] 0 8 ⌝ }
+{
+    let config = CellConfig {
+        mode: 0,
+        carrier: 0,
+        identity: 0,
+        nports: 0,
+        cports: 0,
+        control: 0,
+        sib1: 0,
+        bits: 0,
+    };
+    Cell {
+        config,
+        messages: messages::none(),
+    }
+}
+
+pub fn npusch_walk(walk: &[u64], windows: &[u64]) -> Walk
+    requires { ⌜ 8 ≤ length (now walk) ⌝ }
+    ensures { λ r. ⌜ r ≡ npuschWalk (now (walk .entry)) (now (windows .entry)) ⌝ }
+{
+    let cell = no_cell();
+    let grant = Grant::Npusch(npusch_at(walk, 1), windows_of(windows));
+    Walk {
+        cell,
+        grant,
+        p: walk[0],
+    }
+}
+
+pub fn harq_ack_walk(walk: &[u64], windows: &[u64]) -> Walk
+    requires { ⌜ 5 ≤ length (now walk) ⌝ }
+    ensures { λ r. ⌜ r ≡ harqAckWalk (now (walk .entry)) (now (windows .entry)) ⌝ }
+{
+    let cell = no_cell();
+    let grant = Grant::HarqAck(harq_ack_at(walk, 1), windows_of(windows));
+    Walk {
+        cell,
+        grant,
+        p: walk[0],
+    }
+}
+
+pub fn npdsch_walk(walk: &[u64]) -> Walk
+    requires { ⌜ 14 ≤ length (now walk) ⌝ }
+    ensures { λ r. ⌜ r ≡ npdschWalk (now (walk .entry)) ⌝ }
+{
+    let cell = cell_in(walk, 1, 14);
+    let grant = Grant::Npdsch(npdsch_at(walk, 9));
+    Walk {
+        cell,
+        grant,
+        p: walk[0],
+    }
+}
+
+pub fn npdcch_walk(walk: &[u64]) -> Walk
+    requires { ⌜ 13 ≤ length (now walk) ⌝ }
+    ensures { λ r. ⌜ r ≡ npdcchWalk (now (walk .entry)) ⌝ }
+{
+    let cell = cell_in(walk, 1, 13);
+    let grant = Grant::Npdcch(npdcch_at(walk, 9));
+    Walk {
+        cell,
+        grant,
+        p: walk[0],
     }
 }
 
@@ -437,4 +515,14 @@ pub fn put_step(
         return put7(s, 0, 1, 0, 0, 0, 0, 0);
     }
     put7(s, no, 0, 0, 0, 0, 0, 0)
+}
+
+// A step's answer, and the position after it.
+pub fn put_stepped(walk: &mut [u64], s: &mut [u64], x: Stepped) -> u64
+    requires { ⌜ (1 ≤ length (now walk)) × (7 ≤ length (now s)) ⌝ }
+    ensures { λ r. ⌜ (r, now (walk .exit), now (s .exit)) ≡ putStepped x (now (walk .entry)) (now (s .entry)) ⌝ }
+{
+    let a = x.answer;
+    walk[0] = x.walk.p;
+    put7(s, a.no, a.finished, a.t, a.slot, a.l, a.k, a.symbol)
 }

@@ -44,7 +44,15 @@ pub use broadcast::backward_sib1;
 pub use broadcast::forward_npbch;
 pub use broadcast::forward_sib1;
 
-// One step of a walk, the caller's record moved in place; and the same of a record by value.
+// Forward of the plain engine, which goes one subframe or slot at a time; of an uplink grant beside windows. Its answers
+// are the quick one's (`agreement`).
+pub use plain_downlink::forward_npdcch as forward_control_plain;
+pub use plain_downlink::forward_npdsch as forward_down_plain;
+pub use plain_uplink::forward_harq_ack as forward_ack_plain;
+pub use plain_uplink::forward_npusch as forward_up_plain;
+
+// One step of a walk, asked of the engine that is named, the caller's record moved in place; and the same of a record
+// by value.
 pub use inplace::step;
 pub use inplace::step_value;
 

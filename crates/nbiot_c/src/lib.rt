@@ -12,6 +12,7 @@ use harq_ack::HarqAckGrant;
 use npusch::NpuschGrant;
 use uplink::UplinkPlace;
 use uplink::UplinkPlan;
+use walk::Engine;
 
 const TOO_SHORT: u64 = 255;
 
@@ -725,4 +726,155 @@ pub extern "C" fn nbiot_element(
     let g = buffers::npdsch_at(grant, 0);
     let e = transmitted::element_lent(c, &cell[8..], anchor, other, g, i, slot, l, k, bits, level);
     buffers::put_element(answer, amplitudes, e)
+}
+
+// ---- the plain engine: the same answers, one subframe or slot at a time
+
+// Forward of NPUSCH format 1 beside windows.
+#[no_mangle]
+pub extern "C" fn nbiot_forward_up_plain(
+    grant: &[u64],
+    windows: &[u64],
+    p: u64,
+    answer: &mut [u64],
+) -> u64
+    ensures { λ r. ⌜ (r, now (answer .exit)) ≡ calls.forwardUp (now (grant .entry)) (now (windows .entry)) p (now (answer .entry)) ⌝ }
+{
+    if buffers::short_beside(windows, 7, 5, grant.len(), answer.len()) {
+        return TOO_SHORT;
+    }
+    let ws = buffers::windows_of(windows);
+    let a = nbiot::forward_up_plain(buffers::npusch_at(grant, 0), ws, p);
+    buffers::put_uplink_place(answer, a)
+}
+
+// One step of its walk beside windows.
+#[no_mangle]
+pub extern "C" fn nbiot_step_up_plain(walk: &mut [u64], windows: &[u64], answer: &mut [u64]) -> u64
+    ensures { λ r. ⌜ (r, now (walk .exit), now (answer .exit))
+        ≡ calls.stepUp (now (walk .entry)) (now (windows .entry)) (now (answer .entry)) ⌝ }
+{
+    if buffers::short_beside(windows, 8, 7, walk.len(), answer.len()) {
+        return TOO_SHORT;
+    }
+    let s = nbiot::step_value(buffers::npusch_walk(walk, windows), &[], &[], Engine::Plain);
+    buffers::put_stepped(walk, answer, s)
+}
+
+// Forward of an acknowledgement beside windows.
+#[no_mangle]
+pub extern "C" fn nbiot_forward_ack_plain(
+    grant: &[u64],
+    windows: &[u64],
+    p: u64,
+    answer: &mut [u64],
+) -> u64
+    ensures { λ r. ⌜ (r, now (answer .exit)) ≡ calls.forwardAck (now (grant .entry)) (now (windows .entry)) p (now (answer .entry)) ⌝ }
+{
+    if buffers::short_beside(windows, 4, 5, grant.len(), answer.len()) {
+        return TOO_SHORT;
+    }
+    let ws = buffers::windows_of(windows);
+    let a = nbiot::forward_ack_plain(buffers::harq_ack_at(grant, 0), ws, p);
+    buffers::put_uplink_place(answer, a)
+}
+
+// One step of its walk beside windows.
+#[no_mangle]
+pub extern "C" fn nbiot_step_ack_plain(walk: &mut [u64], windows: &[u64], answer: &mut [u64]) -> u64
+    ensures { λ r. ⌜ (r, now (walk .exit), now (answer .exit))
+        ≡ calls.stepAck (now (walk .entry)) (now (windows .entry)) (now (answer .entry)) ⌝ }
+{
+    if buffers::short_beside(windows, 5, 7, walk.len(), answer.len()) {
+        return TOO_SHORT;
+    }
+    let s = nbiot::step_value(
+        buffers::harq_ack_walk(walk, windows),
+        &[],
+        &[],
+        Engine::Plain,
+    );
+    buffers::put_stepped(walk, answer, s)
+}
+
+// Forward of NPDSCH.
+#[no_mangle]
+pub extern "C" fn nbiot_forward_down_plain(
+    cell: &[u64],
+    anchor: &[u8],
+    other: &[u8],
+    grant: &[u64],
+    p: u64,
+    answer: &mut [u64],
+) -> u64
+    ensures { λ r. ⌜ (r, now (answer .exit))
+        ≡ calls.forwardDown (now (cell .entry)) (now (anchor .entry)) (now (other .entry)) (now (grant .entry))
+        p (now (answer .entry)) ⌝ }
+{
+    if buffers::short3(8, 5, 6, cell.len(), grant.len(), answer.len()) {
+        return TOO_SHORT;
+    }
+    let c = buffers::cell_in(cell, 0, 8);
+    let g = buffers::npdsch_at(grant, 0);
+    let a = nbiot::forward_down_plain(c, anchor, other, g, p);
+    buffers::put_downlink_place(answer, a)
+}
+
+// One step of its walk.
+#[no_mangle]
+pub extern "C" fn nbiot_step_down_plain(
+    walk: &mut [u64],
+    anchor: &[u8],
+    other: &[u8],
+    answer: &mut [u64],
+) -> u64
+    ensures { λ r. ⌜ (r, now (walk .exit), now (answer .exit))
+        ≡ calls.stepDown (now (walk .entry)) (now (anchor .entry)) (now (other .entry)) (now (answer .entry)) ⌝ }
+{
+    if buffers::short2(14, 7, walk.len(), answer.len()) {
+        return TOO_SHORT;
+    }
+    let s = nbiot::step_value(buffers::npdsch_walk(walk), anchor, other, Engine::Plain);
+    buffers::put_stepped(walk, answer, s)
+}
+
+// Forward of NPDCCH.
+#[no_mangle]
+pub extern "C" fn nbiot_forward_control_plain(
+    cell: &[u64],
+    anchor: &[u8],
+    other: &[u8],
+    grant: &[u64],
+    p: u64,
+    answer: &mut [u64],
+) -> u64
+    ensures { λ r. ⌜ (r, now (answer .exit))
+        ≡ calls.forwardControl (now (cell .entry)) (now (anchor .entry)) (now (other .entry)) (now (grant .entry))
+        p (now (answer .entry)) ⌝ }
+{
+    if buffers::short3(8, 4, 6, cell.len(), grant.len(), answer.len()) {
+        return TOO_SHORT;
+    }
+    let c = buffers::cell_in(cell, 0, 8);
+    let g = buffers::npdcch_at(grant, 0);
+    let a = nbiot::forward_control_plain(c, anchor, other, g, p);
+    buffers::put_downlink_place(answer, a)
+}
+
+// One step of its walk.
+#[no_mangle]
+pub extern "C" fn nbiot_step_control_plain(
+    walk: &mut [u64],
+    anchor: &[u8],
+    other: &[u8],
+    answer: &mut [u64],
+) -> u64
+    ensures { λ r. ⌜ (r, now (walk .exit), now (answer .exit))
+        ≡ calls.stepControl (now (walk .entry)) (now (anchor .entry)) (now (other .entry)) (now (answer .entry)) ⌝ }
+{
+    if buffers::short2(13, 7, walk.len(), answer.len()) {
+        return TOO_SHORT;
+    }
+    let s = nbiot::step_value(buffers::npdcch_walk(walk), anchor, other, Engine::Plain);
+    buffers::put_stepped(walk, answer, s)
 }

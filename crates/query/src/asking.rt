@@ -1,5 +1,6 @@
 // The questions, asked of the values, and their answers put into the output.
 use crate::either;
+use crate::engines;
 use crate::picture;
 use questions::ANCHOR;
 use questions::DATA;
@@ -82,23 +83,9 @@ fn forward(k: Kind, v: &Values, anchor: &[u8], other: &[u8], out: &mut Page, at:
 {
     let p = v[P];
     match k {
-        Kind::Up => {
-            let x = nbiot::forward_up_beside(
-                questions::npusch_grant(v),
-                questions::windows_of(v),
-                p,
-            );
-            answers::put_uplink_place(x, out, at)
-        }
-        Kind::Ack => {
-            let x = nbiot::forward_ack_beside(
-                questions::harq_ack_grant(v),
-                questions::windows_of(v),
-                p,
-            );
-            answers::put_uplink_place(x, out, at)
-        }
-        _ => answers::put_downlink_place(either::forward(k, v, anchor, other, p), out, at),
+        Kind::Up => answers::put_uplink_place(engines::forward_up(v, p), out, at),
+        Kind::Ack => answers::put_uplink_place(engines::forward_ack(v, p), out, at),
+        _ => answers::put_downlink_place(engines::forward(k, v, anchor, other, p), out, at),
     }
 }
 
@@ -156,7 +143,12 @@ fn step(k: Kind, v: &mut Values, anchor: &[u8], other: &[u8], out: &mut Page, at
     requires { ⌜ at + 320 ≤ 65536 ⌝ }
     ensures { λ r. ⌜ r ≤ at + 320 ⌝ }
 {
-    let s = nbiot::step_value(questions::walk_of(k, v), anchor, other);
+    let s = nbiot::step_value(
+        questions::walk_of(k, v),
+        anchor,
+        other,
+        questions::engine_of(v),
+    );
     let answer = s.answer;
     let p = s.walk.p;
     v[P] = p;

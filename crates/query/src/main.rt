@@ -10,6 +10,7 @@ use text::Page;
 
 mod asking;
 mod either;
+mod engines;
 mod picture;
 
 // A page that holds more bytes than this is written before the next answer.

@@ -23,6 +23,7 @@ pub use values::Values;
 pub use values::cell_of;
 pub use values::codeword_subframes;
 pub use values::control_region;
+pub use values::engine_of;
 pub use values::front;
 pub use values::harq_ack_grant;
 pub use values::level_of;

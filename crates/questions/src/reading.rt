@@ -1,6 +1,7 @@
 // A line read: the question that it asks, or why it is none; and its values, kept.
 use crate::values::ANCHOR;
 use crate::values::DATA;
+use crate::values::ENGINE;
 use crate::values::LEVEL;
 use crate::values::NAMED;
 use crate::values::NAMES;
@@ -21,6 +22,8 @@ ghost use lib.ListN.{length};
 pub const LONGEST: usize = 4096;
 
 const LARGEST_ROOM: u64 = 1024;
+
+const LARGEST_ENGINE: u64 = 1;
 
 // The questions that want no kind stand first.
 const QUESTIONS: [[u8; 80]; 2] = [
@@ -135,7 +138,7 @@ fn read_number(name: usize, s: &[u8]) -> Word {
     match text::decimal(s) {
         Number::Bad => Word::Wrong(Fault::Number),
         Number::Value(x) => {
-            if (name == ROOM) & (x > LARGEST_ROOM) {
+            if ((name == ROOM) & (x > LARGEST_ROOM)) | ((name == ENGINE) & (x > LARGEST_ENGINE)) {
                 return Word::Wrong(Fault::Size);
             }
             Word::Number(name, x)

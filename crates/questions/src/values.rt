@@ -12,6 +12,7 @@ use nprach::Window;
 use nprach::Windows;
 use npusch::NpuschGrant;
 use search_space::SearchSpace;
+use walk::Engine;
 use walk::Grant;
 use walk::Walk;
 ghost use Prim.Native.Nat.{_+_, _≤_};
@@ -22,12 +23,12 @@ pub const NAMES: [[u8; 80]; 6] = [
     *b"n         delay     rmax      subframes copies    r         format    ncce      ",
     *b"g         alpha     spacing   subcarrierunits     mcs       field     windows   ",
     *b"siwindow  sioffset  messages  p         t         slot      l         k         ",
-    *b"i         room      level     anchor    other     data      w1        w2        ",
-    *b"w3        w4        m1        m2        m3        m4                            ",
+    *b"i         room      engine    level     anchor    other     data      w1        ",
+    *b"w2        w3        w4        m1        m2        m3        m4                  ",
 ];
 
 // How many names there are. The number of a name stands where its value is read.
-pub const NAMED: usize = 46;
+pub const NAMED: usize = 47;
 
 pub const P: usize = 27;
 
@@ -43,21 +44,23 @@ pub const I: usize = 32;
 
 pub const ROOM: usize = 33;
 
-pub const LEVEL: usize = 34;
+pub const ENGINE: usize = 34;
 
-pub const ANCHOR: usize = 35;
+pub const LEVEL: usize = 35;
 
-pub const OTHER: usize = 36;
+pub const ANCHOR: usize = 36;
 
-pub const DATA: usize = 37;
+pub const OTHER: usize = 37;
+
+pub const DATA: usize = 38;
 
 // At a buffer's row stands the count of its bytes; from the first window's row on stand four numbers of each window,
 // and then three of each schedule.
-pub type Values = [u64; 66];
+pub type Values = [u64; 67];
 
 // All 0, but the room and the messages' window.
 pub fn start() -> Values {
-    let mut v = [0u64; 66];
+    let mut v = [0u64; 67];
     v[ROOM] = 336;
     v[SIWINDOW] = 160;
     v
@@ -148,20 +151,20 @@ pub fn search_space_of(v: &Values) -> SearchSpace {
 
 const WINDOWS: usize = 23;
 
-const W1: usize = 38;
+const W1: usize = 39;
 
-pub const W4: usize = 41;
+pub const W4: usize = 42;
 
 // The place of a window's first number, by the row of its name.
 fn first_of(name: usize) -> usize
-    requires { ⌜ (38 ≤ name) × (name ≤ 41) ⌝ }
-    ensures { λ r. ⌜ r + 4 ≤ 54 ⌝ }
+    requires { ⌜ (39 ≤ name) × (name ≤ 42) ⌝ }
+    ensures { λ r. ⌜ r + 4 ≤ 55 ⌝ }
 {
     W1 + 4 * (name - W1)
 }
 
 fn window_of(name: usize, v: &Values) -> Window
-    requires { ⌜ (38 ≤ name) × (name ≤ 41) ⌝ }
+    requires { ⌜ (39 ≤ name) × (name ≤ 42) ⌝ }
 {
     let at = first_of(name);
     Window {
@@ -207,23 +210,23 @@ const SIOFFSET: usize = 25;
 
 const MESSAGES: usize = 26;
 
-const M1: usize = 42;
+const M1: usize = 43;
 
-const M4: usize = 45;
+const M4: usize = 46;
 
 // The place of the first schedule's numbers.
-const SCHEDULES: usize = 54;
+const SCHEDULES: usize = 55;
 
 // The place of a schedule's first number, by the row of its name.
 fn first_of_schedule(name: usize) -> usize
-    requires { ⌜ (42 ≤ name) × (name ≤ 45) ⌝ }
-    ensures { λ r. ⌜ r + 3 ≤ 66 ⌝ }
+    requires { ⌜ (43 ≤ name) × (name ≤ 46) ⌝ }
+    ensures { λ r. ⌜ r + 3 ≤ 67 ⌝ }
 {
     SCHEDULES + 3 * (name - M1)
 }
 
 fn schedule_of(name: usize, v: &Values) -> Schedule
-    requires { ⌜ (42 ≤ name) × (name ≤ 45) ⌝ }
+    requires { ⌜ (43 ≤ name) × (name ≤ 46) ⌝ }
 {
     let at = first_of_schedule(name);
     Schedule {
@@ -312,6 +315,14 @@ pub fn walk_of(k: Kind, v: &Values) -> Walk {
         grant,
         p: v[P],
     }
+}
+
+// The engine that forward and step of a grant ask.
+pub fn engine_of(v: &Values) -> Engine {
+    if v[ENGINE] == 0 {
+        return Engine::Quick;
+    }
+    Engine::Plain
 }
 
 // The bytes of a buffer that are in use.

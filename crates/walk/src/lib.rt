@@ -12,6 +12,12 @@ use nprach::Windows;
 use npusch::NpuschGrant;
 use uplink::UplinkPlace;
 
+// Who answers: the quick engine, or the plain one, which goes one subframe or slot at a time. Their answers are equal.
+pub enum Engine {
+    Quick,
+    Plain,
+}
+
 // An uplink grant stands beside the random access windows that it keeps clear of.
 pub enum Grant {
     Npusch(NpuschGrant, Windows),
@@ -101,8 +107,8 @@ fn finished_step() -> WalkPlace
     }
 }
 
-// What forward answers at p.
-pub fn forward(w: Walk, anchor: &[u8], other: &[u8]) -> WalkPlace
+// What forward answers at p, of the quick engine.
+fn forward_quick(w: Walk, anchor: &[u8], other: &[u8]) -> WalkPlace
     ensures { λ r. ⌜ r ≡ walkAt w (now (anchor .entry)) (now (other .entry)) ⌝ }
 {
     let p = w.p;
@@ -113,6 +119,31 @@ pub fn forward(w: Walk, anchor: &[u8], other: &[u8]) -> WalkPlace
         Grant::HarqAck(g, ws) => from_uplink(harq_ack::forward_beside(g, ws, p)),
         Grant::Npdsch(g) => from_downlink(npdsch::forward(c, anchor, other, g, p)),
         Grant::Npdcch(g) => from_downlink(npdcch::forward(c, anchor, other, g, p)),
+    }
+}
+
+// The same of the plain engine.
+fn forward_plain(w: Walk, anchor: &[u8], other: &[u8]) -> WalkPlace
+    ensures { λ r. ⌜ r ≡ walkAt w (now (anchor .entry)) (now (other .entry)) ⌝ }
+{
+    let p = w.p;
+    let c = w.cell;
+    let grant = w.grant;
+    match grant {
+        Grant::Npusch(g, ws) => from_uplink(plain_uplink::forward_npusch(g, ws, p)),
+        Grant::HarqAck(g, ws) => from_uplink(plain_uplink::forward_harq_ack(g, ws, p)),
+        Grant::Npdsch(g) => from_downlink(plain_downlink::forward_npdsch(c, anchor, other, g, p)),
+        Grant::Npdcch(g) => from_downlink(plain_downlink::forward_npdcch(c, anchor, other, g, p)),
+    }
+}
+
+// What forward answers at p.
+pub fn forward(w: Walk, anchor: &[u8], other: &[u8], engine: Engine) -> WalkPlace
+    ensures { λ r. ⌜ r ≡ walkAt w (now (anchor .entry)) (now (other .entry)) ⌝ }
+{
+    match engine {
+        Engine::Quick => forward_quick(w, anchor, other),
+        Engine::Plain => forward_plain(w, anchor, other),
     }
 }
 
@@ -160,22 +191,71 @@ fn plan_of(w: Walk, anchor: &[u8], other: &[u8]) -> Total
     }
 }
 
-// Whether p is the end, by plan.
-fn is_end(w: Walk, anchor: &[u8], other: &[u8]) -> bool
+// The same of the plain engine, which asks no plan.
+fn places_of(w: Walk, anchor: &[u8], other: &[u8]) -> Total
+    ensures { λ r. ⌜ (r .no ≡ askedOf w (now (anchor .entry)) (now (other .entry)) .no)
+        × (r .places ≡ askedOf w (now (anchor .entry)) (now (other .entry)) .places) ⌝ }
+{
+    let c = w.cell;
+    let grant = w.grant;
+    match grant {
+        Grant::Npusch(g, ws) => {
+            let a = plain_uplink::places_npusch(g, ws);
+            Total {
+                no: a.no,
+                places: a.places,
+            }
+        }
+        Grant::HarqAck(g, ws) => {
+            let a = plain_uplink::places_harq_ack(g, ws);
+            Total {
+                no: a.no,
+                places: a.places,
+            }
+        }
+        Grant::Npdsch(g) => {
+            let a = plain_downlink::places_npdsch(c, anchor, other, g);
+            Total {
+                no: a.no,
+                places: a.places,
+            }
+        }
+        Grant::Npdcch(g) => {
+            let a = plain_downlink::places_npdcch(c, anchor, other, g);
+            Total {
+                no: a.no,
+                places: a.places,
+            }
+        }
+    }
+}
+
+fn total_of(w: Walk, anchor: &[u8], other: &[u8], engine: Engine) -> Total
+    ensures { λ r. ⌜ (r .no ≡ askedOf w (now (anchor .entry)) (now (other .entry)) .no)
+        × (r .places ≡ askedOf w (now (anchor .entry)) (now (other .entry)) .places) ⌝ }
+{
+    match engine {
+        Engine::Quick => plan_of(w, anchor, other),
+        Engine::Plain => places_of(w, anchor, other),
+    }
+}
+
+// Whether p is the end.
+fn is_end(w: Walk, anchor: &[u8], other: &[u8], engine: Engine) -> bool
     ensures { λ r. ⌜ r ≡ isEnd (askedOf w (now (anchor .entry)) (now (other .entry))) (w .p) ⌝ }
 {
-    let t = plan_of(w, anchor, other);
+    let t = total_of(w, anchor, other, engine);
     (t.no == 0) & (w.p == t.places)
 }
 
 // The step at a position that forward refuses with a number.
-pub fn stopped(w: Walk, anchor: &[u8], other: &[u8], no: u64) -> WalkPlace
+pub fn stopped(w: Walk, anchor: &[u8], other: &[u8], engine: Engine, no: u64) -> WalkPlace
     ensures { λ r. ⌜ r ≡ stoppedAt (askedOf w (now (anchor .entry)) (now (other .entry))) (w .p) no ⌝ }
 {
     if no != sending::NO_SUCH_PLACE {
         return refused_step(no);
     }
-    if is_end(w, anchor, other) {
+    if is_end(w, anchor, other, engine) {
         return finished_step();
     }
     refused_step(no)

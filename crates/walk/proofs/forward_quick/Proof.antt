@@ -1,7 +1,7 @@
 use borrow.Author.Needs.{needs}
 use Rattle.walk.specs.Step.{asked}
-use Rattle.walk.proofs.forward.Statement.{statement}
-use Rattle.walk.proofs.forward.Tie as tie
+use Rattle.walk.proofs.forward_quick.Statement.{statement}
+use Rattle.walk.proofs.forward_quick.Tie as tie
 
 returns : tie.Need-returns
 unfolding asked
@@ -19,8 +19,8 @@ returns-4 : tie.Need-returns-4
 unfolding asked
 returns-4 c = simp (c .from-downlink2 .ensures, c .before .forward2 .ensures, c .before .before .before .grant4 .given .1)
 
-pub forward-spec : {M : Type 1} → statement M
-forward-spec =
+pub forward-quick-spec : {M : Type 1} → statement M
+forward-quick-spec =
     tie.close
     (tie.spec (λ c. search needs) (λ c κs. tt) (λ c κs. tt) (λ c. search needs) (λ c κs. tt) (λ c κs. tt) (λ c. search needs)
     (λ c κs. tt) (λ c κs. tt) (λ c. search needs) (λ c κs. tt) (λ c κs. tt) returns returns-2 returns-3 returns-4)
