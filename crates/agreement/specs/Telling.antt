@@ -1,4 +1,4 @@
--- Two answers compared.
+-- For the code alone. Two answers compared.
 use mathlib.Core.Bool.{Bool, true}
 use mathlib.Core.Path.{_≡_}
 

@@ -1,2 +1,3 @@
+-- Interface: `bytesOf`, `badBitmap`, `allowed`.
 pub mod Bitmap
 pub mod Quick

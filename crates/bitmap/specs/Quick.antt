@@ -1,4 +1,4 @@
--- What the quick code chooses: the bitmap as a number. No definition of 01 cites this file.
+-- For the code alone. What the quick code chooses: the bitmap as a number.
 use mathlib.Core.Bool.{true}
 use mathlib.Core.List.{List}
 use mathlib.Core.Path.{_≡_}

@@ -6,7 +6,8 @@ use Prim.Native.Nat.{ℕ, _≤_, _<_}
 use native.Mathlib.Omega.{arith}
 use lib.Dec.{ltb}
 use borrow.Author.Tests.{lt-ltb, le-ltb, ltb-false}
-use Rattle.buffers.specs.Buffers.{windowsShort, Short2, Short3, ShortBeside}
+use Rattle.buffers.specs.Buffers.{windowsShort}
+use Rattle.buffers.specs.Scaffold.{Short2, Short3, ShortBeside}
 
 never : {A : Type 0} → _≡_ {A = Bool} true false → A
 never h = let z : _≡_ {A = ℕ} 0 1 = cc in absurd (omega arith)

@@ -14,7 +14,8 @@ use Rattle.walk.specs.Quick.{walkAt, isEnd, stoppedAt}
 use Rattle.walk.proofs.Agreeing.{Agrees, agrees}
 use Rattle.walk.proofs.Moving.{answered, stops}
 use Rattle.walk.proofs.Steps.{next-small}
-use Rattle.buffers.specs.Buffers.{putMoved, putStepped, movedBy}
+use Rattle.buffers.specs.Buffers.{putStepped}
+use Rattle.buffers.specs.Scaffold.{putMoved, movedBy}
 
 module _ (q : Asked) (a : Agrees q) (p : ℕ) where
   -- where forward refuses

@@ -1,9 +1,8 @@
 -- Cells, grants and answers as buffers of numbers, in the order of include/nbiot.h, and what a call replies.
-use mathlib.Core.Bool.{Bool, cond, _&&_, _||_, false}
+use mathlib.Core.Bool.{Bool, cond, _&&_}
 use mathlib.Core.List.{List, [], _∷_, _++_}
-use mathlib.Core.Path.{_≡_}
-use Prim.Native.Nat.{ℕ, zero, suc, _+_, _≤_}
-use lib.Dec.{eqb, ltb}
+use Prim.Native.Nat.{ℕ, zero, suc, _+_}
+use lib.Dec.{ltb}
 use lib.Ieee.{Float}
 use lib.ListN.{length, getD, drop}
 use Rattle.subframes.specs.Subframes.{messagesIn}
@@ -30,7 +29,6 @@ use Rattle.walk.specs.declared.Grant.the-variants.{Npusch, HarqAck, Npdsch, Npd
 use Rattle.walk.specs.declared.Walk.{Walk}
 use Rattle.walk.specs.declared.WalkPlace.{WalkPlace}
 use Rattle.walk.specs.declared.Stepped.{Stepped}
-use Rattle.walk.specs.Step.{refusedStep, finishedStep, Moved, onward, unmoved}
 use Rattle.search_space.specs.declared.SearchSpace.{SearchSpace}
 use Rattle.search_space.specs.declared.Candidate.{Candidate}
 use Rattle.search_space.specs.declared.SearchAnswer.{SearchAnswer}
@@ -176,24 +174,6 @@ lacks n s = ltb (length s) n
 abbrev pub windowsShort : List ℕ → Bool
 windowsShort s = ltb 0 (length s) && lacks 17 s
 
--- r says that one of two or three buffers, of s, t and u numbers, has fewer than it needs
-pub record Short2 (m n s t : ℕ) (r : Bool) : Type 0 where
-  pub says : r ≡ (ltb s m || ltb t n)
-  pub first : r ≡ false → m ≤ s
-  pub last : r ≡ false → n ≤ t
-
-pub record Short3 (m n k s t u : ℕ) (r : Bool) : Type 0 where
-  pub says : r ≡ (ltb s m || (ltb t n || ltb u k))
-  pub first : r ≡ false → m ≤ s
-  pub middle : r ≡ false → n ≤ t
-  pub last : r ≡ false → k ≤ u
-
--- the same of two buffers and the windows
-pub record ShortBeside (windows : List ℕ) (m n s t : ℕ) (r : Bool) : Type 0 where
-  pub says : r ≡ (windowsShort windows || (ltb s m || ltb t n))
-  pub first : r ≡ false → m ≤ s
-  pub last : r ≡ false → n ≤ t
-
 -- ---- what a call returns, and its buffers afterwards
 
 -- this boundary's own number
@@ -215,22 +195,6 @@ putStep p a walk s = (a .no, laid (p ∷ []) walk, laid (stepNumbers a) s)
 abbrev pub putStepped : Stepped → List ℕ → List ℕ → ℕ × List ℕ × List ℕ
 putStepped x = putStep (x .walk .p) (x .answer)
 
-abbrev pub putMoved : Moved → List ℕ → List ℕ → ℕ × List ℕ × List ℕ
-putMoved m = putStep (m .p) (m .answer)
-
 -- an element's state laid, and its amplitudes
 abbrev pub putElement : ElementNumbers → List ℕ → List Float → ℕ × List ℕ × List Float
 putElement a s amplitudes = (a .no, laid (elementColumns a) s, laid (elementAmplitudes a) amplitudes)
-
--- ---- a step by forward's answer
-
-abbrev pub placeAt : ℕ → ℕ → ℕ → ℕ → ℕ → ℕ → WalkPlace
-placeAt refusal t slot l k symbol = record { no = refusal; finished = 0; t = t; slot = slot; l = l; k = k; symbol = symbol }
-
--- p moves on where forward answers; at the end the walk is finished; else forward's refusal
-abbrev pub movedBy : Bool → WalkPlace → ℕ → Moved
-movedBy end a p = cond (eqb (a .no) 0) (onward a p) (unmoved (cond end finishedStep (refusedStep (a .no))) p)
-
--- p is the end of a grant that is planned with a number and its places
-abbrev pub endOf : ℕ → ℕ → ℕ → Bool
-endOf refusal places p = eqb refusal 0 && eqb p places

@@ -14,8 +14,8 @@ ghost use Rattle.buffers.specs.Buffers.{npuschWalk, harqAckWalk, npdschW
 ghost use Rattle.buffers.specs.Buffers.{causeNumbers, countNumbers, uplinkPlanNumbers, downlinkPlanNumbers};
 ghost use Rattle.buffers.specs.Buffers.{uplinkPlaceNumbers, downlinkPlaceNumbers, backNumbers};
 ghost use Rattle.buffers.specs.Buffers.{downlinkBackNumbers, candidateNumbers, searchNumbers};
-ghost use Rattle.buffers.specs.Buffers.{Short2, Short3, ShortBeside, put, putStepped, putMoved, putElement, placeAt};
-ghost use Rattle.buffers.specs.Buffers.{movedBy, endOf};
+ghost use Rattle.buffers.specs.Buffers.{put, putStepped, putElement};
+ghost use Rattle.buffers.specs.Scaffold.{Short2, Short3, ShortBeside, putMoved, placeAt, movedBy, endOf};
 use cell::CauseAnswer;
 use cell::Cell;
 use cell::CellConfig;

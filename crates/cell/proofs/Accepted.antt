@@ -18,7 +18,7 @@ use Rattle.cell.specs.Bitmap.{ownBuffer, bitmapIn}
 use Rattle.cell.specs.Judge.{inBand, cellPortsListed, controlListed, portsDiffer, numbersRefusal, configRefusal, formRefusal, noneAllowed, noneUsable, useRefusal, cellRefusal, judgeOf, inForceOf}
 use Rattle.cell.specs.Layout.{layoutOf}
 use Rattle.cell.specs.Quick.{WellFormed}
-use Rattle.elements.specs.Elements.{Valid}
+use Rattle.elements.specs.Scaffold.{Valid}
 
 ports-by : (b : Bool) (p : ℕ) → cond b (eqb p 1 || (eqb p 2 || eqb p 4)) (eqb p 0) ≡ true → (p ≡ 0) ⊎ ((p ≡ 1) ⊎ ((p ≡ 2) ⊎ (p ≡ 4)))
 ports-by true p h =

@@ -11,7 +11,7 @@ use Rattle.counting.proofs.Range.{and-none}
 use Rattle.spans.specs.declared.Pattern.{Pattern}
 use Rattle.spans.specs.Pattern.{allows, periodOf, Regular}
 use Rattle.messages.specs.Messages.{allPeriods}
-use Rattle.subframes.specs.Subframes.{leftIn, Laid}
+use Rattle.subframes.specs.Scaffold.{leftIn, Laid}
 use Rattle.bitmap.specs.Bitmap.{allowed}
 use Rattle.bitmap.specs.Quick.{Loaded}
 use Rattle.messages.specs.declared.Messages.{Messages}

@@ -25,7 +25,7 @@ use Rattle.bitmap.proofs.Forty.{allowed-forty, allowed-front}
 use Rattle.sync.specs.Quick.{anchorPattern}
 use Rattle.sync.proofs.Taken.{taken, anchor-regular, anchor-allows}
 use Rattle.messages.specs.Messages.{remaining}
-use Rattle.subframes.specs.Subframes.{leftIn}
+use Rattle.subframes.specs.Scaffold.{leftIn}
 use Rattle.cell.specs.declared.CellConfig.{CellConfig}
 use Rattle.cell.specs.declared.Cell.{Cell}
 use Rattle.cell.specs.Bitmap.{bitmapIn}

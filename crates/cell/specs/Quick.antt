@@ -1,4 +1,4 @@
--- What the quick code chooses: the cell's masks, and the cause read off a mask. No definition of 01 or 02 cites this file.
+-- For the code alone. What the quick code chooses: the cell's masks, and the cause read off a mask.
 use mathlib.Core.Bool.{Bool, true, cond, not, _&&_}
 use mathlib.Core.List.{List}
 use mathlib.Core.Path.{_≡_}
@@ -11,7 +11,8 @@ use Rattle.spans.specs.Pattern.{span, maskBit, maskAt, allows, Regular}
 use Rattle.bitmap.specs.Quick.{BitmapFits, Loaded}
 use Rattle.messages.specs.declared.Messages.{Messages}
 use Rattle.messages.specs.Quick.{isSilent}
-use Rattle.subframes.specs.Subframes.{messagesIn, leftIn, Searchable}
+use Rattle.subframes.specs.Subframes.{messagesIn}
+use Rattle.subframes.specs.Scaffold.{leftIn, Searchable}
 use Rattle.cell.specs.declared.CellConfig.{CellConfig}
 use Rattle.cell.specs.declared.Cell.{Cell}
 use Rattle.cell.specs.declared.Cause.{Cause}

@@ -4,7 +4,8 @@ use mathlib.Core.Path.{_≡_, sym, ap, _∙_, subst}
 use Prim.Native.Nat.{ℕ, _+_, _-_, _*_, _/_, _^_, _≤_, _<_}
 use native.Mathlib.Nat.{div-le-self, div-mul-le-self, mod-lt, mod-eq-sub-div-mul, mul-le-mul, mul-le-mul-left}
 use native.Mathlib.Omega.{arith}
-use Rattle.counting.specs.Counting.{rank, select, Nth}
+use Rattle.counting.specs.Counting.{rank, select}
+use Rattle.counting.specs.Scaffold.{Nth}
 use Rattle.counting.proofs.Rank.{rank-le, rank-not, rank-mono}
 use Rattle.counting.proofs.Select.{nth-of}
 use Rattle.counting.proofs.Period.{rank-period, rank-periods, repeats-times, is-select}

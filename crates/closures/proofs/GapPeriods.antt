@@ -5,7 +5,8 @@ use Prim.Native.Nat.{ℕ, _+_, _-_, _%_, min, _^_, _≤_, _<_}
 use native.Mathlib.Nat.{mod-lt, mod-eq-of-lt, mod-add-mod, add-mod-right}
 use native.Mathlib.Omega.{arith}
 use borrow.Author.Tests.{lt-ltb, le-ltb}
-use Rattle.counting.specs.Counting.{rank, count, select, Nth}
+use Rattle.counting.specs.Counting.{rank, count, select}
+use Rattle.counting.specs.Scaffold.{Nth}
 use Rattle.counting.proofs.Rank.{rank-count, count-same, rank-none, rank-later}
 use Rattle.counting.proofs.Select.{select-within, nth-of}
 use Rattle.closures.specs.declared.Closure.{Closure}

@@ -1,4 +1,5 @@
--- Closures: each closes the first so many numbers of each of its periods. Free is what no closure closes.
+-- For the code alone. Closures: each closes the first so many numbers of each of its periods. Free is what no closure
+-- closes.
 use mathlib.Core.Bool.{Bool, not, _&&_}
 use Prim.Native.Nat.{ℕ, _+_, _%_}
 use lib.Dec.{ltb}

@@ -1,9 +1,10 @@
--- What the quick code works out on the way. No definition of 01 or 02 and no public contract cites this.
+-- For the code alone. What the quick code works out on the way.
 use mathlib.Core.Bool.{Bool, true, false, cond}
 use mathlib.Core.Path.{_≡_}
 use Prim.Native.Nat.{ℕ, _+_, _-_, _*_, _/_, _%_, min, max, _^_, _<_, _≤_}
 use lib.Dec.{eqb, leb}
-use Rattle.counting.specs.Counting.{rank, Nth}
+use Rattle.counting.specs.Counting.{rank}
+use Rattle.counting.specs.Scaffold.{Nth}
 use Rattle.closures.specs.declared.Closure.{Closure}
 use Rattle.closures.specs.declared.Closures.{Closures}
 use Rattle.closures.specs.declared.PeriodCount.{PeriodCount}

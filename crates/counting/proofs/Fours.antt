@@ -9,7 +9,8 @@ use lib.Dec.{T, lit<, eqb, ltb, eqb→eq, ltb→lt}
 use lib.Pow.{shr-shr}
 use borrow.Author.Tests.{lt-ltb}
 use Rattle.counting.specs.Counting.{rank}
-use Rattle.counting.specs.Bits.{bitAt, NthOne}
+use Rattle.counting.specs.Bits.{bitAt}
+use Rattle.counting.specs.Scaffold.{NthOne}
 use Rattle.counting.proofs.Facts.{each, each-at}
 use Rattle.counting.proofs.Ones.{low-digit, span-part, span-whole, ones-low}
 

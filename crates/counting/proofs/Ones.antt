@@ -13,7 +13,8 @@ use lib.Arith.{digits-lt}
 use lib.Pow.{mod-pow-add, mod-mod-pow, shr-shr, field, low, high, pow-mono, pow-add, pow-pos}
 use mir.Val.{boolByte}
 use Rattle.counting.specs.Counting.{rank, count}
-use Rattle.counting.specs.Bits.{bitAt, NthOne}
+use Rattle.counting.specs.Bits.{bitAt}
+use Rattle.counting.specs.Scaffold.{NthOne}
 use Rattle.counting.proofs.Facts.{order}
 use Rattle.counting.proofs.Rank.{rank-count, rank-suc, count-same, count-from-zero}
 

@@ -6,7 +6,8 @@ use Prim.Native.Nat.{ℕ, zero, suc, _+_, _-_, _*_, _/_, _%_, _≤_, _<_}
 use native.Mathlib.Nat.{add-zero, suc-add, zero-add, add-assoc, mod-lt, mod-add-div', zero-mul, suc-mul, mul-le-mul-left, sub-zero}
 use native.Mathlib.Omega.{arith}
 use mir.Val.{boolByte}
-use Rattle.counting.specs.Counting.{rank, count, next, select, amongFirst, Nth, Lists}
+use Rattle.counting.specs.Counting.{rank, count, next, select, amongFirst}
+use Rattle.counting.specs.Scaffold.{Nth, Lists}
 use Rattle.counting.proofs.Facts.{order}
 use Rattle.counting.proofs.Rank.{rank-zero, rank-suc, rank-yes, rank-count, rank-strict, rank-later, count-between, count-from-zero}
 use Rattle.counting.proofs.Select.{nth-of, nth-unique, next-is, among, among-parts, choice-rank}

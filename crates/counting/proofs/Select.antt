@@ -8,7 +8,8 @@ use native.Mathlib.Omega.{arith}
 use lib.Dec.{leb, ltb}
 use mir.Val.{boolByte}
 use borrow.Author.Tests.{le-leb, lt-ltb, leb-true, ltb-true}
-use Rattle.counting.specs.Counting.{rank, count, next, select, amongFirst, Nth, Lists}
+use Rattle.counting.specs.Counting.{rank, count, next, select, amongFirst}
+use Rattle.counting.specs.Scaffold.{Nth, Lists}
 use Rattle.counting.proofs.Facts.{order, byte-some, both, both-parts}
 use Rattle.counting.proofs.Rank.{rank-zero, rank-on, rank-yes, rank-no, rank-mono, rank-strict, rank-later, rank-unique, rank-none, count-from-zero}
 

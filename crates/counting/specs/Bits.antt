@@ -1,20 +1,13 @@
 -- The binary digits of a number, the lowest first.
-use mathlib.Core.Bool.{Bool, true, false, _||_}
+use mathlib.Core.Bool.{Bool, false, _||_}
 use lib.ListN.{getD}
 use mathlib.Core.List.{List}
-use mathlib.Core.Path.{_≡_}
 use Prim.Native.Nat.{ℕ, zero, suc, _/_, _%_, _^_, _-_}
 use lib.Dec.{eqb}
-use Rattle.counting.specs.Counting.{rank}
 
 -- digit i of m is 1
 abbrev pub bitAt : ℕ → ℕ → Bool
 bitAt m i = eqb (m / 2 ^ i % 2) 1
-
--- digit r of m is 1, and k of the digits below it are
-pub record NthOne (m k r : ℕ) : Type 0 where
-  pub set : bitAt m r ≡ true
-  pub before : rank (bitAt m) r ≡ k
 
 -- x is one of 2^0 to 2^(n - 1)
 abbrev pub powerBelow : ℕ → ℕ → Bool

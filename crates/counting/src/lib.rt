@@ -2,7 +2,7 @@
 ghost use mathlib.Core.Path.{_≡_};
 ghost use Prim.Native.Nat.{_/_, _%_, _^_, _<_};
 ghost use lib.Count.{ones};
-ghost use Rattle.counting.specs.Bits.{NthOne};
+ghost use Rattle.counting.specs.Scaffold.{NthOne};
 
 // How many digits of m are 1.
 pub fn ones_of(m: u64) -> u64

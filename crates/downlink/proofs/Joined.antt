@@ -16,7 +16,8 @@ use Rattle.sending.proofs.Answer.{inside-at}
 use Rattle.sending.proofs.Demand.{spot-path}
 use Rattle.elements.specs.declared.ElementUse.{ElementUse}
 use Rattle.elements.specs.declared.ElementUse.the-variants.{Used}
-use Rattle.elements.specs.Elements.{kindOf, used, countOf, elementAt, numberOf, elementUseOf}
+use Rattle.elements.specs.Elements.{kindOf, used, countOf, elementAt, numberOf}
+use Rattle.elements.specs.Scaffold.{elementUseOf}
 use Rattle.elements.proofs.Laws.{count-some, used-listed, use-used}
 use Rattle.downlink.specs.declared.Burst.{Burst}
 use Rattle.downlink.specs.Fits.{Fits}

@@ -1,7 +1,7 @@
--- The bounds that the questions on a burst require; whoever makes bursts shows them.
+-- For the code alone. The bounds that the questions on a burst require; whoever makes bursts shows them.
 use mathlib.Core.Path.{_≡_}
 use Prim.Native.Nat.{_%_, _^_, _≤_, _<_}
-use Rattle.elements.specs.Elements.{Valid, Part}
+use Rattle.elements.specs.Scaffold.{Valid, Part}
 use Rattle.downlink.specs.declared.Burst.{Burst}
 
 pub record Fits (b : Burst) : Type 0 where

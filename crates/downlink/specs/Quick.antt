@@ -1,4 +1,4 @@
--- What the code works out once it knows that a subframe is sent. No definition of 01 cites this file.
+-- For the code alone. What the code works out once it knows that a subframe is sent.
 use mathlib.Core.Bool.{Bool, cond}
 use mathlib.Core.List.{List}
 use mathlib.Core.Path.{_≡_}
@@ -13,7 +13,7 @@ use Rattle.cell.specs.Quick.{Shows, laysMessages}
 use Rattle.spans.specs.declared.Pattern.{Pattern}
 use Rattle.messages.specs.declared.Messages.{Messages}
 use Rattle.messages.specs.Messages.{allPeriods}
-use Rattle.subframes.specs.Subframes.{leftIn, Searchable}
+use Rattle.subframes.specs.Scaffold.{leftIn, Searchable}
 use Rattle.downlink.specs.declared.Burst.{Burst}
 use Rattle.downlink.specs.declared.Ready.{Ready}
 use Rattle.downlink.specs.Mapping.{sendingOf}

@@ -17,7 +17,8 @@ use Rattle.elements.specs.Elements.{ncceWidth}
 use Rattle.references.specs.Quick.{closedCount}
 use Rattle.elements.specs.declared.Layout.{Layout}
 use Rattle.elements.specs.declared.Spot.{Spot}
-use Rattle.elements.specs.Elements.{controlRegion, used, numberOf, Valid, Part}
+use Rattle.elements.specs.Elements.{controlRegion, used, numberOf}
+use Rattle.elements.specs.Scaffold.{Valid, Part}
 use Rattle.elements.specs.Quick.{rows, sumsOf, byteOf, sixBefore, freeOf, sixInRows, SpotOf}
 use Rattle.elements.proofs.Marked.{listed, listed-at, free-some, row-all}
 use Rattle.elements.proofs.Rows.{shut-whole, open-part}

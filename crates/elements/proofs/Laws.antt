@@ -6,7 +6,8 @@ use Prim.Native.Nat.{ℕ, _+_, _*_, _≤_, _<_}
 use native.Mathlib.Omega.{arith}
 use lib.Dec.{eqb, ltb, leb}
 use borrow.Author.Tests.{ltb-true, leb-true, le-leb, lt-ltb, ne-eqb}
-use Rattle.counting.specs.Counting.{rank, Lists, inRange}
+use Rattle.counting.specs.Counting.{rank, inRange}
+use Rattle.counting.specs.Scaffold.{Lists}
 use Rattle.counting.proofs.Facts.{order, both-parts, either-parts, not-true-is}
 use Rattle.counting.proofs.Range.{in-range}
 use Rattle.counting.proofs.Rank.{rank-le, rank-same, rank-strict}
@@ -16,7 +17,8 @@ use Rattle.elements.specs.Elements.{ncceWidth}
 use Rattle.elements.specs.declared.Layout.{Layout}
 use Rattle.elements.specs.declared.ElementUse.{ElementUse}
 use Rattle.elements.specs.declared.ElementUse.the-variants.{Used, Unused}
-use Rattle.elements.specs.Elements.{nrs, crs, reference, controlRegion, eligible, used, kindOf, countOf, elementAt, numberOf, elementUseOf, Part}
+use Rattle.elements.specs.Elements.{nrs, crs, reference, controlRegion, eligible, used, kindOf, countOf, elementAt, numberOf}
+use Rattle.elements.specs.Scaffold.{elementUseOf, Part}
 use Rattle.elements.proofs.Marked.{and-false}
 use Rattle.elements.proofs.Rows.{row-used}
 

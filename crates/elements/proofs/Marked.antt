@@ -14,7 +14,8 @@ use Rattle.references.specs.declared.Marks.{Marks}
 use Rattle.elements.specs.Elements.{ncceWidth}
 use Rattle.references.specs.Quick.{marksBy, marksOf}
 use Rattle.elements.specs.declared.Layout.{Layout}
-use Rattle.elements.specs.Elements.{nrsOn, nrs, crsOn, crs, reference, Valid, Part}
+use Rattle.elements.specs.Elements.{nrsOn, nrs, crsOn, crs, reference}
+use Rattle.elements.specs.Scaffold.{Valid, Part}
 use Rattle.elements.specs.Quick.{sumsOf, sixBefore, freeOf, isFree, nthIn, placeIn, referenceKind}
 
 pub and-false : (a : Bool) → (a && false) ≡ false

@@ -10,7 +10,8 @@ use Rattle.counting.proofs.Rank.{rank-count, count-from-zero, count-same, rank-
 use Rattle.counting.proofs.Select.{is-select-below}
 use Rattle.grid.specs.Grid.{subcarriers, symbols, slots, elements, elementOf, slotOf, symbolOf, subcarrierOf}
 use Rattle.elements.specs.declared.Layout.{Layout}
-use Rattle.elements.specs.Elements.{reference, controlRegion, eligible, used, kindOf, countOf, elementAt, numberOf, Valid}
+use Rattle.elements.specs.Elements.{reference, controlRegion, eligible, used, kindOf, countOf, elementAt, numberOf}
+use Rattle.elements.specs.Scaffold.{Valid}
 use Rattle.elements.specs.Quick.{isFree, referenceKind}
 use Rattle.elements.proofs.Marked.{marksIn, reference-marked, kind-marked, carries, Nth}
 

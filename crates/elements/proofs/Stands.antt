@@ -8,7 +8,8 @@ use Rattle.counting.specs.Counting.{inRange}
 use Rattle.grid.specs.Grid.{subcarriers, symbols, slots, elementOf}
 use Rattle.elements.specs.declared.Layout.{Layout}
 use Rattle.elements.specs.declared.ElementUse.the-variants.{Used, Unused}
-use Rattle.elements.specs.Elements.{reference, controlRegion, used, kindOf, numberOf, elementUseOf, Valid, Part}
+use Rattle.elements.specs.Elements.{reference, controlRegion, used, kindOf, numberOf}
+use Rattle.elements.specs.Scaffold.{elementUseOf, Valid, Part}
 use Rattle.elements.specs.Quick.{freeOf, isFree, placeIn, referenceKind, RowOf}
 use Rattle.elements.proofs.Marked.{and-false, marksIn, free-some, row-place, reference-marked}
 use Rattle.elements.proofs.Rows.{row-used, row-open, open-part, row-kind}

@@ -1,21 +1,11 @@
 -- The elements of a downlink subframe and those that carry data: 01 "Downlink elements", TS 36.211 clause 10.2.
 -- l is the symbol of the slot, k the subcarrier, x the number of an element in the subframe.
 use mathlib.Core.Bool.{Bool, not, cond, _&&_, _||_}
-use mathlib.Core.Path.{_≡_}
-use Prim.Native.Nat.{ℕ, _+_, _%_, _≤_, _<_}
+use Prim.Native.Nat.{ℕ, _+_, _%_}
 use lib.Dec.{eqb, ltb, leb}
 use Rattle.counting.specs.Counting.{rank, select, inRange}
-use Rattle.grid.specs.Grid.{subcarriers, elements, slotOf, symbolOf, subcarrierOf}
+use Rattle.grid.specs.Grid.{elements, slotOf, symbolOf, subcarrierOf}
 use Rattle.elements.specs.declared.Layout.{Layout}
-use Rattle.elements.specs.declared.ElementUse.{ElementUse}
-use Rattle.elements.specs.declared.ElementUse.the-variants.{Used, Unused}
-
--- every accepted cell has such a layout: v is the identity mod 6; 1 or 2 narrowband ports; 0, 1, 2 or 4 cell ports; control region 0 to 3
-pub record Valid (g : Layout) : Type 0 where
-  pub shift : g .v < 6
-  pub narrowband : (1 ≤ g .nports) × (g .nports ≤ 2)
-  pub cell : (g .cports ≤ 4) × (g .cports ≡ 3 → ⊥)
-  pub region : g .control ≤ 3
 
 -- ---- reference signals, in each slot, at every sixth subcarrier: near, k mod 6 = v, or far, k mod 6 = (v + 3) mod 6
 
@@ -89,19 +79,8 @@ elementAt g from width e = select (used g from width) elements 0 e
 abbrev pub numberOf : Layout → ℕ → ℕ → ℕ → ℕ
 numberOf g from width x = rank (used g from width) x
 
--- an element by its number where it is used, by its kind elsewhere
-unfoldable pub elementUseOf : Layout → ℕ → ℕ → ℕ → ElementUse
-elementUseOf g from width x = cond (used g from width x) (Used (numberOf g from width x)) (Unused (kindOf g x))
-
 -- ---- the parts that are used: NPDSCH uses all subcarriers, NPDCCH one NCCE or both (clause 10.2.5.1)
 
 -- NCCE 0 is k 0 to 5, NCCE 1 is k 6 to 11
 abbrev pub ncceWidth : ℕ
 ncceWidth = 6
-
--- one NCCE or both
-pub record Part (from width : ℕ) : Type 0 where
-  pub starts : from % ncceWidth ≡ 0
-  pub whole : width % ncceWidth ≡ 0
-  pub some : 0 < width
-  pub inside : from + width ≤ subcarriers

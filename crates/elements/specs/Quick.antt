@@ -1,4 +1,4 @@
--- What the quick code's own functions say. No definition of 01 cites this file.
+-- For the code alone. What the quick code's own functions say.
 use mathlib.Core.Bool.{Bool, not, cond, _&&_}
 use mathlib.Core.Path.{_≡_}
 use Prim.Native.Nat.{ℕ, _+_, _-_, _*_, _/_, _%_, _^_, _<_}

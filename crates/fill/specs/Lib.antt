@@ -1,3 +1,4 @@
+-- Interface: `outputOf`, `fillRefusal`.
 pub mod Refusals
 pub mod Fill
 pub mod Quick

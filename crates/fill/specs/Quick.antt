@@ -1,4 +1,4 @@
--- What the code writes row by row. No definition of 01 cites this file.
+-- For the code alone. What the code writes row by row.
 use mathlib.Core.Bool.{cond}
 use mathlib.Core.List.{List}
 use Prim.Native.Nat.{ℕ, _+_}

@@ -34,10 +34,7 @@ slotElements = symbols * subcarriers
 abbrev pub elements : ℕ
 elements = slots * slotElements
 
--- real and imaginary numbers of a slot and of a subframe
-abbrev pub slotNumbers : ℕ
-slotNumbers = 2 * slotElements
-
+-- real and imaginary numbers of a subframe
 abbrev pub numbers : ℕ
 numbers = 2 * elements
 

@@ -11,7 +11,7 @@ use Rattle.counting.proofs.Facts.{passed, after-first, either-parts, each, each
 use Rattle.grid.specs.Grid.{uplinkSubcarriers}
 use Rattle.grid.specs.Tables.{entry, uplinkCopies}
 use Rattle.grid.proofs.Rules.{parts, uplink-copies-bounds}
-use Rattle.uplink.specs.Timing.{allOpen}
+use Rattle.uplink.specs.Scaffold.{allOpen}
 use Rattle.uplink.specs.Fits.{Fits, OpenRepeats}
 use Rattle.numerology.proofs.Spacing.{first-bound, by-spacing-bounds, spaced}
 use Rattle.nprach.specs.Windows.{none}

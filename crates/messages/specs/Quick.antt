@@ -1,4 +1,4 @@
--- What the quick code asks first. No definition of 02 cites this file.
+-- For the code alone. What the quick code asks first.
 use mathlib.Core.Bool.{Bool, _&&_}
 use lib.Dec.{eqb, leb}
 use Rattle.counting.specs.Listed.{isOneOf}

@@ -12,7 +12,8 @@ use Rattle.cell.specs.declared.Cell.{Cell}
 use Rattle.cell.proofs.Accepted.{accepted-bitmap}
 use Rattle.cell.specs.Bitmap.{ownBuffer, bitmapIn}
 use Rattle.cell.specs.Judge.{judgeOf, inForceOf}
-use Rattle.nbiot_c.specs.Calls.{bitmapNumbers, partNamed}
+use Rattle.nbiot_c.specs.Calls.{bitmapNumbers}
+use Rattle.nbiot_c.specs.Scaffold.{partNamed}
 
 module _ (c : Cell) (anchor other : List ℕ) where
   pub refused-numbers : {no : ℕ} → no ≡ judgeOf c anchor other → (no ≡ 0 → ⊥) → (no ∷ 0 ∷ 0 ∷ []) ≡ bitmapNumbers c anchor other

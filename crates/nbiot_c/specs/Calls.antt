@@ -4,7 +4,7 @@ use mathlib.Core.List.{List, [], _∷_}
 use Prim.Native.Nat.{ℕ}
 use lib.Dec.{eqb}
 use lib.Ieee.{Float}
-use lib.ListN.{length, take, getD}
+use lib.ListN.{length}
 use Rattle.cell.specs.declared.CellConfig.{CellConfig}
 use Rattle.cell.specs.declared.Cell.{Cell}
 use Rattle.cell.specs.Judge.{judgeOf, inForceOf, causeOf}
@@ -43,10 +43,6 @@ judge cell anchor other = cond (lacks 8 cell) tooShort (judgeOf (cellIn cell 0 8
 abbrev pub bitmapNumbers : Cell → List ℕ → List ℕ → List ℕ
 bitmapNumbers c anchor other =
     judgeOf c anchor other ∷ cond (eqb (judgeOf c anchor other) 0) (c .config .carrier) 0 ∷ length (inForceOf c anchor other) ∷ []
-
--- the part that an answer names
-abbrev pub partNamed : List ℕ → List ℕ → List ℕ → List ℕ
-partNamed numbers anchor other = take (getD numbers 2 0) (cond (eqb (getD numbers 1 0) 0) anchor other)
 
 unfoldable pub bitmap : List ℕ → List ℕ → List ℕ → List ℕ → Reply
 bitmap cell anchor other answer =

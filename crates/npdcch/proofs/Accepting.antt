@@ -16,7 +16,8 @@ use Rattle.cell.specs.Bitmap.{ownBuffer, bitmapIn}
 use Rattle.cell.specs.Quick.{VerdictOn}
 use Rattle.cell.specs.Quick.{WellFormed}
 use Rattle.elements.proofs.Laws.{whole-part}
-use Rattle.elements.specs.Elements.{ncceWidth, Part}
+use Rattle.elements.specs.Elements.{ncceWidth}
+use Rattle.elements.specs.Scaffold.{Part}
 use Rattle.downlink.specs.declared.Ready.{Ready}
 use Rattle.downlink.specs.Fits.{Fits}
 use Rattle.downlink.specs.Quick.{Judged, ReadyFor}
@@ -24,7 +25,8 @@ use Rattle.grid.specs.Grid.{lastSubframe, subcarriers}
 use Rattle.cell.proofs.Accepted.{layout-valid}
 use Rattle.downlink.proofs.Judging.{fields-passed, question-ready}
 use Rattle.npdcch.specs.declared.NpdcchGrant.{NpdcchGrant}
-use Rattle.npdcch.specs.Refusals.{aboveLargest, grantRefusal, refusalOf}
+use Rattle.npdcch.specs.Refusals.{aboveLargest, grantRefusal}
+use Rattle.npdcch.specs.Scaffold.{refusalOf}
 use Rattle.npdcch.specs.Questions.{burstOf}
 use Rattle.npdcch.specs.Ncce.{firstSubcarrier, usedSubcarriers}
 

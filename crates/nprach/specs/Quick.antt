@@ -1,4 +1,4 @@
--- What the quick code works out: windows as closures. No definition of 01 or 02 and no public contract cites this.
+-- For the code alone. What the quick code works out: windows as closures.
 use mathlib.Core.Bool.{Bool, true, cond, _&&_}
 use mathlib.Core.List.{List, [], _∷_}
 use mathlib.Core.Path.{_≡_}

@@ -12,7 +12,7 @@ use Rattle.grid.proofs.Rules.{length-bounds, uplink-copies-bounds, uplink-delay
 use Rattle.numerology.specs.Numerology.{groupOf}
 use Rattle.numerology.proofs.Spacing.{first-bound, by-spacing-bounds, spaced}
 use Rattle.uplink.specs.declared.Shape.{Shape}
-use Rattle.uplink.specs.Timing.{allOpen}
+use Rattle.uplink.specs.Scaffold.{allOpen}
 use Rattle.uplink.specs.Fits.{Fits, OpenRepeats}
 use Rattle.nprach.specs.declared.Windows.{Windows}
 use Rattle.nprach.specs.Windows.{none}

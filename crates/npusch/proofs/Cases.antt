@@ -15,7 +15,8 @@ use Rattle.uplink.specs.Mapping.{codewordSymbols, sendingOf}
 use Rattle.sending.specs.Answer.{extentOf, placeAt}
 use Rattle.sending.proofs.Answer.{accepted, refused-as}
 use Rattle.uplink.specs.declared.UplinkPlan.{UplinkPlan}
-use Rattle.uplink.specs.Answers.{refusedPlan, planShown, refusedPlace, placeIn}
+use Rattle.uplink.specs.Answers.{refusedPlan, planShown, refusedPlace}
+use Rattle.uplink.specs.Scaffold.{placeIn}
 use Rattle.nprach.specs.declared.Windows.{Windows}
 use Rattle.nprach.specs.Windows.{none, isClear}
 use Rattle.nprach.proofs.Spaced.{none-refuses}

@@ -1,4 +1,4 @@
--- What the quick code takes a field apart into. No definition of 01 and no public contract cites this.
+-- For the code alone. What the quick code takes a field apart into.
 use mathlib.Core.Bool.{cond}
 use Prim.Native.Nat.{ℕ}
 use lib.Dec.{ltb}

@@ -1,1 +1,2 @@
+-- Interface: `bySpacing`, `slotsIn`, `firstAfter`, `groupOf`, `groupMs`, `narrowTones`.
 pub mod Numerology

@@ -1,4 +1,4 @@
--- Where a walk over a question judged ends: the plan's number and places.
+-- For the code alone. Where a walk over a question judged ends: the plan's number and places.
 use Prim.Native.Nat.{ℕ}
 use Rattle.sending.specs.Answer.{answerOf}
 use Rattle.downlink.specs.declared.Ready.{Ready}

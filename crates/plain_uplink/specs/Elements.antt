@@ -1,4 +1,4 @@
--- What going along a symbol's elements finds.
+-- For the code alone. What going along a symbol's elements finds.
 use mathlib.Core.Bool.{true}
 use mathlib.Core.Path.{_≡_}
 use Prim.Native.Nat.{ℕ, _+_, _*_, _≤_, _<_}

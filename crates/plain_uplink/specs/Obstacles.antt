@@ -1,4 +1,5 @@
--- Random access windows as a walk over slots asks them: 02 L4. `isClear` of nprach says the same of the windows.
+-- For the code alone. Random access windows as a walk over slots asks them: 02 L4. `isClear` of nprach says the same
+-- of the windows.
 use mathlib.Core.Bool.{Bool, true, false, cond, not, _&&_, _||_}
 use mathlib.Core.Path.{_≡_}
 use Prim.Native.Nat.{ℕ, _+_, _-_, _*_, _%_, _≤_, _<_}

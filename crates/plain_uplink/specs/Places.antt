@@ -1,4 +1,4 @@
--- Two of plan's numbers.
+-- For the code alone. Two of plan's numbers.
 use Rattle.uplink.specs.declared.UplinkPlan.{UplinkPlan}
 use Rattle.plain_uplink.specs.declared.Places.{Places}
 

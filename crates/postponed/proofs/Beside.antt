@@ -6,7 +6,8 @@ use native.Mathlib.Nat.{zero-add, mod-lt, mod-add-mod}
 use native.Mathlib.Omega.{arith}
 use lib.Dec.{T, eqb, ltb, eqb→eq, lit<}
 use borrow.Author.Tests.{lt-ltb, le-ltb, ne-eqb}
-use Rattle.counting.specs.Counting.{rank, next, Nth}
+use Rattle.counting.specs.Counting.{rank, next}
+use Rattle.counting.specs.Scaffold.{Nth}
 use Rattle.counting.proofs.Facts.{each, each-at}
 use Rattle.counting.proofs.Rank.{rank-zero, rank-same}
 use Rattle.counting.proofs.Select.{next-is}
@@ -19,7 +20,8 @@ use Rattle.sending.proofs.Answer.{answer-path, accepted-as, refused-as}
 use Rattle.uplink.specs.declared.Shape.{Shape}
 use Rattle.uplink.specs.Fits.{Fits, OpenRepeats}
 use Rattle.uplink.specs.Quick.{Parted, Searchable}
-use Rattle.uplink.specs.Timing.{allOpen, gapPeriod}
+use Rattle.uplink.specs.Timing.{gapPeriod}
+use Rattle.uplink.specs.Scaffold.{allOpen}
 use Rattle.uplink.specs.Mapping.{sendingOf}
 use Rattle.uplink.proofs.Leaving.{leaving-again, leaving-some}
 use Rattle.nprach.specs.declared.Windows.{Windows}

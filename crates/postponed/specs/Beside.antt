@@ -1,4 +1,4 @@
--- A shape beside random access windows: 02 L4.
+-- For the code alone. A shape beside random access windows: 02 L4.
 use mathlib.Core.Bool.{Bool}
 use mathlib.Core.Path.{_≡_}
 use Prim.Native.Nat.{ℕ, _≤_}

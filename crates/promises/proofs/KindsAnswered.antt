@@ -23,6 +23,7 @@ use Rattle.uplink.specs.Elements.{carriesReference}
 use Rattle.uplink.specs.Timing as timing
 use Rattle.uplink.specs.Mapping as mapping
 use Rattle.uplink.specs.Answers as uplink
+use Rattle.uplink.specs.Scaffold as uplinkScaffold
 use Rattle.downlink.specs.declared.Burst.{Burst}
 use Rattle.downlink.specs.declared.DownlinkBack.{DownlinkBack}
 use Rattle.downlink.specs.Mapping.{isSent, sendingOf}
@@ -75,7 +76,7 @@ module _ (q : Question) where
 
   uplink-kind : ((t x : ℕ) → q .sending .kind t x ≤ 1) → (T slot l k : ℕ) → uplink.backwardAnswer T q slot l k .kind ≤ 1
   uplink-kind h T slot l k =
-      answer-all refusedBack (λ (r : Back). r .kind ≤ 1) (λ m. omega arith) (q .no) (uplink.backIn T (q .sending) slot l k)
+      answer-all refusedBack (λ (r : Back). r .kind ≤ 1) (λ m. omega arith) (q .no) (uplinkScaffold.backIn T (q .sending) slot l k)
       (kind-most (q .sending) 1 h (uplink.insideGrid T l k) slot (uplinkElementOf T l k))
 
   channel-kind : ((t x : ℕ) → q .sending .kind t x ≤ 2) → (inside : Bool) (t x : ℕ) → backwardBy q inside t x .kind ≤ 2

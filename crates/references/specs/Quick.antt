@@ -1,4 +1,4 @@
--- What the quick code's own functions say of six subcarriers. No definition of 01 cites this file.
+-- For the code alone. What the quick code's own functions say of six subcarriers.
 use mathlib.Core.Bool.{Bool, cond, _||_}
 use Prim.Native.Nat.{ℕ, _+_, _-_, _*_}
 use lib.Dec.{eqb, ltb, leb}

@@ -12,7 +12,7 @@ use Rattle.counting.specs.Counting.{select}
 use Rattle.counting.proofs.Facts.{passed, chained, either-parts}
 use Rattle.grid.specs.Grid.{lastSubframe}
 use Rattle.grid.specs.Tables.{isRepetition}
-use Rattle.subframes.specs.Subframes.{leftIn}
+use Rattle.subframes.specs.Scaffold.{leftIn}
 use Rattle.cell.specs.declared.Cell.{Cell}
 use Rattle.cell.specs.declared.Verdict.{Verdict}
 use Rattle.cell.specs.Bitmap.{ownBuffer, bitmapIn}

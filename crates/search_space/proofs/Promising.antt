@@ -24,6 +24,7 @@ use Rattle.downlink.specs.Cells.{fieldsRefusal, questionRefusal}
 use Rattle.downlink.specs.Answers.{refusedPlan}
 use Rattle.downlink.specs.declared.DownlinkPlan.{DownlinkPlan}
 use Rattle.npdcch.specs.Refusals as npdcch
+use Rattle.npdcch.specs.Scaffold as npdcchScaffold
 use Rattle.npdcch.specs.Questions.{planOf}
 use Rattle.search_space.specs.declared.SearchSpace.{SearchSpace}
 use Rattle.search_space.specs.declared.SearchAnswer.{SearchAnswer}
@@ -71,14 +72,14 @@ module _ (c : Cell) (anchor other : List ℕ) (judged : judgeOf c anchor other �
         ap (λ (t : ℕ). select u period t i) (select-from u period again some start (x .u * x .r) 0 ∙ ap at (add-zero (x .u * x .r)))
         ∙ select-from u period again some start (x .u * x .r) i
 
-    granted : y .first ≤ lastSubframe → npdcch.refusalOf c anchor other (grantOf y) ≡ 0
+    granted : y .first ≤ lastSubframe → npdcchScaffold.refusalOf c anchor other (grantOf y) ≡ 0
     unfolding questionRefusal npdcch.grantRefusal fieldsRefusal
     granted h = rw (judged, le-ltb lastSubframe (y .first) h, r) refl
 
     pub planned-at : y .first ≤ lastSubframe → Planned (planOf c anchor other (grantOf y)) y
     unfolding planOf
     planned-at h =
-        let p = accepted refusedPlan (npdcch.refusalOf c anchor other (grantOf y)) _ (granted h) in
+        let p = accepted refusedPlan (npdcchScaffold.refusalOf c anchor other (grantOf y)) _ (granted h) in
         let e : x .u * x .r + (x .r * 1 - 1) ≡ x .u * x .r + x .r - 1 = omega (arith, repetition-bounds (x .r) r .0) in
         record {
           accepted = ap (λ (p : DownlinkPlan). p .no) p;

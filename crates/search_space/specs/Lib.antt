@@ -1,3 +1,4 @@
+-- Interface: `room`, `blank`, `SearchCases`, `SearchPromises`, `searchOf`.
 pub mod Starts
 pub mod Refusals
 pub mod Candidates

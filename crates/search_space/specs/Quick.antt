@@ -1,5 +1,5 @@
--- What the quick code chooses: Rmax cut into blocks of the smallest R, and rows that name each candidate's blocks. No
--- definition of 02 cites this file.
+-- For the code alone. What the quick code chooses: Rmax cut into blocks of the smallest R, and rows that name each
+-- candidate's blocks.
 use mathlib.Core.Bool.{cond}
 use mathlib.Core.List.{List, [], _∷_}
 use mathlib.Core.Path.{_≡_}

@@ -9,7 +9,7 @@ ghost use Rattle.grid.specs.Tables.{isRepetition};
 ghost use Rattle.spans.specs.Pattern.{allows, periodOf, Regular, OnesOf};
 ghost use Rattle.messages.specs.Messages.{allPeriods, areListed, remaining};
 ghost use Rattle.cell.specs.Quick.{lentCell};
-ghost use Rattle.subframes.specs.Subframes.{leftIn, Searchable};
+ghost use Rattle.subframes.specs.Scaffold.{leftIn, Searchable};
 ghost use Rattle.search_space.specs.Starts.{hyperframe, doubledPeriod, isStart};
 ghost use Rattle.search_space.specs.Refusals.{spaceRefusal};
 ghost use Rattle.search_space.specs.Candidates.{blank};

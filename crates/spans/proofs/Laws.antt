@@ -11,7 +11,8 @@ use lib.Pow.{pow-mono}
 use mir.Val.{boolByte}
 use borrow.Author.Tests.{le-leb, lt-leb, lt-ltb, le-ltb, eq-eqb, ne-eqb}
 use Rattle.counting.specs.Counting.{rank, count, select, amongFirst, inRange}
-use Rattle.counting.specs.Bits.{bitAt, NthOne}
+use Rattle.counting.specs.Bits.{bitAt}
+use Rattle.counting.specs.Scaffold.{NthOne}
 use Rattle.counting.proofs.Facts.{order, truth}
 use Rattle.counting.proofs.Rank.{rank-zero, rank-suc, rank-le, rank-mono, rank-strict, rank-later, rank-same, count-between}
 use Rattle.counting.proofs.Range.{in-range, below-range, above-range, and-none, rank-before, rank-inside, rank-after}

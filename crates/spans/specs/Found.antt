@@ -1,4 +1,4 @@
--- Where a subframe stands to a run of those that pass a test u that repeats after P.
+-- For the code alone. Where a subframe stands to a run of those that pass a test u that repeats after P.
 use mathlib.Core.Bool.{Bool, cond, not, _&&_}
 use Prim.Native.Nat.{ℕ, _-_}
 use lib.Dec.{ltb}

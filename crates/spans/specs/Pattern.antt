@@ -1,11 +1,12 @@
--- How the quick search sees the usable subframes: spans of forty with two masks. No definition of 01 cites this file; the cell's crate
+-- For the code alone. How the quick search sees the usable subframes: spans of forty with two masks. The cell's crate
 -- proves that the pattern it makes allows exactly the usable subframes.
 use mathlib.Core.Bool.{Bool, true, cond}
 use mathlib.Core.Path.{_≡_}
 use Prim.Native.Nat.{ℕ, _+_, _-_, _*_, _/_, _%_, _^_, _≤_, _<_}
 use lib.Count.{ones}
 use Rattle.counting.specs.Counting.{rank, inRange}
-use Rattle.counting.specs.Bits.{bitAt, NthOne}
+use Rattle.counting.specs.Bits.{bitAt}
+use Rattle.counting.specs.Scaffold.{NthOne}
 use Rattle.spans.specs.declared.Pattern.{Pattern}
 
 -- subframes of a span

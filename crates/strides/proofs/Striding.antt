@@ -8,7 +8,8 @@ use native.Mathlib.Omega.{arith}
 use mir.Val.{boolByte}
 use lib.Dec.{ltb}
 use borrow.Author.Tests.{lt-ltb, le-ltb, le-leb, ltb-true, ltb-false}
-use Rattle.counting.specs.Counting.{rank, count, Nth}
+use Rattle.counting.specs.Counting.{rank, count}
+use Rattle.counting.specs.Scaffold.{Nth}
 use Rattle.counting.proofs.Facts.{order}
 use Rattle.counting.proofs.Rank.{rank-count, count-same, count-between, rank-later}
 use Rattle.counting.proofs.Select.{nth-of}

@@ -1,4 +1,4 @@
--- What the quick code passes at once. No definition of 02 and no public contract cites this file.
+-- For the code alone. What the quick code passes at once.
 use mathlib.Core.Bool.{Bool, true, false, cond}
 use mathlib.Core.Path.{_≡_}
 use mathlib.Core.Logic.{_⊎_}

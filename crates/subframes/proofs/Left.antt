@@ -18,7 +18,7 @@ use Rattle.spans.specs.Found.{foundAmong}
 use Rattle.messages.specs.declared.Messages.{Messages}
 use Rattle.messages.specs.Messages.{allPeriods, remaining}
 use Rattle.messages.proofs.Repeating.{remaining-again}
-use Rattle.subframes.specs.Subframes.{leftIn, Laid, Searchable}
+use Rattle.subframes.specs.Scaffold.{leftIn, Laid, Searchable}
 
 -- 40,960 subframes are whole periods of a pattern
 whole-by : (k : ℕ) → k ≤ 4 → 2 ^ (10 - k) * (40 * 2 ^ k) ≡ allPeriods

@@ -1,10 +1,8 @@
 -- What goes out at an element, what a fill writes there and what is answered for it: 01 "Questions" (fill, one element).
-use mathlib.Core.Path.{_≡_}
 use mathlib.Core.List.{List}
-use Prim.Native.Nat.{ℕ, _*_, _<_}
+use Prim.Native.Nat.{ℕ}
 use lib.Ieee as Ieee
 use lib.Ieee.{Float, binary32}
-use lib.ListN.{length}
 use Rattle.symbol.specs.declared.Symbol.{Symbol}
 use Rattle.symbol.specs.declared.Outgoing.{Outgoing}
 use Rattle.symbol.specs.declared.Outgoing.the-variants.{Ours}
@@ -38,7 +36,3 @@ numbersOf (Refused refusal) = record { no = refusal; state = 0; re = plusZero; i
 numbersOf Element.Silent = record { no = 0; state = 0; re = plusZero; im = plusZero }
 numbersOf (Element.Reference kind) = record { no = 0; state = kind; re = plusZero; im = plusZero }
 numbersOf (Sent x y) = record { no = 0; state = 4; re = x; im = y }
-
--- a symbol that goes out has its bits
-pub record Within (bits : List ℕ) (o : Outgoing) : Type 0 where
-  pub has : (c : ℕ) → o ≡ Ours c → c < 4 * length bits

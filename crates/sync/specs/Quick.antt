@@ -1,4 +1,4 @@
--- What the quick code chooses: the anchor's masks, and those of what it broadcasts. No definition of 01 or 02 cites this file.
+-- For the code alone. What the quick code chooses: the anchor's masks, and those of what it broadcasts.
 use mathlib.Core.Bool.{cond, _&&_}
 use Prim.Native.Nat.{ℕ, _-_, _*_, _%_}
 use lib.Dec.{eqb}

@@ -1,4 +1,4 @@
--- A number from its decimal digits.
+-- For the code alone. A number from its decimal digits.
 use mathlib.Core.Bool.{Bool, true, cond, not, _&&_}
 use mathlib.Core.List.{List, [], _∷_}
 use Prim.Native.Nat.{ℕ, _+_, _*_, _-_}

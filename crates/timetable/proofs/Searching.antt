@@ -6,7 +6,8 @@ use Prim.Native.Nat.{ℕ, _+_, _-_, _*_, _/_, _%_, _^_, _≤_, _<_}
 use native.Mathlib.Nat.{mul-add, add-mul, one-mul, mul-zero, mod-lt, div-add-mod', mod-add-div'}
 use native.Mathlib.Omega.{arith}
 use lib.Dec.{leb}
-use Rattle.counting.specs.Counting.{rank, count, select, Nth}
+use Rattle.counting.specs.Counting.{rank, count, select}
+use Rattle.counting.specs.Scaffold.{Nth}
 use Rattle.counting.proofs.Facts.{order}
 use Rattle.counting.proofs.Rank.{rank-count, rank-le, rank-mono}
 use Rattle.counting.proofs.Select.{nth-of}

@@ -1,4 +1,4 @@
--- What the quick search works out on the way. No definition of 02 and no public contract cites this file.
+-- For the code alone. What the quick search works out on the way.
 use mathlib.Core.Bool.{Bool, true}
 use mathlib.Core.Path.{_≡_}
 use Prim.Native.Nat.{ℕ, _+_, _-_, _*_, _%_, _^_, _≤_, _<_}

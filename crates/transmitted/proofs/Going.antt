@@ -30,7 +30,7 @@ use Rattle.npdsch.specs.declared.NpdschGrant.{NpdschGrant}
 use Rattle.npdsch.specs.Questions.{burstOf}
 use Rattle.symbol.specs.declared.Outgoing.{Outgoing}
 use Rattle.symbol.specs.declared.Outgoing.the-variants.{Ours}
-use Rattle.symbol.specs.Outgoing.{Within}
+use Rattle.symbol.specs.Scaffold.{Within}
 use Rattle.transmitted.specs.GoesOut.{goesOut, outgoingOf}
 use Rattle.transmitted.specs.Quick.{goesIn, Prepared}
 

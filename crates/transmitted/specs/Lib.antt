@@ -1,3 +1,4 @@
+-- Interface: `elementAnswer`, `outgoingOf`, `callRefusal`, `elementRefusal`.
 pub mod GoesOut
 pub mod Refusals
 pub mod Element

@@ -1,4 +1,4 @@
--- What the code keeps of a judged call. No definition of 01 cites this file.
+-- For the code alone. What the code keeps of a judged call.
 use mathlib.Core.Bool.{Bool, cond}
 use mathlib.Core.List.{List}
 use mathlib.Core.Path.{_≡_}
@@ -9,7 +9,8 @@ use Rattle.grid.specs.Grid.{subcarriers}
 use Rattle.cell.specs.declared.Cell.{Cell}
 use Rattle.sending.specs.Sending.{Content}
 use Rattle.elements.specs.declared.Layout.{Layout}
-use Rattle.elements.specs.Elements.{Valid, kindOf, used, countOf, numberOf}
+use Rattle.elements.specs.Elements.{kindOf, used, countOf, numberOf}
+use Rattle.elements.specs.Scaffold.{Valid}
 use Rattle.cell.specs.Layout.{layoutOf}
 use Rattle.npdsch.specs.declared.NpdschGrant.{NpdschGrant}
 use Rattle.symbol.specs.declared.Outgoing.{Outgoing}

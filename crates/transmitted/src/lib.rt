@@ -2,7 +2,8 @@
 ghost use mathlib.Core.Path.{_≡_};
 ghost use Prim.Native.Nat.{_%_, _^_, _<_};
 ghost use Rattle.grid.specs.Grid.{subcarriers, symbols, slots, elementOf};
-ghost use Rattle.elements.specs.Elements.{Valid, countOf};
+ghost use Rattle.elements.specs.Elements.{countOf};
+ghost use Rattle.elements.specs.Scaffold.{Valid};
 ghost use Rattle.downlink.specs.Fits.{Fits};
 ghost use Rattle.cell.specs.Layout.{layoutOf};
 ghost use Rattle.cell.specs.Quick.{lentCell};

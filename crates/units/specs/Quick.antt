@@ -1,5 +1,4 @@
--- What the quick code counts: what each entry wants at the begin of a unit. No definition of 02 and no public contract
--- cites this file.
+-- For the code alone. What the quick code counts: what each entry wants at the begin of a unit.
 use mathlib.Core.Bool.{Bool, true, cond, _&&_}
 use mathlib.Core.Path.{_≡_}
 use Prim.Native.Nat.{ℕ, zero, suc, _+_, _-_, _*_, _/_, _%_, _^_, min, max, _≤_, _<_}

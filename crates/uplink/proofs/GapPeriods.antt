@@ -7,14 +7,16 @@ use native.Mathlib.Omega.{arith}
 use lib.Dec.{ltb}
 use lib.Arith.{digits-div, digits-mod}
 use borrow.Author.Tests.{lt-ltb, le-ltb}
-use Rattle.counting.specs.Counting.{rank, select, Lists}
+use Rattle.counting.specs.Counting.{rank, select}
+use Rattle.counting.specs.Scaffold.{Lists}
 use Rattle.counting.proofs.Rank.{rank-zero, rank-none, rank-same}
 use Rattle.counting.proofs.Range.{rank-all}
 use Rattle.counting.proofs.Select.{nth-of, lists-moved}
 use Rattle.counting.proofs.Period.{rank-split, repeats-times, some-of, is-select, lists-from-zero}
 use Rattle.uplink.specs.declared.Shape.{Shape}
 use Rattle.uplink.specs.Fits.{Fits, OpenRepeats}
-use Rattle.uplink.specs.Timing.{gapPeriod, gapPeriods, inBlock, groupAt, active, allOpen, period, sentSlots, slotAt, isSent, indexOf}
+use Rattle.uplink.specs.Timing.{gapPeriod, gapPeriods, inBlock, groupAt, active, period, sentSlots, slotAt, isSent, indexOf}
+use Rattle.uplink.specs.Scaffold.{allOpen}
 
 module _ (s : Shape) (some : 0 < s .block) where
   pub periods-repeat : (x : ℕ) → inBlock s (x + gapPeriod s) ≡ inBlock s x

@@ -9,7 +9,8 @@ use lib.Dec.{ltb, lit<}
 use lib.Arith.{digits-lt, digits-div, digits-mod, mod-mul}
 use mir.Val.{boolByte}
 use borrow.Author.Tests.{lt-ltb, le-ltb}
-use Rattle.counting.specs.Counting.{rank, next, select, Nth}
+use Rattle.counting.specs.Counting.{rank, next, select}
+use Rattle.counting.specs.Scaffold.{Nth}
 use Rattle.counting.proofs.Facts.{order}
 use Rattle.counting.proofs.Rank.{rank-zero, rank-count, count-same, count-from-zero, rank-not, rank-mono}
 use Rattle.counting.proofs.Range.{rank-all}

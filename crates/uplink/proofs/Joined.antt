@@ -21,9 +21,10 @@ use Rattle.uplink.specs.declared.UplinkPlace.{UplinkPlace}
 use Rattle.uplink.specs.Fits.{Fits}
 use Rattle.uplink.specs.Timing.{inBlock, groupAt, active, sentSlots, slotAt, isSent, indexOf}
 use Rattle.uplink.specs.Elements.{carriesData, carriesReference, slotData, numberOf}
-use Rattle.uplink.specs.Mapping.{places, sendingOf}
+use Rattle.uplink.specs.Mapping.{sendingOf}
+use Rattle.uplink.specs.Scaffold.{places, placeIn, backIn}
 use Rattle.uplink.specs.Quick.{splitOf}
-use Rattle.uplink.specs.Answers.{refusedPlace, placeOf, placeIn, backIn}
+use Rattle.uplink.specs.Answers.{refusedPlace, placeOf}
 
 -- ---- slots
 

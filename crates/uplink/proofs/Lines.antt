@@ -8,7 +8,8 @@ use native.Mathlib.Omega.{arith}
 use lib.Dec.{ltb}
 use mir.Val.{boolByte}
 use borrow.Author.Tests.{lt-ltb, ltb-true, leb-true}
-use Rattle.counting.specs.Counting.{rank, Lists}
+use Rattle.counting.specs.Counting.{rank}
+use Rattle.counting.specs.Scaffold.{Lists}
 use Rattle.counting.proofs.Facts.{order, both, both-parts, not-true-is}
 use Rattle.counting.proofs.Rank.{rank-zero, rank-same, rank-not}
 use Rattle.counting.proofs.Range.{in-range, below-range, above-range, rank-before, rank-inside, rank-after}

@@ -16,7 +16,8 @@ use Rattle.uplink.specs.declared.Shape.{Shape}
 use Rattle.uplink.specs.declared.Split.{Split}
 use Rattle.uplink.specs.declared.SentIndex.{SentIndex}
 use Rattle.uplink.specs.Fits.{Fits}
-use Rattle.uplink.specs.Timing.{gapPeriod, inBlock, active, allOpen, sentSlots, isSent, indexOf}
+use Rattle.uplink.specs.Timing.{gapPeriod, inBlock, active, sentSlots, isSent, indexOf}
+use Rattle.uplink.specs.Scaffold.{allOpen}
 use Rattle.uplink.specs.Elements.{slotData, elementAt}
 use Rattle.uplink.specs.Quick.{symbolOfLine, splitOf, amongSent, Located, ActiveIndex}
 use Rattle.uplink.proofs.Lines.{slot-data, some-data, symbol-first, symbol-second, subcarrier-is}

@@ -4,8 +4,8 @@ use Prim.Native.Nat.{ℕ}
 use lib.Dec.{ltb}
 use Rattle.grid.specs.Grid.{symbols, uplinkElementOf, uplinkSymbolOf, uplinkSubcarrierOf}
 use Rattle.sending.specs.declared.Back.{Back}
-use Rattle.sending.specs.Sending.{Sending, Spot}
-use Rattle.sending.specs.Answer.{Question, Extent, planBy, placeAt, forwardBy, backAt, backwardBy}
+use Rattle.sending.specs.Sending.{Spot}
+use Rattle.sending.specs.Answer.{Question, Extent, planBy, forwardBy, backwardBy}
 use Rattle.uplink.specs.declared.UplinkPlan.{UplinkPlan}
 use Rattle.uplink.specs.declared.UplinkPlace.{UplinkPlace}
 
@@ -32,18 +32,12 @@ placeOf T spot = record {
   symbol = spot .symbol;
 }
 
-abbrev pub placeIn : ℕ → Sending → ℕ → UplinkPlace
-placeIn T S p = placeAt refusedPlace (placeOf T) S p
-
 abbrev pub forwardAnswer : ℕ → Question → ℕ → UplinkPlace
 forwardAnswer T = forwardBy refusedPlace (placeOf T)
 
 -- what stands at symbol l and subcarrier k of a slot, whichever slot
 abbrev pub insideGrid : ℕ → ℕ → ℕ → Bool
 insideGrid T l k = ltb l symbols && ltb k T
-
-abbrev pub backIn : ℕ → Sending → ℕ → ℕ → ℕ → Back
-backIn T S slot l k = backAt S (insideGrid T l k) slot (uplinkElementOf T l k)
 
 abbrev pub backwardAnswer : ℕ → Question → ℕ → ℕ → ℕ → Back
 backwardAnswer T q slot l k = backwardBy q (insideGrid T l k) slot (uplinkElementOf T l k)

@@ -1,4 +1,5 @@
--- The bounds of a shape that the questions on it require, and what the windows must leave of it; whoever makes shapes shows them.
+-- For the code alone. The bounds of a shape that the questions on it require, and what the windows must leave of it;
+-- whoever makes shapes shows them.
 use mathlib.Core.Bool.{Bool}
 use mathlib.Core.Path.{_≡_}
 use Prim.Native.Nat.{ℕ, _+_, _*_, _/_, _%_, _^_, _≤_, _<_}

@@ -23,9 +23,6 @@ sendingOf s isOpen = record {
   copies = s .copies;
 }
 
--- symbols of the codeword, and places: each copy has every symbol once
+-- symbols of the codeword
 abbrev pub codewordSymbols : Shape → ℕ
 codewordSymbols s = s .codeword * slotData s
-
-abbrev pub places : Shape → ℕ
-places s = sentSlots s * slotData s

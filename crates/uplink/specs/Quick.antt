@@ -1,4 +1,4 @@
--- What the quick code takes apart. No definition of 01 cites this.
+-- For the code alone. What the quick code takes apart.
 use mathlib.Core.Bool.{Bool, true, cond, not, _&&_}
 use mathlib.Core.Path.{_≡_}
 use Prim.Native.Nat.{ℕ, _+_, _-_, _*_, _/_, _%_, _<_}

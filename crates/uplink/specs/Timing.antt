@@ -1,5 +1,5 @@
 -- When an uplink grant sends: TS 36.211 clause 10.1.3.6; 01 "Uplink grants", 02 L4.
-use mathlib.Core.Bool.{Bool, true, _&&_}
+use mathlib.Core.Bool.{Bool, _&&_}
 use Prim.Native.Nat.{ℕ, _+_, _-_, _*_, _/_, _%_}
 use lib.Dec.{leb, ltb}
 use Rattle.counting.specs.Counting.{rank, select, amongFirst}
@@ -21,14 +21,12 @@ groupAt s slot = slot / s .group
 unfoldable pub active : Shape → (ℕ → Bool) → ℕ → Bool
 active s isOpen x = inBlock s x && isOpen (groupAt s (s .first + x))
 
--- where there is no window, every group is open
-abbrev pub allOpen : ℕ → Bool
-allOpen u = true
-
 -- after so many gap periods of 296 ms the same slots may be sent again: 320 of them are 37 times 2,560 ms, and each window's period divides that
 abbrev pub gapPeriods : ℕ
 gapPeriods = 320
 
+-- after so many slots the same may be sent again: 320 gap periods of 296 ms are 37 times 2,560 ms, and each window's
+-- period divides that
 abbrev pub period : Shape → ℕ
 period s = gapPeriods * gapPeriod s
 

@@ -18,6 +18,7 @@ use Rattle.uplink.specs.declared.UplinkPlan.{UplinkPlan}
 use Rattle.uplink.specs.Fits as uplinkFits
 use Rattle.uplink.specs.Answers as uplink
 use Rattle.uplink.specs.Mapping as uplinkMapping
+use Rattle.uplink.specs.Scaffold as uplinkScaffold
 use Rattle.uplink.proofs.Joined as uplinkJoined
 use Rattle.uplink.proofs.Lines.{slot-data-small}
 use Rattle.downlink.specs.declared.Burst.{Burst}
@@ -90,7 +91,7 @@ downlink-agrees q small =
     }) (question-agrees (λ s. fromDownlink (downlink.placeOf s)) (λ s. refl) q small)
 
 -- their places are few
-shape-small : (s : Shape) → uplinkFits.Fits s → uplinkMapping.places s < 2 ^ 63
+shape-small : (s : Shape) → uplinkFits.Fits s → uplinkScaffold.places s < 2 ^ 63
 shape-small s f = omega (arith, mul-le-mul (le-of-lt (uplinkJoined.sent-small s f)) (le-of-lt (slot-data-small s f)))
 
 burst-small : (b : Burst) → Fits b → places b < 2 ^ 63

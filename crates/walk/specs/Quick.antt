@@ -1,4 +1,4 @@
--- How a step comes by its answer. No definition of 01 and no public question cites this.
+-- For the code alone. How a step comes by its answer.
 use mathlib.Core.Bool.{Bool, cond, _&&_}
 use mathlib.Core.List.{List}
 use Prim.Native.Nat.{ℕ}

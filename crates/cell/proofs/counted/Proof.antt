@@ -2,7 +2,8 @@ use mathlib.Core.Path.{_≡_, sym, ap, _∙_, subst}
 use borrow.Author.Tests.{eq-eqb, ne-eqb}
 use Rattle.grid.specs.Grid.{subcarriers}
 use Rattle.elements.specs.declared.Layout.{Layout}
-use Rattle.elements.specs.Elements.{Valid, countOf}
+use Rattle.elements.specs.Elements.{countOf}
+use Rattle.elements.specs.Scaffold.{Valid}
 use Rattle.elements.proofs.Laws.{all-used, whole-part}
 use Rattle.cell.specs.Layout.{layoutOf}
 use Rattle.cell.specs.Quick.{countAfter}

@@ -4,7 +4,8 @@ use mathlib.Core.Path.{_≡_, refl, sym, ap, subst}
 use mathlib.Core.Logic.{⊎-elim}
 use Prim.Native.Nat.{ℕ, _+_, _-_, _^_, _≤_, _<_}
 use native.Mathlib.Omega.{arith}
-use Rattle.counting.specs.Counting.{rank, Nth}
+use Rattle.counting.specs.Counting.{rank}
+use Rattle.counting.specs.Scaffold.{Nth}
 use Rattle.counting.proofs.Rank.{rank-le, rank-strict}
 use Rattle.counting.proofs.Select.{nth-of}
 use Rattle.closures.specs.Closures.{isFree}

@@ -10,7 +10,8 @@ use Rattle.sending.proofs.Answer.{outside-at}
 use Rattle.spans.specs.declared.Found.{Found}
 use Rattle.spans.specs.declared.Found.the-variants.{At}
 use Rattle.messages.specs.Messages.{allPeriods}
-use Rattle.subframes.specs.Subframes.{messagesIn, leftIn}
+use Rattle.subframes.specs.Subframes.{messagesIn}
+use Rattle.subframes.specs.Scaffold.{leftIn}
 use Rattle.cell.specs.declared.Cause.{Cause}
 use Rattle.cell.specs.declared.Cause.the-variants.{None}
 use Rattle.cell.specs.Quick.{lentCell, whyNot, seen}

@@ -6,7 +6,8 @@ use borrow.Author.Needs.{needs}
 use Rattle.elements.specs.Elements.{countOf}
 use Rattle.sending.proofs.Answer.{past-at}
 use Rattle.messages.specs.Messages.{allPeriods}
-use Rattle.subframes.specs.Subframes.{messagesIn, leftIn}
+use Rattle.subframes.specs.Subframes.{messagesIn}
+use Rattle.subframes.specs.Scaffold.{leftIn}
 use Rattle.downlink.specs.Mapping.{places, sendingOf}
 use Rattle.downlink.specs.Answers.{refusedPlace, placeOf}
 use Rattle.downlink.proofs.Joined.{places-small, sent-small, forward-is, unit-below, rest-below}

@@ -3,7 +3,8 @@ use native.Mathlib.Omega.{arith}
 use borrow.Author.Needs.{needs}
 use Rattle.counting.proofs.Period.{select-from}
 use Rattle.messages.specs.Messages.{allPeriods}
-use Rattle.subframes.specs.Subframes.{messagesIn, leftIn}
+use Rattle.subframes.specs.Subframes.{messagesIn}
+use Rattle.subframes.specs.Scaffold.{leftIn}
 use Rattle.subframes.proofs.Left.{left-again}
 use Rattle.downlink.proofs.subframe_at.Statement.{statement}
 use Rattle.downlink.proofs.subframe_at.Tie as tie

@@ -1,5 +1,5 @@
 use borrow.Author.Needs.{needs}
-use Rattle.subframes.specs.Subframes.{lent-again}
+use Rattle.subframes.specs.Scaffold.{lent-again}
 use Rattle.fill.proofs.fill.Statement.{statement}
 use Rattle.fill.proofs.fill.Tie as tie
 

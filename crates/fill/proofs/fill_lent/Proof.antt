@@ -6,7 +6,8 @@ use borrow.Author.Needs.{needs}
 use lib.Ieee.{Float}
 use lib.ListN.{length, drop}
 use Rattle.counting.specs.Counting.{count}
-use Rattle.grid.specs.Grid.{subcarriers, slotElements, slotNumbers, numbers}
+use Rattle.grid.specs.Grid.{subcarriers, slotElements, numbers}
+use Rattle.grid.specs.Scaffold.{slotNumbers}
 use Rattle.cell.specs.Quick.{lentCell}
 use Rattle.elements.specs.declared.Layout.{Layout}
 use Rattle.elements.specs.Elements.{used}

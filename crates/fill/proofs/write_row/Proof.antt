@@ -10,7 +10,8 @@ use lib.ListN.{length, take, length-set}
 use mir.Val.{boolByte}
 use Rattle.counting.specs.Counting.{rank}
 use Rattle.counting.proofs.Rank.{rank-zero, rank-on, rank-le, rank-strict}
-use Rattle.grid.specs.Grid.{subcarriers, slotNumbers}
+use Rattle.grid.specs.Grid.{subcarriers}
+use Rattle.grid.specs.Scaffold.{slotNumbers}
 use Rattle.elements.specs.Quick.{hasIn}
 use Rattle.symbol.specs.Quick.{silence, pickedOf}
 use Rattle.fill.specs.Fill.{laid}

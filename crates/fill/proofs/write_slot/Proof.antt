@@ -5,7 +5,8 @@ use native.Mathlib.Omega.{arith}
 use lib.Ieee.{Float}
 use lib.ListN.{length, take}
 use Rattle.counting.specs.Counting.{count}
-use Rattle.grid.specs.Grid.{subcarriers, symbols, slotElements, slotNumbers}
+use Rattle.grid.specs.Grid.{subcarriers, symbols, slotElements}
+use Rattle.grid.specs.Scaffold.{slotNumbers}
 use Rattle.elements.specs.Elements.{used}
 use Rattle.fill.specs.Fill.{laid}
 use Rattle.fill.specs.Quick.{writtenIn, writtenInRow}

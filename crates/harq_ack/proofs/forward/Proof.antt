@@ -1,10 +1,10 @@
 use mathlib.Core.Path.{sym, ap, _∙_}
 use Prim.Native.Nat.{ℕ}
 use Rattle.grid.specs.Grid.{uplinkSubcarriers}
-use Rattle.uplink.specs.Timing.{allOpen}
+use Rattle.uplink.specs.Scaffold.{allOpen, placeIn}
 use Rattle.uplink.specs.Fits.{Fits}
 use Rattle.uplink.specs.Mapping.{sendingOf}
-use Rattle.uplink.specs.Answers.{refusedPlace, placeIn}
+use Rattle.uplink.specs.Answers.{refusedPlace}
 use Rattle.nprach.specs.Windows.{none}
 use Rattle.postponed.proofs.Beside.{asked-alone}
 use Rattle.harq_ack.specs.Refusals.{fieldsRefusal, refusal}

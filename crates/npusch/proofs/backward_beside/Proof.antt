@@ -2,7 +2,8 @@ use mathlib.Core.Path.{sym, ap, _∙_}
 use Prim.Native.Nat.{ℕ}
 use Rattle.grid.specs.Grid.{uplinkSubcarriers}
 use Rattle.sending.specs.Answer.{refusedBack}
-use Rattle.uplink.specs.Answers.{backIn, backwardAnswer}
+use Rattle.uplink.specs.Answers.{backwardAnswer}
+use Rattle.uplink.specs.Scaffold.{backIn}
 use Rattle.postponed.specs.Beside.{questionBeside}
 use Rattle.postponed.proofs.Beside.{refused-first, asked-beside}
 use Rattle.npusch.specs.Refusals.{fieldsRefusal, refusal}

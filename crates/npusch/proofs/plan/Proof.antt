@@ -1,6 +1,6 @@
 use mathlib.Core.Path.{sym, ap, _∙_}
 use Rattle.sending.specs.Answer.{extentOf}
-use Rattle.uplink.specs.Timing.{allOpen}
+use Rattle.uplink.specs.Scaffold.{allOpen}
 use Rattle.uplink.specs.Mapping.{sendingOf}
 use Rattle.uplink.specs.Answers.{refusedPlan, planShown}
 use Rattle.nprach.specs.Windows.{none}

@@ -9,7 +9,8 @@ use Rattle.counting.proofs.Rank.{rank-on}
 use Rattle.counting.proofs.Period.{select-below, select-is}
 use Rattle.counting.proofs.Scan.{here, beyond}
 use Rattle.messages.specs.Messages.{allPeriods}
-use Rattle.subframes.specs.Subframes.{messagesIn, leftIn}
+use Rattle.subframes.specs.Subframes.{messagesIn}
+use Rattle.subframes.specs.Scaffold.{leftIn}
 use Rattle.subframes.proofs.Left.{left-again}
 use Rattle.plain_downlink.proofs.usable_at.Statement.{statement}
 use Rattle.plain_downlink.proofs.usable_at.Tie as tie

@@ -1,7 +1,8 @@
 use mathlib.Core.Path.{_≡_, sym, ap, _∙_}
 use Rattle.sending.proofs.Answer.{refused-as, accepted-as}
 use Rattle.uplink.specs.Mapping.{sendingOf}
-use Rattle.uplink.specs.Answers.{refusedPlace, placeIn}
+use Rattle.uplink.specs.Answers.{refusedPlace}
+use Rattle.uplink.specs.Scaffold.{placeIn}
 use Rattle.postponed.specs.Beside.{refusalBeside, questionBeside}
 use Rattle.plain_uplink.proofs.Clear.{clear-beside, leaves, all-listed}
 use Rattle.plain_uplink.proofs.forward.Statement.{statement}

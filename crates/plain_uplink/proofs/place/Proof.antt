@@ -7,7 +7,8 @@ use Rattle.sending.proofs.Answer.{past-at}
 use Rattle.uplink.specs.declared.Split.{Split}
 use Rattle.uplink.specs.Timing.{sentSlots}
 use Rattle.uplink.specs.Elements.{slotData, elementAt}
-use Rattle.uplink.specs.Mapping.{places, sendingOf}
+use Rattle.uplink.specs.Mapping.{sendingOf}
+use Rattle.uplink.specs.Scaffold.{places}
 use Rattle.uplink.specs.Answers.{refusedPlace, placeOf}
 use Rattle.uplink.proofs.Joined.{sent-small, forward-is}
 use Rattle.plain_uplink.specs.Obstacles.{clearOf}

@@ -3,7 +3,7 @@ use mathlib.Core.Path.{_≡_, sym, _∙_}
 use native.Mathlib.Omega.{arith}
 use borrow.Author.Tests.{not-true, not-false}
 use Rattle.sending.specs.Answer.{refusedBack}
-use Rattle.uplink.specs.Answers.{backIn}
+use Rattle.uplink.specs.Scaffold.{backIn}
 use Rattle.nprach.specs.Windows.{areListed}
 use Rattle.postponed.proofs.Beside.{ready, none-asked, unlisted-asked, never-asked, nested-asked}
 use Rattle.postponed.proofs.backward.Statement.{statement}

@@ -2,7 +2,8 @@ use mathlib.Core.Bool.{true}
 use mathlib.Core.Path.{_≡_, sym, _∙_}
 use native.Mathlib.Omega.{arith}
 use borrow.Author.Tests.{not-true, not-false}
-use Rattle.uplink.specs.Answers.{refusedPlace, placeIn}
+use Rattle.uplink.specs.Answers.{refusedPlace}
+use Rattle.uplink.specs.Scaffold.{placeIn}
 use Rattle.nprach.specs.Windows.{areListed}
 use Rattle.postponed.proofs.Beside.{ready, none-asked, unlisted-asked, never-asked, nested-asked}
 use Rattle.postponed.proofs.forward.Statement.{statement}

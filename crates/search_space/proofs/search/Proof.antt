@@ -1,5 +1,5 @@
 use borrow.Author.Needs.{needs}
-use Rattle.subframes.specs.Subframes.{lent-again}
+use Rattle.subframes.specs.Scaffold.{lent-again}
 use Rattle.search_space.proofs.search.Statement.{statement}
 use Rattle.search_space.proofs.search.Tie as tie
 

@@ -3,7 +3,7 @@ use mathlib.Core.Path.{_≡_, ap, subst}
 use native.Mathlib.Omega.{arith}
 use native.Mathlib.Nat.{mod-lt, div-add-mod'}
 use lib.Count.{ones-le}
-use Rattle.counting.specs.Bits.{NthOne}
+use Rattle.counting.specs.Scaffold.{NthOne}
 use Rattle.counting.proofs.Ones.{one-below}
 use Rattle.spans.proofs.in_stretch.Statement.{statement}
 use Rattle.spans.proofs.in_stretch.Tie as tie

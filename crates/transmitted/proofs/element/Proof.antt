@@ -1,5 +1,5 @@
 use borrow.Author.Needs.{needs}
-use Rattle.subframes.specs.Subframes.{lent-again}
+use Rattle.subframes.specs.Scaffold.{lent-again}
 use Rattle.transmitted.proofs.element.Statement.{statement}
 use Rattle.transmitted.proofs.element.Tie as tie
 

@@ -5,7 +5,8 @@ use native.Mathlib.Omega.{arith}
 use Rattle.sending.proofs.Answer.{past-at}
 use Rattle.uplink.specs.declared.Split.{Split}
 use Rattle.uplink.specs.Timing.{sentSlots}
-use Rattle.uplink.specs.Mapping.{places, sendingOf}
+use Rattle.uplink.specs.Mapping.{sendingOf}
+use Rattle.uplink.specs.Scaffold.{places}
 use Rattle.uplink.specs.Answers.{refusedPlace, placeOf}
 use Rattle.uplink.proofs.Lines.{some-data}
 use Rattle.uplink.proofs.Joined.{forward-is}

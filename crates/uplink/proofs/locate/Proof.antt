@@ -1,7 +1,7 @@
 use mathlib.Core.Path.{sym, subst}
 use borrow.Author.Needs.{needs}
 use Rattle.uplink.specs.declared.SentIndex.{SentIndex}
-use Rattle.uplink.specs.Timing.{allOpen}
+use Rattle.uplink.specs.Scaffold.{allOpen}
 use Rattle.uplink.specs.Quick.{Located}
 use Rattle.uplink.proofs.Splitting.{unlocated, locates}
 use Rattle.uplink.proofs.locate.Statement.{statement}

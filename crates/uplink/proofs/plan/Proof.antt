@@ -1,7 +1,8 @@
 use mathlib.Core.Path.{ap, _∙_}
 use Prim.Native.Nat.{ℕ, _+_, _-_}
 use borrow.Author.Needs.{needs}
-use Rattle.uplink.specs.Timing.{allOpen, slotAt}
+use Rattle.uplink.specs.Timing.{slotAt}
+use Rattle.uplink.specs.Scaffold.{allOpen}
 use Rattle.uplink.proofs.GapPeriods.{first-plain}
 use Rattle.uplink.proofs.plan.Statement.{statement}
 use Rattle.uplink.proofs.plan.Tie as tie
