@@ -12,7 +12,7 @@ use Rattle.cell.specs.declared.CellConfig.{CellConfig}
 use Rattle.cell.specs.declared.Cell.{Cell}
 use Rattle.cell.specs.declared.Cause.the-variants.{None}
 use Rattle.cell.specs.declared.CauseAnswer.{CauseAnswer}
-use Rattle.cell.specs.Bitmap.{ownBuffer, bitmapIn}
+use Rattle.cell.specs.Bitmap.{ownBuffer, bitmapIn, bitmapOf}
 use Rattle.cell.specs.Usable.{period, why, usable}
 
 -- modes 0 and 1
@@ -74,10 +74,10 @@ judgeOf c anchor other = cellRefusal c (ownBuffer (c .config) anchor other)
 
 -- the bitmap in force; a refused cell has an empty one
 unfoldable pub inForceOf : Cell → List ℕ → List ℕ → List ℕ
-inForceOf c anchor other = cond (eqb (judgeOf c anchor other) 0) (bitmapIn (c .config) (ownBuffer (c .config) anchor other)) []
+inForceOf c anchor other = cond (eqb (judgeOf c anchor other) 0) (bitmapOf c anchor other) []
 
 -- why subframe t is not usable, for any t; a refused cell has its number and no cause
 unfoldable pub causeOf : Cell → List ℕ → List ℕ → ℕ → CauseAnswer
 causeOf c anchor other t =
-    cond (eqb (judgeOf c anchor other) 0) (record { no = 0; cause = why c (bitmapIn (c .config) (ownBuffer (c .config) anchor other)) t })
+    cond (eqb (judgeOf c anchor other) 0) (record { no = 0; cause = why c (bitmapOf c anchor other) t })
     (record { no = judgeOf c anchor other; cause = None })

@@ -1,6 +1,6 @@
--- Interface: `ownBuffer`, `bitmapIn`, `anchorCell`, `inBandCell`, `SamePortsCases`, `inBand`, `numbersRefusal`,
--- `judgeOf`, `inForceOf`, `causeOf`, `layoutOf`, `elementCountOf`, `period`, `isAnchor`, `free`, `why`,
--- `causeNumber`, `usable`.
+-- Interface: `bitmapOf`, `anchorCell`, `inBandCell`, `SamePortsCases`, `inBand`, `numbersRefusal`, `judgeOf`,
+-- `inForceOf`, `causeOf`, `layoutOf`, `elementCountOf`, `period`, `isAnchor`, `causeNumber`, `none`, `free`, `why`,
+-- `usable`.
 pub mod Bitmap
 pub mod Usable
 pub mod Judge

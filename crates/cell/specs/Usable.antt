@@ -1,5 +1,5 @@
 -- Which subframes are usable, and why another is not: TS 36.213 clause 16.4; 01 "Usable subframes", 02 L2 and L5.
-use mathlib.Core.Bool.{Bool, true, false, cond, _&&_}
+use mathlib.Core.Bool.{Bool, cond, _&&_}
 use mathlib.Core.List.{List}
 use Prim.Native.Nat.{ℕ}
 use lib.Dec.{eqb}
@@ -18,15 +18,19 @@ period = allPeriods
 abbrev pub isAnchor : CellConfig → Bool
 isAnchor c = eqb (c .carrier) 0
 
+-- a cause's number
+abbrev pub causeNumber : Cause → ℕ
+causeNumber None = 0
+causeNumber Npbch = 1
+causeNumber Npss = 2
+causeNumber Nsss = 3
+causeNumber Sib1 = 4
+causeNumber Message = 5
+causeNumber Bitmap = 6
+
 -- no cause stands against it
 abbrev pub none : Cause → Bool
-none None = true
-none Npbch = false
-none Npss = false
-none Nsss = false
-none Sib1 = false
-none Message = false
-none Bitmap = false
+none cause = eqb (causeNumber cause) 0
 
 -- what an anchor takes subframe t for by itself: the first in this order
 unfoldable pub anchorCause : CellConfig → ℕ → Cause
@@ -51,16 +55,6 @@ whyUnless c b permitted t =
 -- with the bitmap as the last test
 abbrev pub why : Cell → List ℕ → ℕ → Cause
 why c b = whyUnless c b (allowed b (c .config .bits))
-
--- a cause's number
-abbrev pub causeNumber : Cause → ℕ
-causeNumber None = 0
-causeNumber Npbch = 1
-causeNumber Npss = 2
-causeNumber Nsss = 3
-causeNumber Sib1 = 4
-causeNumber Message = 5
-causeNumber Bitmap = 6
 
 abbrev pub usable : Cell → List ℕ → ℕ → Bool
 usable c b t = none (why c b t)

@@ -6,7 +6,7 @@ use lib.Dec.{eqb, ltb}
 use Rattle.grid.specs.Grid.{lastSubframe}
 use Rattle.grid.specs.Tables.{isRepetition}
 use Rattle.cell.specs.declared.Cell.{Cell}
-use Rattle.cell.specs.Bitmap.{ownBuffer, bitmapIn}
+use Rattle.cell.specs.Bitmap.{bitmapOf}
 use Rattle.cell.specs.Usable.{period, usable}
 use Rattle.cell.specs.Judge.{judgeOf}
 use Rattle.sending.specs.Answer.{Question}
@@ -28,5 +28,5 @@ questionRefusal c anchor other grant = cond (eqb (judgeOf c anchor other) 0) gra
 abbrev pub questionOn : Cell → List ℕ → List ℕ → ℕ → Burst → Question
 questionOn c anchor other grant b = record {
   no = questionRefusal c anchor other grant;
-  sending = sendingOf (usable c (bitmapIn (c .config) (ownBuffer (c .config) anchor other))) period b;
+  sending = sendingOf (usable c (bitmapOf c anchor other)) period b;
 }

@@ -31,7 +31,8 @@ use Rattle.downlink.proofs.Lawfulness.{lawful}
 use Rattle.downlink.proofs.Judging.{accepted-cell}
 use Rattle.promises.specs.Demand.{firstBy, Answers}
 use Rattle.promises.specs.Grids.{SubframePlace, downlinkGrid, downlinkColumns, downlinkAnswers}
-use Rattle.promises.specs.Promises.{takes, withholds, Clear, DownlinkDemand, bitmapOf}
+use Rattle.promises.specs.Promises.{takes, withholds, Clear, DownlinkDemand}
+use Rattle.cell.specs.Bitmap.{bitmapOf}
 use Rattle.promises.proofs.Bridge.{Numbered, answersBy, Sends, at-places, demand}
 use Rattle.promises.proofs.Further.{no-cause}
 use Rattle.promises.proofs.Repeating.{usable-again, usable-some}

@@ -57,7 +57,8 @@ use Rattle.transmitted.specs.GoesOut.{sendingFor, goesOut, outgoingOf}
 use Rattle.transmitted.specs.Refusals.{lateRefusal, callRefusal, elementRefusal}
 use Rattle.transmitted.specs.Element.{elementAnswer}
 use Rattle.promises.specs.Further.{Reads, first, second, third, fourth, Shares, KeepsClear, Front, InForce, MessagesLaid, CauseTold, ElementTold}
-use Rattle.promises.specs.Promises.{bitmapOf, eligibleCount}
+use Rattle.promises.specs.Promises.{eligibleCount}
+use Rattle.cell.specs.Bitmap.{bitmapOf}
 use Rattle.promises.proofs.Bridge.{ours-back, not-ours-back}
 
 -- ---- windows

@@ -29,7 +29,8 @@ use Rattle.downlink.specs.Mapping.{firstOf, isSent}
 use Rattle.downlink.specs.Answers.{refusedPlan, planShown, refusedWhy, insideGrid, isBetween, causeAt, backWhy, planAnswer, backAnswer}
 use Rattle.downlink.proofs.Joined.{backward-unsent}
 use Rattle.promises.specs.Grids.{SubframePlace, downlinkGrid}
-use Rattle.promises.specs.Promises.{bitmapOf, HandsOn, byPlace}
+use Rattle.promises.specs.Promises.{HandsOn, byPlace}
+use Rattle.cell.specs.Bitmap.{bitmapOf}
 use Rattle.promises.proofs.Further.{no-cause, by-number}
 use Rattle.promises.proofs.Framed.{in-grid}
 

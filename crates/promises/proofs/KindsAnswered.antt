@@ -43,7 +43,7 @@ use Rattle.transmitted.specs.GoesOut.{sendingFor, goesOut, outgoingOf}
 use Rattle.transmitted.specs.Refusals.{elementRefusal}
 use Rattle.transmitted.specs.Element.{elementAnswer}
 use Rattle.promises.specs.Further.{KindsTold}
-use Rattle.promises.specs.Promises.{bitmapOf}
+use Rattle.cell.specs.Bitmap.{bitmapOf}
 use Rattle.promises.proofs.Further.{kind-numbers}
 
 -- ---- a sending's kinds

@@ -8,7 +8,7 @@ use Rattle.sync.specs.Sync.{npbch, sib1Copies, sib1}
 use Rattle.cell.specs.declared.Cell.{Cell}
 use Rattle.cell.specs.declared.Cause.{Cause}
 use Rattle.cell.specs.declared.Cause.the-variants.{Npbch, Sib1}
-use Rattle.cell.specs.Bitmap.{ownBuffer, bitmapIn}
+use Rattle.cell.specs.Bitmap.{bitmapOf}
 use Rattle.cell.specs.Usable.{why}
 use Rattle.cell.specs.Judge.{judgeOf}
 use Rattle.elements.specs.Elements.{eligible}
@@ -70,10 +70,10 @@ sib1Granted c = record {
 
 pub record BroadcastPromises : Type 0 where
   pub npbch : (c : Cell) (anchor other : List ℕ) → judgeOf c anchor other ≡ 0 → c .config .carrier ≡ 0
-      → ChannelDemand c (bitmapIn (c .config) (ownBuffer (c .config) anchor other)) 640 Npbch (npbchGranted c)
+      → ChannelDemand c (bitmapOf c anchor other) 640 Npbch (npbchGranted c)
       (channelAnswers c anchor other (npbchOf (c .config)))
   pub sib1 : (c : Cell) (anchor other : List ℕ) → judgeOf c anchor other ≡ 0 → c .config .carrier ≡ 0
-      → ChannelDemand c (bitmapIn (c .config) (ownBuffer (c .config) anchor other)) 2560 Sib1 (sib1Granted c)
+      → ChannelDemand c (bitmapOf c anchor other) 2560 Sib1 (sib1Granted c)
       (channelAnswers c anchor other (sib1Of (c .config)))
   -- 02's own words: block b of 100 symbols goes out in frames 8b to 8b + 7
   pub blocks : (c : Cell) (anchor other : List ℕ) → judgeOf c anchor other ≡ 0 → c .config .carrier ≡ 0 → (p : ℕ) → p < 6400

@@ -1,18 +1,19 @@
 -- DEMAND 3 of every accepted grant, on every cell and any buffers, and what is promised beside it.
-use mathlib.Core.Bool.{Bool, true, false}
+use mathlib.Core.Bool.{Bool, true, false, not, _&&_}
 use mathlib.Core.List.{List}
 use mathlib.Core.Logic.{_↔_}
 use mathlib.Core.Path.{_≡_}
 use Prim.Native.Nat.{ℕ, _*_, _≤_, _<_}
+use lib.Dec.{eqb}
 use lib.Ieee.{Float}
 use Rattle.counting.specs.Counting.{rank}
 use Rattle.grid.specs.Grid.{elements, uplinkSubcarriers}
 use Rattle.grid.specs.Tables.{entry, lengths, downlinkCopies, uplinkCopies}
 use Rattle.cell.specs.declared.Cell.{Cell}
 use Rattle.cell.specs.declared.Cause.{Cause}
-use Rattle.cell.specs.declared.Cause.the-variants.{None, Npbch, Npss, Nsss, Sib1, Message, Bitmap}
-use Rattle.cell.specs.Bitmap.{ownBuffer, bitmapIn}
-use Rattle.cell.specs.Usable.{period, why, usable, causeNumber}
+use Rattle.cell.specs.declared.Cause.the-variants.{None}
+use Rattle.cell.specs.Bitmap.{bitmapOf}
+use Rattle.cell.specs.Usable.{period, why, usable, causeNumber, none}
 use Rattle.cell.specs.Judge.{judgeOf, inForceOf, causeOf}
 use Rattle.npdcch.specs.Ncce.{firstSubcarrier, usedSubcarriers}
 use Rattle.elements.specs.Elements.{reference, controlRegion, eligible, countOf}
@@ -51,31 +52,15 @@ use Rattle.promises.specs.Grids.{SubframePlace, downlinkGrid, downlinkAn
 use Rattle.promises.specs.Broadcast.{BroadcastPromises}
 use Rattle.promises.specs.Further.{KeepsClear, InForce, MessagesLaid, CauseTold, ElementTold, KindsTold}
 
--- the bitmap in force, of an accepted cell
-abbrev pub bitmapOf : Cell → List ℕ → List ℕ → List ℕ
-bitmapOf c anchor other = bitmapIn (c .config) (ownBuffer (c .config) anchor other)
-
 -- ---- 5., of downlink grants
 
--- anything but the bitmap makes a subframe unusable: synchronization or broadcast takes it
-abbrev pub takes : Cause → Bool
-takes None = false
-takes Npbch = true
-takes Npss = true
-takes Nsss = true
-takes Sib1 = true
-takes Message = true
-takes Bitmap = false
-
--- the bitmap alone does: it withholds it
+-- the bitmap alone makes a subframe unusable: it withholds it
 abbrev pub withholds : Cause → Bool
-withholds None = false
-withholds Npbch = false
-withholds Npss = false
-withholds Nsss = false
-withholds Sib1 = false
-withholds Message = false
-withholds Bitmap = true
+withholds cause = eqb (causeNumber cause) 6
+
+-- anything but the bitmap does: synchronization or broadcast takes it
+abbrev pub takes : Cause → Bool
+takes cause = not (none cause) && not (withholds cause)
 
 -- a place is no reference element, not in the control region, in no subframe that is taken, and in none that the bitmap withholds
 pub record Clear (c : Cell) (bitmap : List ℕ) (x : SubframePlace) : Type 0 where

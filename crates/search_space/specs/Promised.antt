@@ -10,7 +10,7 @@ use Rattle.counting.specs.Counting.{select}
 use Rattle.counting.specs.Listed.{isOneOf}
 use Rattle.grid.specs.Grid.{lastSubframe}
 use Rattle.cell.specs.declared.Cell.{Cell}
-use Rattle.cell.specs.Bitmap.{ownBuffer, bitmapIn}
+use Rattle.cell.specs.Bitmap.{bitmapOf}
 use Rattle.cell.specs.Usable.{period, usable}
 use Rattle.downlink.specs.declared.DownlinkPlan.{DownlinkPlan}
 use Rattle.npdcch.specs.declared.NpdcchGrant.{NpdcchGrant}
@@ -57,7 +57,7 @@ pub record Planned (p : DownlinkPlan) (x : Candidate) : Type 0 where
 
 pub record Answered (c : Cell) (anchor other : List ℕ) (s : SearchSpace) (a : SearchAnswer) : Type 0 where
   pub start : FirstStart (periodOf s) (partOf s) (s .n) (a .start)
-  pub list : ListsAll (select (usable c (bitmapIn (c .config) (ownBuffer (c .config) anchor other))) period (a .start))
+  pub list : ListsAll (select (usable c (bitmapOf c anchor other)) period (a .start))
       (s .rmax) (a .count) (a .list)
   pub planned : (k : ℕ) → k < a .count → getD (a .list) k blank .first ≤ lastSubframe
       → Planned (planOf c anchor other (grantOf (getD (a .list) k blank))) (getD (a .list) k blank)

@@ -5,7 +5,7 @@ use Prim.Native.Nat.{ℕ}
 use lib.ListN.{length, replicate}
 use Rattle.counting.specs.Counting.{select}
 use Rattle.cell.specs.declared.Cell.{Cell}
-use Rattle.cell.specs.Bitmap.{ownBuffer, bitmapIn}
+use Rattle.cell.specs.Bitmap.{bitmapOf}
 use Rattle.cell.specs.Usable.{period, usable}
 use Rattle.sending.specs.Answer.{answerOf}
 use Rattle.search_space.specs.declared.SearchSpace.{SearchSpace}
@@ -30,4 +30,4 @@ monitoredIn u s = record {
 unfoldable pub searchOf : Cell → List ℕ → List ℕ → SearchSpace → SearchAnswer
 searchOf c anchor other s =
     answerOf refusedSearch (refusalOf c anchor other s)
-    (monitoredIn (usable c (bitmapIn (c .config) (ownBuffer (c .config) anchor other))) s)
+    (monitoredIn (usable c (bitmapOf c anchor other)) s)

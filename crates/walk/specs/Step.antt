@@ -16,6 +16,8 @@ use Rattle.walk.specs.declared.Walk.{Walk}
 use Rattle.walk.specs.declared.WalkPlace.{WalkPlace}
 use Rattle.sending.specs.Answer.{noSuchPlace}
 use Rattle.walk.specs.declared.Stepped.{Stepped}
+use Rattle.uplink.specs.declared.UplinkPlan.{UplinkPlan}
+use Rattle.downlink.specs.declared.DownlinkPlan.{DownlinkPlan}
 
 -- ---- answers
 
@@ -40,28 +42,19 @@ pub record Asked : Type 0 where
   pub places : ℕ
   pub at : ℕ → WalkPlace
 
+-- by plan's answer, and forward's at each position
+abbrev pub uplinkAsked : UplinkPlan → (ℕ → UplinkPlace) → Asked
+uplinkAsked plan forward = record { no = plan .no; places = plan .places; at = λ p. fromUplink (forward p) }
+
+abbrev pub downlinkAsked : DownlinkPlan → (ℕ → DownlinkPlace) → Asked
+downlinkAsked plan forward = record { no = plan .no; places = plan .places; at = λ p. fromDownlink (forward p) }
+
 -- an uplink grant has no use for the cell and the buffers
 unfoldable pub asked : Cell → List ℕ → List ℕ → Grant → Asked
-asked c anchor other (Npusch g ws) = record {
-  no = up.planOf g ws .no;
-  places = up.planOf g ws .places;
-  at = λ p. fromUplink (up.forwardOf g ws p);
-}
-asked c anchor other (HarqAck g ws) = record {
-  no = ack.planOf g ws .no;
-  places = ack.planOf g ws .places;
-  at = λ p. fromUplink (ack.forwardOf g ws p);
-}
-asked c anchor other (Npdsch g) = record {
-  no = down.planOf c anchor other g .no;
-  places = down.planOf c anchor other g .places;
-  at = λ p. fromDownlink (down.forwardOf c anchor other g p);
-}
-asked c anchor other (Npdcch g) = record {
-  no = control.planOf c anchor other g .no;
-  places = control.planOf c anchor other g .places;
-  at = λ p. fromDownlink (control.forwardOf c anchor other g p);
-}
+asked c anchor other (Npusch g ws) = uplinkAsked (up.planOf g ws) (up.forwardOf g ws)
+asked c anchor other (HarqAck g ws) = uplinkAsked (ack.planOf g ws) (ack.forwardOf g ws)
+asked c anchor other (Npdsch g) = downlinkAsked (down.planOf c anchor other g) (down.forwardOf c anchor other g)
+asked c anchor other (Npdcch g) = downlinkAsked (control.planOf c anchor other g) (control.forwardOf c anchor other g)
 
 abbrev pub askedOf : Walk → List ℕ → List ℕ → Asked
 askedOf w anchor other = asked (w .cell) anchor other (w .grant)
