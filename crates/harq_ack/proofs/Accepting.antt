@@ -21,7 +21,8 @@ use Rattle.postponed.proofs.Beside.{open-repeats}
 use Rattle.harq_ack.specs.declared.HarqAckGrant.{HarqAckGrant}
 use Rattle.harq_ack.specs.Fields.{toneOf, narrowDelays, delayOf}
 use Rattle.harq_ack.specs.Refusals.{lastNpdschSubframe, aboveLargest, windowsNumber, fieldsRefusal, refusal}
-use Rattle.harq_ack.specs.Shaping.{unitSlots, shapeOf, openOf}
+use Rattle.harq_ack.specs.Shaping.{shapeOf, openOf}
+use Rattle.harq_ack.specs.Scaffold.{unitSlots}
 use Rattle.uplink.specs.declared.Shape.{Shape}
 use Rattle.nprach.specs.declared.Windows.{Windows}
 

@@ -11,7 +11,8 @@ use Rattle.postponed.specs.Beside.{questionBeside}
 use Rattle.postponed.proofs.Beside.{refused-first, asked-beside}
 use Rattle.harq_ack.specs.declared.HarqAckGrant.{HarqAckGrant}
 use Rattle.harq_ack.specs.Refusals.{fieldsRefusal, refusal}
-use Rattle.harq_ack.specs.Shaping.{shapeOf, grantSize, grantOrder}
+use Rattle.harq_ack.specs.Shaping.{shapeOf}
+use Rattle.harq_ack.specs.Scaffold.{grantSize, grantOrder}
 use Rattle.harq_ack.specs.Questions.{planOf, forwardOf}
 use Rattle.harq_ack.proofs.Accepting.{subcarriers-own}
 

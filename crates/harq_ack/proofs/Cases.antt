@@ -22,7 +22,8 @@ use Rattle.nprach.proofs.Spaced.{none-refuses}
 use Rattle.harq_ack.specs.declared.HarqAckGrant.{HarqAckGrant}
 use Rattle.harq_ack.specs.Fields.{toneOf, delayOf}
 use Rattle.harq_ack.specs.Refusals.{lastNpdschSubframe, fieldsRefusal, refusal}
-use Rattle.harq_ack.specs.Shaping.{startOf, shapeOf, grantSize, grantOrder, openOf}
+use Rattle.harq_ack.specs.Shaping.{shapeOf, openOf}
+use Rattle.harq_ack.specs.Scaffold.{startOf, grantSize, grantOrder}
 use Rattle.harq_ack.specs.Questions.{questionOf, planOf, forwardOf}
 use Rattle.harq_ack.specs.Cases.{wide, narrow, oneCopy, symbolsFrom, toneOfFirst, AckCases}
 use Rattle.harq_ack.proofs.Accepting.{accepts, fits, plain-open}

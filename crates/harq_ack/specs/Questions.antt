@@ -10,13 +10,14 @@ use Rattle.uplink.specs.Answers.{planAnswer, forwardAnswer, backwardAnswer}
 use Rattle.nprach.specs.declared.Windows.{Windows}
 use Rattle.harq_ack.specs.declared.HarqAckGrant.{HarqAckGrant}
 use Rattle.harq_ack.specs.Refusals.{refusal}
-use Rattle.harq_ack.specs.Shaping.{shapeOf, grantSize, grantOrder, openOf}
+use Rattle.harq_ack.specs.Shaping.{shapeOf, openOf}
 
 abbrev pub questionOf : HarqAckGrant → Windows → Question
 questionOf g ws = record { no = refusal g ws; sending = sendingOf (shapeOf g) (openOf g ws) }
 
+-- size 1 and order 1: one bit, by BPSK (TS 36.211 table 10.1.3.2-1)
 unfoldable pub planOf : HarqAckGrant → Windows → UplinkPlan
-planOf g ws = planAnswer grantSize grantOrder (questionOf g ws)
+planOf g ws = planAnswer 1 1 (questionOf g ws)
 
 unfoldable pub forwardOf : HarqAckGrant → Windows → ℕ → UplinkPlace
 forwardOf g ws p = forwardAnswer (uplinkSubcarriers (g .spacing)) (questionOf g ws) p

@@ -10,44 +10,27 @@ use Rattle.nprach.specs.Windows.{openTo}
 use Rattle.harq_ack.specs.declared.HarqAckGrant.{HarqAckGrant}
 use Rattle.harq_ack.specs.Fields.{toneOf, delayOf}
 
--- the first slot that begins after the end of subframe n + delay - 1 (TS 36.213 clause 16.4.2)
-abbrev pub startOf : HarqAckGrant → ℕ
-startOf g = firstAfter (g .spacing) (g .n + delayOf (g .spacing) (g .field) - 1)
-
--- one resource unit, of one tone and 4 slots (TS 36.211 table 10.1.2.3-1)
-abbrev pub unitSlots : ℕ
-unitSlots = 4
-
 -- the first of the three reference symbols of a slot (TS 36.211 table 10.1.4.2-1)
 abbrev pub referenceOf : ℕ → ℕ
 referenceOf spacing = bySpacing spacing 0 2
 
-abbrev pub references : ℕ
-references = 3
-
--- one tone's slots go out once in a row (TS 36.211 clause 10.1.3.6)
+-- it starts in the first slot that begins after the end of subframe n + delay - 1 (TS 36.213 clause 16.4.2); it is one
+-- unit of one tone and 4 slots (TS 36.211 table 10.1.2.3-1), whose slots go out once in a row (clause 10.1.3.6)
 unfoldable pub shapeOf : HarqAckGrant → Shape
 shapeOf g = record {
-  first = startOf g;
+  first = firstAfter (g .spacing) (g .n + delayOf (g .spacing) (g .field) - 1);
   subcarriers = uplinkSubcarriers (g .spacing);
   block = slotsIn (g .spacing) 256;
   gap = slotsIn (g .spacing) 40;
   tone = toneOf (g .spacing) (g .field);
   tones = 1;
-  codeword = unitSlots;
+  codeword = 4;
   copies = entry uplinkCopies (g .copies);
   consecutive = 1;
   group = groupOf (g .spacing);
   reference = referenceOf (g .spacing);
-  references = references;
+  references = 3;
 }
-
--- one bit, by BPSK (TS 36.211 table 10.1.3.2-1)
-abbrev pub grantSize : ℕ
-grantSize = 1
-
-abbrev pub grantOrder : ℕ
-grantOrder = 1
 
 -- group u overlaps none of the random access windows in time and tone
 abbrev pub openOf : HarqAckGrant → Windows → ℕ → Bool

@@ -20,7 +20,8 @@ use Rattle.closures.specs.Quick.{Usable, AllUsable, OneOfTheirs, Chained, Neste
 use Rattle.closures.proofs.Nesting.{idle-leaves, leaves-again, clear-repeats}
 use Rattle.nprach.specs.declared.Window.{Window}
 use Rattle.nprach.specs.declared.Windows.{Windows}
-use Rattle.nprach.specs.Windows.{isOneOf, unitsOfMs, allPeriods, isListed, isRead, areListed, sharesTone, sinceBegin, reach, overlaps, meets, isClear, windowsRefusal}
+use Rattle.nprach.specs.Windows.{isOneOf, unitsOfMs, allPeriods, isListed, isRead, areListed, sharesTone, sinceBegin, overlaps, meets, isClear, windowsRefusal}
+use Rattle.nprach.specs.Scaffold.{reach}
 use Rattle.nprach.specs.Quick.{resting, closureOf, closuresOf, steps, NestedFor}
 use Rattle.nprach.proofs.Listing.{step-divides, whole-periods, Numbers, numbers, listed-1, listed-2, listed-3, listed-4}
 

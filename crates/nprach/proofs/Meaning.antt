@@ -8,7 +8,8 @@ use native.Mathlib.Omega.{arith}
 use borrow.Author.Tests.{lt-ltb, ltb-true}
 use Rattle.counting.proofs.Facts.{order, div-mono}
 use Rattle.nprach.specs.declared.Window.{Window}
-use Rattle.nprach.specs.Windows.{unitsOfMs, allPeriods, isListed, sinceBegin, reach, overlaps}
+use Rattle.nprach.specs.Windows.{unitsOfMs, allPeriods, isListed, sinceBegin, overlaps}
+use Rattle.nprach.specs.Scaffold.{reach}
 use Rattle.nprach.specs.Meaning.{Meeting}
 use Rattle.nprach.proofs.Listing.{numbers}
 

@@ -2,3 +2,4 @@
 pub mod Windows
 pub mod Meaning
 pub mod Quick
+pub mod Scaffold

@@ -71,13 +71,10 @@ sharesTone a n w = ltb a (w .tone + windowTones) && ltb (w .tone) (a + n)
 abbrev pub sinceBegin : Window → ℕ → ℕ
 sinceBegin w e = (e + allPeriods - 1 - w .start) % w .period + 1
 
--- a window that began less than this before a group's end, in units, ends past the group's begin
-abbrev pub reach : ℕ → Window → ℕ
-reach ms w = w .length + unitsOfMs * ms
-
--- group u, from ms * u to ms * u + ms, overlaps a window in time: that window's end is past the group's begin
+-- group u, from ms * u to ms * u + ms, overlaps a window in time: that window's end is past the group's begin, so
+-- it began less than its length and the group's before the group's end
 unfoldable pub overlaps : ℕ → Window → ℕ → Bool
-overlaps ms w u = ltb (unitsOfMs * sinceBegin w (ms * u + ms)) (reach ms w)
+overlaps ms w u = ltb (unitsOfMs * sinceBegin w (ms * u + ms)) (w .length + unitsOfMs * ms)
 
 -- group u overlaps a window that is read, in time and tone
 abbrev pub meets : ℕ → ℕ → ℕ → Bool → Window → ℕ → Bool
@@ -104,4 +101,4 @@ abbrev pub openTo : ℕ → ℕ → ℕ → Windows → ℕ → Bool
 openTo spacing tone tones ws = isClear (groupMs spacing) (narrowTones spacing * tone) (narrowTones spacing * tones) ws
 
 abbrev pub refusalOn : ℕ → ℕ → ℕ → Windows → ℕ
-refusalOn spacing tone tones ws = windowsRefusal (groupMs spacing) (narrowTones spacing * tone) (narrowTones spacing * tones) ws
+refusalOn spacing tone tones = windowsRefusal (groupMs spacing) (narrowTones spacing * tone) (narrowTones spacing * tones)

@@ -21,8 +21,8 @@ use Rattle.postponed.specs.Beside.{AtSpacing}
 use Rattle.postponed.proofs.Beside.{open-repeats}
 use Rattle.npusch.specs.declared.NpuschGrant.{NpuschGrant}
 use Rattle.npusch.specs.Fields.{tonesOf, unitSlots}
-use Rattle.npusch.specs.Refusals.{toneFields}
-use Rattle.npusch.specs.Refusals.{aboveLargest, namesNoTone, aboveMcs, windowsNumber, fieldsRefusal, refusal}
+use Rattle.npusch.specs.Scaffold.{toneFields, aboveMcs}
+use Rattle.npusch.specs.Refusals.{aboveLargest, namesNoTone, windowsNumber, fieldsRefusal, refusal}
 use Rattle.grid.specs.Grid.{lastSubframe}
 use Rattle.npusch.specs.Shaping.{shapeOf, openOf}
 use Rattle.npusch.proofs.Fielded.{tone-field, whole-groups, consecutive-splits, consecutive-bounds}

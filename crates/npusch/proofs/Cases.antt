@@ -23,7 +23,7 @@ use Rattle.nprach.proofs.Spaced.{none-refuses}
 use Rattle.npusch.specs.declared.NpuschGrant.{NpuschGrant}
 use Rattle.numerology.specs.Numerology.{firstAfter}
 use Rattle.npusch.specs.Fields.{tonesOf, firstTone, unitSlots, consecutiveOf}
-use Rattle.npusch.specs.Refusals.{toneFields}
+use Rattle.npusch.specs.Scaffold.{toneFields}
 use Rattle.npusch.specs.Refusals.{fieldsRefusal, refusal}
 use Rattle.grid.specs.Grid.{lastSubframe}
 use Rattle.npusch.specs.Shaping.{shapeOf, grantSize, grantOrder, openOf}

@@ -11,7 +11,7 @@ use Rattle.grid.specs.Tables.{entry, uplinkCopies}
 use Rattle.grid.proofs.Rules.{parts, halfConsecutive, uplink-consecutive-splits, uplink-copies-bounds, consecutive-pos, consecutive-small}
 use Rattle.numerology.specs.Numerology.{groupOf}
 use Rattle.npusch.specs.Fields.{tonesOf, firstTone, unitSlots, consecutiveOf}
-use Rattle.npusch.specs.Refusals.{toneFields}
+use Rattle.npusch.specs.Scaffold.{toneFields}
 use Rattle.npusch.specs.Quick.{firstField}
 
 -- a choice is below what both are below

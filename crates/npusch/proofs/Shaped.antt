@@ -7,7 +7,8 @@ use Rattle.uplink.specs.declared.Shape.{Shape}
 use Rattle.npusch.specs.declared.NpuschGrant.{NpuschGrant}
 use Rattle.numerology.specs.Numerology.{slotsIn, firstAfter, groupOf}
 use Rattle.npusch.specs.Fields.{firstTone, unitSlots, consecutiveOf, referenceOf}
-use Rattle.npusch.specs.Shaping.{grantTones, grantCopies, shapeOf}
+use Rattle.npusch.specs.Shaping.{grantTones, shapeOf}
+use Rattle.npusch.specs.Scaffold.{grantCopies}
 
 pub shape-is : (g : NpuschGrant) (first subcarriers block gap tone tones codeword copies consecutive group reference : ℕ)
     → tones ≡ grantTones g → copies ≡ grantCopies g → first ≡ firstAfter (g .spacing) (g .n + entry uplinkDelays (g .delay))

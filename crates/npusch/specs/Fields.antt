@@ -8,28 +8,18 @@ use Rattle.numerology.specs.Numerology.{bySpacing}
 
 -- ---- tones, by subcarrier field (table 16.5.1.1-1): a single tone by its number; at 15 kHz also three, six or all
 
--- the first field of three tones, of six, and the one of all
-abbrev pub threeTones : ℕ
-threeTones = 12
-
-abbrev pub sixTones : ℕ
-sixTones = 16
-
-abbrev pub allTones : ℕ
-allTones = 18
-
 unfoldable pub tonesOf : ℕ → ℕ → ℕ
 tonesOf spacing field =
     cond (ltb field (uplinkSubcarriers spacing)) 1
-    (cond (ltb field sixTones) 3
-    (cond (ltb field allTones) 6
+    (cond (ltb field 16) 3
+    (cond (ltb field 18) 6
     (uplinkSubcarriers spacing)))
 
 unfoldable pub firstTone : ℕ → ℕ → ℕ
 firstTone spacing field =
     cond (ltb field (uplinkSubcarriers spacing)) field
-    (cond (ltb field sixTones) (3 * (field - threeTones))
-    (cond (ltb field allTones) (6 * (field - sixTones))
+    (cond (ltb field 16) (3 * (field - 12))
+    (cond (ltb field 18) (6 * (field - 16))
     0))
 
 -- ---- slots

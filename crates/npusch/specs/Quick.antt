@@ -5,7 +5,7 @@ use lib.Dec.{ltb}
 use Rattle.grid.specs.Grid.{uplinkSubcarriers}
 use Rattle.npusch.specs.declared.NpuschGrant.{NpuschGrant}
 use Rattle.npusch.specs.declared.Sizes.{Sizes}
-use Rattle.npusch.specs.Fields.{threeTones, sixTones, allTones}
+use Rattle.npusch.specs.Scaffold.{threeTones, sixTones, allTones}
 use Rattle.npusch.specs.Shaping.{grantSize, grantOrder}
 
 -- the first field that names as many tones

@@ -15,21 +15,13 @@ aboveLargest g =
     ltb 1 (g .spacing)
     || (ltb 63 (g .subcarrier) || (ltb 7 (g .units) || (ltb 7 (g .copies) || (ltb 3 (g .delay) || ltb 15 (g .mcs)))))
 
--- how many subcarrier fields name tones
-abbrev pub toneFields : ℕ → ℕ
-toneFields spacing = bySpacing spacing 48 19
-
 -- the subcarrier field names none: 48 to 63 at 3.75 kHz, 19 to 63 at 15 kHz
 abbrev pub namesNoTone : NpuschGrant → Bool
-namesNoTone g = leb (toneFields (g .spacing)) (g .subcarrier)
-
--- the MCS is none of 0 to 4
-abbrev pub aboveMcs : NpuschGrant → Bool
-aboveMcs g = ltb 4 (g .mcs)
+namesNoTone g = leb (bySpacing (g .spacing) 48 19) (g .subcarrier)
 
 -- the random access windows' refusal on the grant's tones, 19 or 20, or 0
 abbrev pub windowsNumber : NpuschGrant → Windows → ℕ
-windowsNumber g ws = refusalOn (g .spacing) (firstTone (g .spacing) (g .subcarrier)) (tonesOf (g .spacing) (g .subcarrier)) ws
+windowsNumber g = refusalOn (g .spacing) (firstTone (g .spacing) (g .subcarrier)) (tonesOf (g .spacing) (g .subcarrier))
 
 -- the number of the fields, or 0
 unfoldable pub fieldsRefusal : NpuschGrant → ℕ
@@ -37,7 +29,7 @@ fieldsRefusal g =
     cond (ltb lastSubframe (g .n)) 9
     (cond (aboveLargest g) 10
     (cond (namesNoTone g) 11
-    (cond (aboveMcs g) 13
+    (cond (ltb 4 (g .mcs)) 13
     0)))
 
 -- the number, or 0: the windows' after those of the fields

@@ -10,12 +10,9 @@ use Rattle.nprach.specs.Windows.{openTo}
 use Rattle.npusch.specs.declared.NpuschGrant.{NpuschGrant}
 use Rattle.npusch.specs.Fields.{tonesOf, firstTone, unitSlots, consecutiveOf, referenceOf, blockSize, orderOf}
 
--- tones and copies of a grant
+-- how many tones a grant has
 abbrev pub grantTones : NpuschGrant → ℕ
 grantTones g = tonesOf (g .spacing) (g .subcarrier)
-
-abbrev pub grantCopies : NpuschGrant → ℕ
-grantCopies g = entry uplinkCopies (g .copies)
 
 unfoldable pub shapeOf : NpuschGrant → Shape
 shapeOf g = record {
@@ -26,8 +23,8 @@ shapeOf g = record {
   tone = firstTone (g .spacing) (g .subcarrier);
   tones = grantTones g;
   codeword = entry lengths (g .units) * unitSlots (grantTones g);
-  copies = grantCopies g;
-  consecutive = consecutiveOf (grantTones g) (grantCopies g);
+  copies = entry uplinkCopies (g .copies);
+  consecutive = consecutiveOf (grantTones g) (entry uplinkCopies (g .copies));
   group = groupOf (g .spacing);
   reference = referenceOf (g .spacing);
   references = 1;

@@ -6,7 +6,7 @@ ghost use Rattle.grid.specs.Tables.{entry, lengths, uplinkDelays};
 ghost use Rattle.numerology.specs.Numerology.{firstAfter};
 ghost use Rattle.npusch.specs.Fields.{tonesOf, firstTone, unitSlots, consecutiveOf, referenceOf, blockSize};
 ghost use Rattle.npusch.specs.Fields.{orderOf};
-ghost use Rattle.npusch.specs.Refusals.{toneFields};
+ghost use Rattle.npusch.specs.Scaffold.{toneFields};
 ghost use Rattle.npusch.specs.Quick.{firstField};
 use grid::UplinkGrid;
 

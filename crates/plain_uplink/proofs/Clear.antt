@@ -6,7 +6,8 @@ use Rattle.uplink.specs.declared.Shape.{Shape}
 use Rattle.uplink.specs.Fits.{OpenRepeats}
 use Rattle.nprach.specs.declared.Window.{Window}
 use Rattle.nprach.specs.declared.Windows.{Windows}
-use Rattle.nprach.specs.Windows.{isRead, sharesTone, reach, overlaps, meets, isClear, areListed}
+use Rattle.nprach.specs.Windows.{isRead, sharesTone, overlaps, meets, isClear, areListed}
+use Rattle.nprach.specs.Scaffold.{reach}
 use Rattle.nprach.proofs.Spaced.{accepted-windows}
 use Rattle.postponed.specs.Beside.{refusalBeside, openBeside, AtSpacing}
 use Rattle.postponed.proofs.Beside.{open-repeats}

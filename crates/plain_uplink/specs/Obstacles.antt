@@ -8,7 +8,8 @@ use Rattle.numerology.specs.Numerology.{groupMs, narrowTones}
 use Rattle.uplink.specs.declared.Shape.{Shape}
 use Rattle.nprach.specs.declared.Window.{Window}
 use Rattle.nprach.specs.declared.Windows.{Windows}
-use Rattle.nprach.specs.Windows.{unitsOfMs, allPeriods, isRead, sharesTone, reach}
+use Rattle.nprach.specs.Windows.{unitsOfMs, allPeriods, isRead, sharesTone}
+use Rattle.nprach.specs.Scaffold.{reach}
 use Rattle.plain_uplink.specs.declared.obstacles.Obstacle.{Obstacle}
 use Rattle.plain_uplink.specs.declared.obstacles.Obstacles.{Obstacles}
 

@@ -53,7 +53,8 @@ use Rattle.symbol.specs.declared.Outgoing.{Outgoing}
 use Rattle.symbol.specs.declared.Element.{Element}
 use Rattle.symbol.specs.Outgoing.{plusZero, answerOf, numbersOf}
 use Rattle.symbol.specs.declared.ElementNumbers.{ElementNumbers}
-use Rattle.transmitted.specs.GoesOut.{sendingFor, goesOut, outgoingOf}
+use Rattle.transmitted.specs.GoesOut.{goesOut, outgoingOf}
+use Rattle.transmitted.specs.Scaffold.{sendingFor}
 use Rattle.transmitted.specs.Refusals.{lateRefusal, callRefusal, elementRefusal}
 use Rattle.transmitted.specs.Element.{elementAnswer}
 use Rattle.promises.specs.Further.{Reads, first, second, third, fourth, Shares, KeepsClear, Front, InForce, MessagesLaid, CauseTold, ElementTold}

@@ -39,7 +39,8 @@ use Rattle.broadcast.specs.Questions as broadcast
 use Rattle.symbol.specs.declared.Element.{Element}
 use Rattle.symbol.specs.declared.ElementNumbers.{ElementNumbers}
 use Rattle.symbol.specs.Outgoing.{answerOf, numbersOf}
-use Rattle.transmitted.specs.GoesOut.{sendingFor, goesOut, outgoingOf}
+use Rattle.transmitted.specs.GoesOut.{goesOut, outgoingOf}
+use Rattle.transmitted.specs.Scaffold.{sendingFor}
 use Rattle.transmitted.specs.Refusals.{elementRefusal}
 use Rattle.transmitted.specs.Element.{elementAnswer}
 use Rattle.promises.specs.Further.{KindsTold}

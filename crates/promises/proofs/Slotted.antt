@@ -38,7 +38,8 @@ use Rattle.harq_ack.proofs.Accepting as ack-accepting
 use Rattle.promises.specs.Demand.{Answers, Demand, firstBy}
 use Rattle.promises.specs.Grids.{SlotPlace, uplinkGrid, uplinkColumns, uplinkAnswers}
 use Rattle.promises.specs.Further.{KeepsClear}
-use Rattle.promises.specs.Promises.{dataSymbols, uplinkGranted, ackDataSymbols, ackGranted}
+use Rattle.promises.specs.Promises.{uplinkGranted, ackGranted}
+use Rattle.promises.specs.Scaffold.{dataSymbols, ackDataSymbols}
 use Rattle.promises.proofs.Bridge.{Numbered, answersBy, Sends, at-places, demand}
 use Rattle.promises.proofs.Further.{keeps-clear}
 

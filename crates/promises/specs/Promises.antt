@@ -117,26 +117,19 @@ controlGranted c bitmap g = record {
   sending = downlink.sendingOf (usable c bitmap) period (npdcch.burstOf (c .config) g);
 }
 
--- of the seven l of a slot one is the reference symbol
-abbrev pub dataSymbols : ℕ
-dataSymbols = 6
-
--- N times the granted tones times the l that carry data in a slot; N is units times slots in a unit
+-- N times the granted tones times the l that carry data in a slot, six of seven; N is units times slots in a unit
 abbrev pub uplinkGranted : NpuschGrant → Windows → Granted
 uplinkGranted g ws = record {
   copies = entry uplinkCopies (g .copies);
-  symbols = entry lengths (g .units) * unitSlots (grantTones g) * (grantTones g * dataSymbols);
+  symbols = entry lengths (g .units) * unitSlots (grantTones g) * (grantTones g * 6);
   sending = uplink.sendingOf (shapeOf g) (openOf g ws);
 }
 
--- an acknowledgement: 4 slots of one tone, and of the seven l of a slot three are reference symbols
-abbrev pub ackDataSymbols : ℕ
-ackDataSymbols = 4
-
+-- an acknowledgement: 4 slots of one tone, and of the seven l of a slot four carry data
 abbrev pub ackGranted : HarqAckGrant → Windows → Granted
 ackGranted g ws = record {
   copies = entry uplinkCopies (g .copies);
-  symbols = 4 * ackDataSymbols;
+  symbols = 4 * 4;
   sending = uplink.sendingOf (ack-shaping.shapeOf g) (ack-shaping.openOf g ws);
 }
 

@@ -5,7 +5,8 @@ use mathlib.Core.Path.{_≡_, refl}
 use Prim.Native.Nat.{ℕ}
 use lib.Ieee as Ieee
 use lib.Ieee.{Float, nan, binary32}
-use Rattle.symbol.specs.Symbol.{qpskOf, symbolOf, levelInRange}
+use Rattle.symbol.specs.Symbol.{symbolOf, levelInRange}
+use Rattle.symbol.specs.Scaffold.{qpskOf}
 
 abbrev accepted : ℕ → Bool
 accepted pattern = levelInRange (Ieee.ofBits binary32 pattern)

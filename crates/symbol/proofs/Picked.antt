@@ -8,7 +8,8 @@ use lib.ListN.{getD}
 use mir.Val.{boolByte}
 use Rattle.counting.specs.Bits.{bitOf}
 use Rattle.symbol.specs.declared.Symbol.{Symbol}
-use Rattle.symbol.specs.Symbol.{qpskOf, symbolOf}
+use Rattle.symbol.specs.Symbol.{symbolOf}
+use Rattle.symbol.specs.Scaffold.{qpskOf}
 use Rattle.symbol.specs.Quick.{symbolsOf, unset, pickedOf}
 
 by-bits : (a b : Bool) (level : Float) → getD (symbolsOf level) (2 * boolByte a + boolByte b) unset ≡ qpskOf a b level

@@ -7,7 +7,7 @@ use lib.ListN.{getD}
 use mir.Val.{boolByte}
 use Rattle.counting.specs.Bits.{bitOf}
 use Rattle.symbol.specs.declared.Symbol.{Symbol}
-use Rattle.symbol.specs.Symbol.{qpskOf}
+use Rattle.symbol.specs.Scaffold.{qpskOf}
 use Rattle.symbol.specs.Outgoing.{plusZero}
 
 -- the four symbols at a level, by their two bits

@@ -16,12 +16,10 @@ abbrev pub signed : Bool → Float → Float
 signed false x = x
 signed true x = Ieee.neg x
 
-abbrev pub qpskOf : Bool → Bool → Float → Symbol
-qpskOf first second level = record { re = signed first (sizeOf level); im = signed second (sizeOf level) }
-
 -- symbol c of the codeword: real from bit 2c, imaginary from bit 2c + 1 of the bits, the first bit the highest of byte 0
 unfoldable pub symbolOf : List ℕ → Float → ℕ → Symbol
-symbolOf bits level c = qpskOf (bitOf bits (2 * c)) (bitOf bits (2 * c + 1)) level
+symbolOf bits level c =
+    record { re = signed (bitOf bits (2 * c)) (sizeOf level); im = signed (bitOf bits (2 * c + 1)) (sizeOf level) }
 
 -- from 2^-20 to 2^20; a comparison with a NaN is false
 unfoldable pub levelInRange : Float → Bool

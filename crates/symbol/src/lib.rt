@@ -3,9 +3,9 @@ ghost use mathlib.Core.Bool.{true, cond};
 ghost use mathlib.Core.Path.{_≡_};
 ghost use Prim.Native.Nat.{_*_, _<_};
 ghost use lib.ListN.{length};
-ghost use Rattle.symbol.specs.Symbol.{signed, qpskOf, levelInRange};
+ghost use Rattle.symbol.specs.Symbol.{signed, levelInRange};
+ghost use Rattle.symbol.specs.Scaffold.{qpskOf, Within};
 ghost use Rattle.symbol.specs.Outgoing.{answerOf, numbersOf};
-ghost use Rattle.symbol.specs.Scaffold.{Within};
 ghost use Rattle.symbol.specs.Quick.{symbolsOf, silence, pickedOf};
 
 // A real and an imaginary number.

@@ -4,15 +4,11 @@ use mathlib.Core.List.{List}
 use Prim.Native.Nat.{ℕ}
 use lib.Dec.{eqb}
 use Rattle.cell.specs.declared.Cell.{Cell}
-use Rattle.sending.specs.Sending.{Sending, Content, ours, notOurs, contentAt}
+use Rattle.sending.specs.Sending.{Content, ours, notOurs, contentAt}
 use Rattle.npdsch.specs.declared.NpdschGrant.{NpdschGrant}
 use Rattle.npdsch.specs.Questions.{questionOf}
 use Rattle.symbol.specs.declared.Outgoing.{Outgoing}
 use Rattle.symbol.specs.declared.Outgoing.the-variants.{Ours}
-
--- what is sent, as backward reads it
-abbrev pub sendingFor : Cell → List ℕ → List ℕ → NpdschGrant → Sending
-sendingFor c anchor nonAnchor g = questionOf c anchor nonAnchor g .sending
 
 -- ours by its symbol, a reference by its kind; nothing at a plain element
 abbrev pub goesOut : Content → Outgoing
@@ -22,5 +18,5 @@ goesOut (notOurs kind) = cond (eqb kind 0) Outgoing.Silent (Outgoing.Reference k
 -- at element x of transmitted subframe i
 unfoldable pub outgoingOf : Cell → List ℕ → List ℕ → NpdschGrant → ℕ → ℕ → Outgoing
 outgoingOf c anchor nonAnchor g i x =
-    let S = sendingFor c anchor nonAnchor g in
+    let S = questionOf c anchor nonAnchor g .sending in
     goesOut (contentAt S (S .time i) x)

@@ -3,3 +3,4 @@ pub mod GoesOut
 pub mod Refusals
 pub mod Element
 pub mod Quick
+pub mod Scaffold

@@ -1,13 +1,14 @@
 -- When a fill, or a question on one element, is refused, and with which number: the cell's refusals, the grant's, then 14 to 17 of 01's table.
 use mathlib.Core.Bool.{Bool, false, cond, not, _||_}
 use mathlib.Core.List.{List}
-use Prim.Native.Nat.{ℕ, _+_, _/_}
+use Prim.Native.Nat.{ℕ, _+_, _*_, _/_}
 use lib.Dec.{eqb, leb}
 use lib.Ieee.{Float}
 use lib.ListN.{length}
 use Rattle.cell.specs.declared.Cell.{Cell}
+use Rattle.elements.specs.Elements.{countOf}
 use Rattle.downlink.specs.declared.Burst.{Burst}
-use Rattle.downlink.specs.Mapping.{sentSubframes, codewordSymbols}
+use Rattle.downlink.specs.Mapping.{sentSubframes}
 use Rattle.downlink.specs.Answers.{insideGrid}
 use Rattle.npdsch.specs.declared.NpdschGrant.{NpdschGrant}
 use Rattle.npdsch.specs.Refusals.{refusalOf}
@@ -17,7 +18,7 @@ use Rattle.symbol.specs.Symbol.{levelInRange}
 
 -- ceil(N·E / 4): two bits for each symbol of the whole codeword
 abbrev pub codewordBytes : Burst → ℕ
-codewordBytes b = (codewordSymbols b + 3) / 4
+codewordBytes b = (b .codeword * countOf (b .layout) (b .low) (b .width) + 3) / 4
 
 -- 14 to 17, for transmitted subframe i; outside: the element that is asked lies outside the grid; wrongOutput: the output has another size
 unfoldable pub lateRefusal : Burst → ℕ → Bool → List ℕ → Bool → Float → ℕ

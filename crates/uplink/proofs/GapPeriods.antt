@@ -15,8 +15,8 @@ use Rattle.counting.proofs.Select.{nth-of, lists-moved}
 use Rattle.counting.proofs.Period.{rank-split, repeats-times, some-of, is-select, lists-from-zero}
 use Rattle.uplink.specs.declared.Shape.{Shape}
 use Rattle.uplink.specs.Fits.{Fits, OpenRepeats}
-use Rattle.uplink.specs.Timing.{gapPeriod, gapPeriods, inBlock, groupAt, active, period, sentSlots, slotAt, isSent, indexOf}
-use Rattle.uplink.specs.Scaffold.{allOpen}
+use Rattle.uplink.specs.Timing.{gapPeriod, inBlock, groupAt, active, period, sentSlots, slotAt, isSent, indexOf}
+use Rattle.uplink.specs.Scaffold.{gapPeriods, allOpen}
 
 module _ (s : Shape) (some : 0 < s .block) where
   pub periods-repeat : (x : ℕ) → inBlock s (x + gapPeriod s) ≡ inBlock s x

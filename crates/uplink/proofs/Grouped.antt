@@ -28,7 +28,8 @@ use Rattle.closures.proofs.Nesting.{clear-repeats}
 use Rattle.closures.proofs.Spreading.{spread-free}
 use Rattle.uplink.specs.declared.Shape.{Shape}
 use Rattle.uplink.specs.Fits.{Fits, OpenRepeats}
-use Rattle.uplink.specs.Timing.{gapPeriod, gapPeriods, inBlock, groupAt, active, period, slotAt}
+use Rattle.uplink.specs.Timing.{gapPeriod, inBlock, groupAt, active, period, slotAt}
+use Rattle.uplink.specs.Scaffold.{gapPeriods}
 use Rattle.uplink.specs.declared.timing.GroupSearch.{GroupSearch}
 use Rattle.uplink.specs.Quick.{gapClosure, Searchable, SearchOf, ActiveIndex}
 use Rattle.uplink.proofs.GapPeriods.{whole, whole-period-groups, repeats}

@@ -10,7 +10,8 @@ use Rattle.counting.specs.Counting.{rank}
 use Rattle.counting.proofs.Facts.{both}
 use Rattle.counting.proofs.Period.{repeats-times, some-of}
 use Rattle.uplink.specs.declared.Shape.{Shape}
-use Rattle.uplink.specs.Timing.{gapPeriod, gapPeriods, inBlock, active, period}
+use Rattle.uplink.specs.Timing.{gapPeriod, inBlock, active, period}
+use Rattle.uplink.specs.Scaffold.{gapPeriods}
 use Rattle.uplink.proofs.GapPeriods.{active-repeats}
 
 -- e groups last 8 ms

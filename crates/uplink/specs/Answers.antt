@@ -12,9 +12,10 @@ use Rattle.uplink.specs.declared.UplinkPlace.{UplinkPlace}
 abbrev pub refusedPlan : ℕ → UplinkPlan
 refusedPlan refusal = record { no = refusal; first = 0; last = 0; copies = 0; places = 0; size = 0; order = 0 }
 
--- beside the transport block's size and the modulation order
+-- beside the transport block's size and the modulation order m
 abbrev pub planShown : ℕ → ℕ → Extent → UplinkPlan
-planShown size order x = record { no = 0; first = x .first; last = x .last; copies = x .copies; places = x .places; size = size; order = order }
+planShown size m x =
+    record { no = 0; first = x .first; last = x .last; copies = x .copies; places = x .places; size = size; order = m }
 
 abbrev pub planAnswer : ℕ → ℕ → Question → UplinkPlan
 planAnswer size order = planBy refusedPlan (planShown size order)

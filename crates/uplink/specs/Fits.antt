@@ -6,7 +6,8 @@ use Prim.Native.Nat.{ℕ, _+_, _*_, _/_, _%_, _^_, _≤_, _<_}
 use Rattle.counting.specs.Counting.{rank}
 use Rattle.grid.specs.Grid.{symbols}
 use Rattle.uplink.specs.declared.Shape.{Shape}
-use Rattle.uplink.specs.Timing.{gapPeriod, gapPeriods, active, period}
+use Rattle.uplink.specs.Timing.{gapPeriod, active, period}
+use Rattle.uplink.specs.Scaffold.{gapPeriods}
 
 pub record Fits (s : Shape) : Type 0 where
   -- something is sent, and not only references

@@ -26,3 +26,7 @@ placeIn T S p = placeAt refusedPlace (placeOf T) S p
 -- backward's answer once no refusal applies
 abbrev pub backIn : ℕ → Sending → ℕ → ℕ → ℕ → Back
 backIn T S slot l k = backAt S (insideGrid T l k) slot (uplinkElementOf T l k)
+
+-- after so many gap periods of 296 ms the same slots may be sent again
+abbrev pub gapPeriods : ℕ
+gapPeriods = 320

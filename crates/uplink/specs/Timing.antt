@@ -21,14 +21,10 @@ groupAt s slot = slot / s .group
 unfoldable pub active : Shape → (ℕ → Bool) → ℕ → Bool
 active s isOpen x = inBlock s x && isOpen (groupAt s (s .first + x))
 
--- after so many gap periods of 296 ms the same slots may be sent again: 320 of them are 37 times 2,560 ms, and each window's period divides that
-abbrev pub gapPeriods : ℕ
-gapPeriods = 320
-
 -- after so many slots the same may be sent again: 320 gap periods of 296 ms are 37 times 2,560 ms, and each window's
 -- period divides that
 abbrev pub period : Shape → ℕ
-period s = gapPeriods * gapPeriod s
+period s = 320 * gapPeriod s
 
 -- how many slots are sent: the codeword's slots, once for each copy
 abbrev pub sentSlots : Shape → ℕ

@@ -1,6 +1,6 @@
 use mathlib.Core.Path.{_≡_, sym, ap, _∙_}
 use Rattle.uplink.specs.declared.UplinkPlan.{UplinkPlan}
-use Rattle.harq_ack.specs.Shaping.{grantSize, grantOrder}
+use Rattle.harq_ack.specs.Scaffold.{grantSize, grantOrder}
 use Rattle.harq_ack.specs.Questions.{planOf}
 use Rattle.harq_ack.proofs.Accepting.{ready}
 use Rattle.harq_ack.proofs.Answered.{plan-refused, plan-asked}
