@@ -1,5 +1,5 @@
--- What the anchor broadcasts by itself, NPBCH and SIB1: 02 L9. Each is a burst in the subframes that TS 36.213 clause 16.4 keeps from
--- grants for it, and repeats after its period.
+-- What the anchor broadcasts by itself, NPBCH and SIB1: 02 L9. Each is a burst in the subframes that TS 36.213 clause
+-- 16.4 keeps from grants for it, and repeats after its period.
 use mathlib.Core.Bool.{Bool, cond}
 use Prim.Native.Nat.{ℕ, _+_, _*_, _/_, _%_}
 use Rattle.grid.specs.Grid.{subcarriers}
@@ -28,7 +28,8 @@ eightOn layout copies consecutive = record {
   consecutive = consecutive;
 }
 
--- TS 36.211 clause 10.2.4.4: as if there were two narrowband ports, four cell ports and a control region of three symbols, in all modes
+-- TS 36.211 clause 10.2.4.4: as if there were two narrowband ports, four cell ports and a control region of three
+-- symbols, in all modes
 abbrev pub npbchLayout : CellConfig → Layout
 npbchLayout c = record { v = c .identity % 6; nports = 2; cports = 4; control = 3 }
 
@@ -48,7 +49,7 @@ sib1Of c = record {
   burst = eightOn (sib1Layout c) (sib1Copies (c .sib1)) 1;
 }
 
--- the frame of its i-th subframe: a copy begins every 256 div C frames from the first on, and takes every other frame (TS 36.213 clause 16.4.1.3).
--- No answer reads this; a promise says that forward goes there.
+-- the frame of its i-th subframe: a copy begins every 256 div C frames from the first on, and takes every other frame
+-- (TS 36.213 clause 16.4.1.3). No answer reads this; a promise says that forward goes there.
 abbrev pub sib1Frame : ℕ → ℕ → ℕ → ℕ
 sib1Frame identity schedule i = sib1First identity schedule + 256 / sib1Copies schedule * (i / 8) + 2 * (i % 8)

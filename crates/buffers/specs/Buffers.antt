@@ -54,7 +54,8 @@ abbrev pub cellIn : List ℕ → ℕ → ℕ → Cell
 cellIn s i j = record { config = configAt s i; messages = messagesIn (drop j s) }
 
 abbrev pub windowAt : List ℕ → ℕ → Window
-windowAt s i = record { period = getD s i 0; start = getD s (i + 1) 0; length = getD s (i + 2) 0; tone = getD s (i + 3) 0 }
+windowAt s i =
+    record { period = getD s i 0; start = getD s (i + 1) 0; length = getD s (i + 2) 0; tone = getD s (i + 3) 0 }
 
 -- random access windows: their count and four windows, 17 numbers; a buffer of fewer has none
 unfoldable pub windowsOf : List ℕ → Windows
@@ -101,8 +102,8 @@ npdcchAt s i = record { n = getD s i 0; r = getD s (i + 1) 0; format = getD s (i
 abbrev pub searchSpaceAt : List ℕ → ℕ → SearchSpace
 searchSpaceAt s i = record { n = getD s i 0; rmax = getD s (i + 1) 0; g = getD s (i + 2) 0; alpha = getD s (i + 3) 0 }
 
--- a walk's record: the position, the eight numbers of a downlink grant's cell, the grant, and the cell's messages. An uplink walk has a cell
--- of zeros, which is not looked at.
+-- a walk's record: the position, the eight numbers of a downlink grant's cell, the grant, and the cell's messages. An
+-- uplink walk has a cell of zeros, which is not looked at.
 abbrev pub walkOf : Cell → Grant → ℕ → Walk
 walkOf c g p = record { cell = c; grant = g; p = p }
 

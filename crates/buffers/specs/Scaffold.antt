@@ -33,7 +33,8 @@ putMoved m = putStep (m .p) (m .answer)
 
 -- a step's answer from forward's numbers
 abbrev pub placeAt : ℕ → ℕ → ℕ → ℕ → ℕ → ℕ → WalkPlace
-placeAt refusal t slot l k symbol = record { no = refusal; finished = 0; t = t; slot = slot; l = l; k = k; symbol = symbol }
+placeAt refusal t slot l k symbol =
+    record { no = refusal; finished = 0; t = t; slot = slot; l = l; k = k; symbol = symbol }
 
 -- p moves on where forward answers; at the end the walk is finished; else forward's refusal
 abbrev pub movedBy : Bool → WalkPlace → ℕ → Moved

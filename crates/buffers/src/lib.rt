@@ -505,7 +505,8 @@ pub fn put_step(
 ) -> u64
     requires { ⌜ (1 ≤ length (now walk)) × (7 ≤ length (now s)) × (no ≡ 0 → getD (now walk) 0 0 < 2 ^ 63) ⌝ }
     ensures { λ r. ⌜ (r, now (walk .exit), now (s .exit))
-        ≡ putMoved (movedBy end (placeAt no t slot l k symbol) (getD (now (walk .entry)) 0 0)) (now (walk .entry)) (now (s .entry)) ⌝ }
+        ≡ putMoved (movedBy end (placeAt no t slot l k symbol) (getD (now (walk .entry)) 0 0)) (now (walk .entry))
+        (now (s .entry)) ⌝ }
 {
     if no == 0 {
         walk[0] = walk[0] + 1;

@@ -31,8 +31,13 @@ inBandCell mode carrier nports cports control sib1 = record {
 
 -- 24 stands after 5 and before 6, on both carriers; mode 1 may have other ports
 pub record SamePortsCases : Type 0 where
-  pub four : (carrier : ℕ) (anchor other : List ℕ) → carrier ≤ 1 → judgeOf (inBandCell 0 carrier 2 4 3 0) anchor other ≡ 24
-  pub region : (carrier : ℕ) (anchor other : List ℕ) → carrier ≤ 1 → judgeOf (inBandCell 0 carrier 2 4 4 0) anchor other ≡ 5
-  pub one : (carrier : ℕ) (anchor other : List ℕ) → carrier ≤ 1 → judgeOf (inBandCell 0 carrier 2 1 3 12) anchor other ≡ 24
-  pub same : (carrier : ℕ) (anchor other : List ℕ) → carrier ≤ 1 → judgeOf (inBandCell 0 carrier 2 2 3 12) anchor other ≡ 6
-  pub another-mode : (carrier : ℕ) (anchor other : List ℕ) → carrier ≤ 1 → judgeOf (inBandCell 1 carrier 2 4 3 0) anchor other ≡ 0
+  pub four : (carrier : ℕ) (anchor other : List ℕ) → carrier ≤ 1
+      → judgeOf (inBandCell 0 carrier 2 4 3 0) anchor other ≡ 24
+  pub region : (carrier : ℕ) (anchor other : List ℕ) → carrier ≤ 1
+      → judgeOf (inBandCell 0 carrier 2 4 4 0) anchor other ≡ 5
+  pub one : (carrier : ℕ) (anchor other : List ℕ) → carrier ≤ 1
+      → judgeOf (inBandCell 0 carrier 2 1 3 12) anchor other ≡ 24
+  pub same : (carrier : ℕ) (anchor other : List ℕ) → carrier ≤ 1
+      → judgeOf (inBandCell 0 carrier 2 2 3 12) anchor other ≡ 6
+  pub another-mode : (carrier : ℕ) (anchor other : List ℕ) → carrier ≤ 1
+      → judgeOf (inBandCell 1 carrier 2 4 3 0) anchor other ≡ 0

@@ -19,4 +19,5 @@ layoutOf c = record { v = c .identity % 6; nports = c .nports; cports = c .cport
 -- the question on E: the cell's refusal, or how many elements of a subframe are eligible
 unfoldable pub elementCountOf : Cell → List ℕ → List ℕ → ElementCount
 elementCountOf c anchor other =
-    cond (eqb (judgeOf c anchor other) 0) (record { no = 0; e = rank (eligible (layoutOf (c .config))) elements }) (record { no = judgeOf c anchor other; e = 0 })
+    cond (eqb (judgeOf c anchor other) 0) (record { no = 0; e = rank (eligible (layoutOf (c .config))) elements })
+    (record { no = judgeOf c anchor other; e = 0 })

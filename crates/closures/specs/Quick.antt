@@ -67,7 +67,8 @@ orderedOf b = networkOf (cappedOf (b .b1)) (cappedOf (b .b2)) (cappedOf (b .b3))
 -- a period that has what all four have
 abbrev pub OneOfTheirs : Closures → ℕ → Type 0
 OneOfTheirs b p =
-    (test : ℕ → Bool) → test (b .b1 .period) ≡ true → test (b .b2 .period) ≡ true → test (b .b3 .period) ≡ true → test (b .b4 .period) ≡ true
+    (test : ℕ → Bool) → test (b .b1 .period) ≡ true → test (b .b2 .period) ≡ true → test (b .b3 .period) ≡ true
+    → test (b .b4 .period) ≡ true
     → test p ≡ true
 
 -- each period divides the next one's
@@ -83,7 +84,8 @@ pub record Sorted (b : Closures) : Type 0 where
 
 -- ---- counting, closure over closure: N counts what the closures below leave, up to a number that does not matter
 
--- a period has `per` that this closure leaves too; before the period's first of them N is `least`, and N goes on from there
+-- a period has `per` that this closure leaves too; before the period's first of them N is `least`, and N goes on from
+-- there
 unfoldable pub countOver : Closure → PeriodCount → (ℕ → ℕ) → ℕ → ℕ
 countOver b c N t =
     cond (eqb (b .closed) 0)
@@ -197,19 +199,24 @@ pub record Held (gap : Closure) (nested : Nested) (at end j n : ℕ) : Type 0 wh
   pub count : countBefore nested x ≡ n
   pub nth : Nth (isFree gap (nested .closures)) at j x
 
--- a period of the gap, or what is left of it before `end`: it is counted as a whole, and each free number of it can be found
+-- a period of the gap, or what is left of it before `end`: it is counted as a whole, and each free number of it can
+-- be found
 pub record GapPeriodAt (gap : Closure) (nested : Nested) (at end : ℕ) (r : GapPeriod) : Type 0 where
   pub some : 0 < r .length
   pub within : at + r .length ≤ end
   pub next : at + r .length < end → Begins gap (at + r .length)
   pub small : r .from < 2 ^ 56
-  pub counted : rank (isFree gap (nested .closures)) at + r .here ≡ rank (isFree gap (nested .closures)) (at + r .length)
+  pub counted : rank (isFree gap (nested .closures)) at + r .here
+      ≡ rank (isFree gap (nested .closures)) (at + r .length)
   pub held : (j : ℕ) → j < r .here → Held gap nested at (at + r .length) j (r .from + j)
 
--- among the n numbers from t on: the count of the first free one and the j-th one, if there are so many; else how many are left of the j
+-- among the n numbers from t on: the count of the first free one and the j-th one, if there are so many; else how
+-- many are left of the j
 pub record Scanned (gap : Closure) (nested : Nested) (t n j : ℕ) (r : SearchResult) : Type 0 where
-  pub first : rank (isFree gap (nested .closures)) t + j < rank (isFree gap (nested .closures)) (t + n) → Held gap nested t (t + n) 0 (r .first)
-  pub found : rank (isFree gap (nested .closures)) t + j < rank (isFree gap (nested .closures)) (t + n) → Nth (isFree gap (nested .closures)) t j (r .at) × (r .at < t + n)
+  pub first : rank (isFree gap (nested .closures)) t + j < rank (isFree gap (nested .closures)) (t + n)
+      → Held gap nested t (t + n) 0 (r .first)
+  pub found : rank (isFree gap (nested .closures)) t + j < rank (isFree gap (nested .closures)) (t + n)
+      → Nth (isFree gap (nested .closures)) t j (r .at) × (r .at < t + n)
   pub missed : rank (isFree gap (nested .closures)) (t + n) ≤ rank (isFree gap (nested .closures)) t + j
       → rank (isFree gap (nested .closures)) t + j ≡ rank (isFree gap (nested .closures)) (t + n) + r .left
 

@@ -1,4 +1,5 @@
--- Counting and selecting the numbers that pass a test. The test is any u: usable subframes, available slots, eligible elements.
+-- Counting and selecting the numbers that pass a test. The test is any u: usable subframes, available slots, eligible
+-- elements.
 use mathlib.Core.Bool.{Bool, true, false, _&&_}
 use Prim.Native.Nat.{ℕ, zero, suc, _+_, _-_}
 use lib.Dec.{leb, ltb}

@@ -43,7 +43,8 @@ insideGrid slot l k = ltb slot slots && (ltb l symbols && ltb k subcarriers)
 unfoldable pub isBetween : Sending → ℕ → Bool
 isBetween S t = ltb (S .time 0) t && ltb t (S .time (S .K - 1))
 
--- backward hands on why t, the cause that makes a subframe unusable, between the first and the last one sent; elsewhere there is none
+-- backward hands on why t, the cause that makes a subframe unusable, between the first and the last one sent;
+-- elsewhere there is none
 unfoldable pub causeAt : Sending → (ℕ → Cause) → ℕ → ℕ → ℕ → ℕ → Cause
 causeAt S why t slot l k = cond (insideGrid slot l k && isBetween S t) (why t) None
 
@@ -51,7 +52,8 @@ abbrev pub refusedWhy : ℕ → DownlinkBack
 refusedWhy refusal = record { back = refusedBack refusal; cause = None }
 
 unfoldable pub backWhy : Sending → (ℕ → Cause) → ℕ → ℕ → ℕ → ℕ → DownlinkBack
-backWhy S why t slot l k = record { back = backAt S (insideGrid slot l k) t (elementOf slot l k); cause = causeAt S why t slot l k }
+backWhy S why t slot l k =
+    record { back = backAt S (insideGrid slot l k) t (elementOf slot l k); cause = causeAt S why t slot l k }
 
 abbrev pub backAnswer : Question → (ℕ → Cause) → ℕ → ℕ → ℕ → ℕ → DownlinkBack
 backAnswer q why t slot l k = answerOf refusedWhy (q .no) (backWhy (q .sending) why t slot l k)

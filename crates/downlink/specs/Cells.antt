@@ -24,7 +24,8 @@ fieldsRefusal n above repetitions =
 unfoldable pub questionRefusal : Cell → List ℕ → List ℕ → ℕ → ℕ
 questionRefusal c anchor other grant = cond (eqb (judgeOf c anchor other) 0) grant (judgeOf c anchor other)
 
--- a question on a grant of a cell, with refusal `grant` after the cell's, that is sent as burst b in the cell's usable subframes
+-- a question on a grant of a cell, with refusal `grant` after the cell's, that is sent as burst b in the cell's
+-- usable subframes
 abbrev pub questionOn : Cell → List ℕ → List ℕ → ℕ → Burst → Question
 questionOn c anchor other grant b = record {
   no = questionRefusal c anchor other grant;

@@ -1,5 +1,6 @@
--- A downlink sending: usable subframes in order from the first, the used elements of each, and the copy order: TS 36.211 clauses 10.2.3.4
--- and 10.2.5.5, TS 36.213 clause 16.4.1; 01 "Downlink grants". u says which subframes are usable; every P in a row have a usable one.
+-- A downlink sending: usable subframes in order from the first, the used elements of each, and the copy order: TS
+-- 36.211 clauses 10.2.3.4 and 10.2.5.5, TS 36.213 clause 16.4.1; 01 "Downlink grants". u says which subframes are
+-- usable; every P in a row have a usable one.
 use mathlib.Core.Bool.{Bool, cond}
 use Prim.Native.Nat.{ℕ, _-_, _*_}
 use Rattle.counting.specs.Counting.{count, select, amongFirst}

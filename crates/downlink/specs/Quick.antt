@@ -23,7 +23,8 @@ use Rattle.downlink.specs.Fits.{Fits}
 unfoldable pub contentIn : Burst → ℕ → ℕ → Content
 contentIn b i x =
     cond (used (b .layout) (b .low) (b .width) x)
-    (ours (carried (b .consecutive) 1 (b .codeword) i * countOf (b .layout) (b .low) (b .width) + numberOf (b .layout) (b .low) (b .width) x)
+    (ours (carried (b .consecutive) 1 (b .codeword) i * countOf (b .layout) (b .low) (b .width)
+    + numberOf (b .layout) (b .low) (b .width) x)
     (i * countOf (b .layout) (b .low) (b .width) + numberOf (b .layout) (b .low) (b .width) x))
     (notOurs (kindOf (b .layout) x))
 
@@ -37,8 +38,10 @@ pub record Judged (cell grant : ℕ) (b : Burst) (q : Ready) : Type 0 where
   pub number : q .no ≡ cond (eqb cell 0) grant cell
   pub burst : q .no ≡ 0 → q .burst ≡ b
 
--- a question on cell c with bitmap m, judged: its refusal, and for an accepted one burst b and where the cell's usable subframes are
-pub record ReadyFor (c : Cell) (m : List ℕ) (refusal : ℕ) (b : Burst) (q : Ready) (p : Pattern) (laid : Bool) : Type 0 where
+-- a question on cell c with bitmap m, judged: its refusal, and for an accepted one burst b and where the cell's
+-- usable subframes are
+pub record ReadyFor (c : Cell) (m : List ℕ) (refusal : ℕ) (b : Burst) (q : Ready) (p : Pattern)
+    (laid : Bool) : Type 0 where
   pub number : q .no ≡ refusal
   pub answerable : Answerable q p laid (c .messages)
   pub shows : q .no ≡ 0 → Shows (c .config) m p

@@ -15,8 +15,8 @@ near g k = eqb (k % 6) (g .v)
 abbrev pub far : Layout → ℕ → Bool
 far g k = eqb (k % 6) ((g .v + 3) % 6)
 
--- narrowband reference signal (clause 10.2.6.2): port 2000 at l = 5 near and at l = 6 far; port 2001 the other way round
--- (n: the subcarrier is near, f: it is far)
+-- narrowband reference signal (clause 10.2.6.2): port 2000 at l = 5 near and at l = 6 far; port 2001 the other way
+-- round (n: the subcarrier is near, f: it is far)
 abbrev pub port2000 : ℕ → Bool → Bool → Bool
 port2000 l n f = (eqb l 5 && n) || (eqb l 6 && f)
 
@@ -41,7 +41,9 @@ abbrev pub ports2and3 : ℕ → Bool → Bool → Bool
 ports2and3 l n f = eqb l 1 && (n || f)
 
 abbrev pub crsOn : Layout → ℕ → Bool → Bool → Bool
-crsOn g l n f = (leb 1 (g .cports) && port0 l n f) || ((leb 2 (g .cports) && port1 l n f) || (leb 4 (g .cports) && ports2and3 l n f))
+crsOn g l n f =
+    (leb 1 (g .cports) && port0 l n f)
+    || ((leb 2 (g .cports) && port1 l n f) || (leb 4 (g .cports) && ports2and3 l n f))
 
 unfoldable pub crs : Layout → ℕ → ℕ → Bool
 crs g l k = crsOn g l (near g k) (far g k)

@@ -21,7 +21,8 @@ rows = slots * symbols
 -- by bytes, for l = 0 to 7: how many of six subcarriers carry no reference, in all symbols of a slot before l
 unfoldable pub sumsOf : ℕ → ℕ → ℕ
 sumsOf nports cports =
-    0x2a241e18120c0600 - takenAt0 cports * 0x0202020101010100 - takenAt1 cports * 0x0101010101010000 - nports * 0x0201000000000000
+    0x2a241e18120c0600 - takenAt0 cports * 0x0202020101010100 - takenAt1 cports * 0x0101010101010000
+    - nports * 0x0201000000000000
 
 abbrev pub byteOf : ℕ → ℕ → ℕ
 byteOf s l = s / 2 ^ (8 * l) % 256
@@ -38,7 +39,8 @@ unfoldable pub sixInRows : Layout → ℕ → ℕ
 sixInRows g n =
     cond (ltb n (g .control)) 0
     (cond (ltb n symbols) (sixBefore (g .nports) (g .cports) n - sixBefore (g .nports) (g .cports) (g .control))
-    (sixBefore (g .nports) (g .cports) symbols + sixBefore (g .nports) (g .cports) (n - symbols) - sixBefore (g .nports) (g .cports) (g .control)))
+    (sixBefore (g .nports) (g .cports) symbols + sixBefore (g .nports) (g .cports) (n - symbols)
+    - sixBefore (g .nports) (g .cports) (g .control)))
 
 -- the row with the q-th of those, and which one of the row it is
 pub record SpotOf (g : Layout) (q : ℕ) (s : Spot) : Type 0 where
@@ -66,7 +68,8 @@ nthIn m free from j =
     from + 6 * upper + nthFree m (j - free * upper)
 
 abbrev pub placeIn : Marks → ℕ → ℕ → ℕ → ℕ → ℕ
-placeIn m free from k i = boolByte (leb (from + 6) k) * free + i - boolByte (ltb (m .low) i) - boolByte (ltb (m .high) i)
+placeIn m free from k i =
+    boolByte (leb (from + 6) k) * free + i - boolByte (ltb (m .low) i) - boolByte (ltb (m .high) i)
 
 -- narrowband references lie on symbols 5 and 6, cell references before
 abbrev pub referenceKind : ℕ → ℕ

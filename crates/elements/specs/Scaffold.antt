@@ -8,7 +8,8 @@ use Rattle.elements.specs.declared.ElementUse.{ElementUse}
 use Rattle.elements.specs.declared.ElementUse.the-variants.{Used, Unused}
 use Rattle.elements.specs.Elements.{kindOf, used, numberOf, ncceWidth}
 
--- every accepted cell has such a layout: v is the identity mod 6; 1 or 2 narrowband ports; 0, 1, 2 or 4 cell ports; control region 0 to 3
+-- every accepted cell has such a layout: v is the identity mod 6; 1 or 2 narrowband ports; 0, 1, 2 or 4 cell ports;
+-- control region 0 to 3
 pub record Valid (g : Layout) : Type 0 where
   pub shift : g .v < 6
   pub narrowband : (1 ≤ g .nports) × (g .nports ≤ 2)

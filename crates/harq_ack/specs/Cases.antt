@@ -50,4 +50,5 @@ pub record AckCases : Type 0 where
       → planOf g none .last ≡ planOf g none .first + 511
   -- an n past the last, and a field past 15: beside any windows
   pub late : (g : HarqAckGrant) (ws : Windows) → lastNpdschSubframe < g .n → planOf g ws ≡ refusedPlan 9
-  pub large : (g : HarqAckGrant) (ws : Windows) → g .n ≤ lastNpdschSubframe → 15 < g .field → planOf g ws ≡ refusedPlan 10
+  pub large : (g : HarqAckGrant) (ws : Windows) → g .n ≤ lastNpdschSubframe → 15 < g .field
+      → planOf g ws ≡ refusedPlan 10

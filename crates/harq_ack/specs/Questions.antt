@@ -1,4 +1,5 @@
--- What the questions on an acknowledgement answer, on any numbers, beside random access windows: 02 L1 and L4, 01 "Questions". A grant alone is one beside `none`.
+-- What the questions on an acknowledgement answer, on any numbers, beside random access windows: 02 L1 and L4, 01
+-- "Questions". A grant alone is one beside `none`.
 use Prim.Native.Nat.{ℕ}
 use Rattle.grid.specs.Grid.{uplinkSubcarriers}
 use Rattle.sending.specs.declared.Back.{Back}

@@ -1,4 +1,5 @@
--- When an acknowledgement is refused, and with which number: 02 L1, L4. Each test is asked where those before it passed.
+-- When an acknowledgement is refused, and with which number: 02 L1, L4. Each test is asked where those before it
+-- passed.
 use mathlib.Core.Bool.{Bool, cond, _||_}
 use Prim.Native.Nat.{ℕ, _-_, _^_}
 use lib.Dec.{eqb, ltb}

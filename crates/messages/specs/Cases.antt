@@ -1,4 +1,5 @@
--- Cases of 02 L5: on a standalone anchor with identity 0, schedule 0 and no bitmap, and cases that tell readings of 02 apart.
+-- Cases of 02 L5: on a standalone anchor with identity 0, schedule 0 and no bitmap, and cases that tell readings of
+-- 02 apart.
 use mathlib.Core.Bool.{Bool, true, false, not, _||_}
 use mathlib.Core.List.{List, [], _∷_}
 use mathlib.Core.Path.{_≡_}
@@ -22,7 +23,8 @@ abbrev pub at : ℕ → ℕ → ℕ → Schedule
 at period every size = record { period = period; every = every; size = size }
 
 abbrev pub some : ℕ → ℕ → ℕ → Schedule → Schedule → Messages
-some window offset count a b = record { window = window; offset = offset; count = count; s1 = a; s2 = b; s3 = a; s4 = a }
+some window offset count a b =
+    record { window = window; offset = offset; count = count; s1 = a; s2 = b; s3 = a; s4 = a }
 
 abbrev pub only : ℕ → ℕ → Schedule → Messages
 only window offset s = some window offset 1 s s
@@ -35,10 +37,12 @@ listed f (suc n) = elim (f n) [ true ↦ n ∷ listed f n | false ↦ listed f n
 -- each is computed
 pub record ComputedCases : Type 0 where
   -- what one schedule takes first, and how many of its period
-  pub taken-first : listed (isMessage (only 160 0 (at 64 2 8)) anchor) 27 ≡ 26 ∷ 23 ∷ 22 ∷ 21 ∷ 12 ∷ 11 ∷ 8 ∷ 7 ∷ 6 ∷ 3 ∷ 2 ∷ 1 ∷ []
+  pub taken-first : listed (isMessage (only 160 0 (at 64 2 8)) anchor) 27
+      ≡ 26 ∷ 23 ∷ 22 ∷ 21 ∷ 12 ∷ 11 ∷ 8 ∷ 7 ∷ 6 ∷ 3 ∷ 2 ∷ 1 ∷ []
   pub taken-of-period : rank (isMessage (only 160 0 (at 64 2 8)) anchor) 640 ≡ 64
   -- windows one after the other; the fourth opens in frame 56 and is open at t = 0
-  pub over-zero : listed (isMessage (some 160 8 4 (at 64 2 8) (at 64 2 8)) anchor) 24 ≡ 23 ∷ 22 ∷ 21 ∷ 12 ∷ 11 ∷ 8 ∷ 7 ∷ 6 ∷ 3 ∷ 2 ∷ 1 ∷ []
+  pub over-zero : listed (isMessage (some 160 8 4 (at 64 2 8) (at 64 2 8)) anchor) 24
+      ≡ 23 ∷ 22 ∷ 21 ∷ 12 ∷ 11 ∷ 8 ∷ 7 ∷ 6 ∷ 3 ∷ 2 ∷ 1 ∷ []
   -- the frame's number is not taken modulo 1,024
   pub long-period : isMessage (only 160 0 (at 2048 2 8)) anchor 10241 ≡ false
   -- copies are counted from the window's start

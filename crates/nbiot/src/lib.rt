@@ -44,8 +44,8 @@ pub use broadcast::backward_sib1;
 pub use broadcast::forward_npbch;
 pub use broadcast::forward_sib1;
 
-// Forward of the plain engine, which goes one subframe or slot at a time; of an uplink grant beside windows. Its answers
-// are the quick one's (`agreement`).
+// Forward of the plain engine, which goes one subframe or slot at a time; of an uplink grant beside windows. Its
+// answers are the quick one's (`agreement`).
 pub use plain_downlink::forward_npdcch as forward_control_plain;
 pub use plain_downlink::forward_npdsch as forward_down_plain;
 pub use plain_uplink::forward_harq_ack as forward_ack_plain;

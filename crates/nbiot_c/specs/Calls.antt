@@ -25,7 +25,8 @@ use Rattle.buffers.specs.Buffers.{configAt, cellIn, windowsOf, npuschAt, harqAc
 use Rattle.buffers.specs.Buffers.{npuschWalk, harqAckWalk, npdschWalk, npdcchWalk}
 use Rattle.buffers.specs.Buffers.{uplinkPlanNumbers, downlinkPlanNumbers, uplinkPlaceNumbers, downlinkPlaceNumbers}
 use Rattle.buffers.specs.Buffers.{backNumbers, downlinkBackNumbers, searchNumbers}
-use Rattle.buffers.specs.Buffers.{causeNumbers, countNumbers, lacks, windowsShort, tooShort, put, putStepped, putElement}
+use Rattle.buffers.specs.Buffers.{causeNumbers, countNumbers, lacks, windowsShort, tooShort, put, putStepped}
+use Rattle.buffers.specs.Buffers.{putElement}
 
 -- the number that is returned, and the answer's buffer afterwards; of a step the walk's buffer before it
 abbrev pub Reply : Type 0
@@ -39,10 +40,12 @@ StepReply = ℕ × List ℕ × List ℕ
 unfoldable pub judge : List ℕ → List ℕ → List ℕ → ℕ
 judge cell anchor other = cond (lacks 8 cell) tooShort (judgeOf (cellIn cell 0 8) anchor other)
 
--- the bitmap in force is the first bytes of one of the two buffers: 0 the anchor's, 1 the other; a refused cell has 0 and 0
+-- the bitmap in force is the first bytes of one of the two buffers: 0 the anchor's, 1 the other; a refused cell has 0
+-- and 0
 abbrev pub bitmapNumbers : Cell → List ℕ → List ℕ → List ℕ
 bitmapNumbers c anchor other =
-    judgeOf c anchor other ∷ cond (eqb (judgeOf c anchor other) 0) (c .config .carrier) 0 ∷ length (inForceOf c anchor other) ∷ []
+    judgeOf c anchor other ∷ cond (eqb (judgeOf c anchor other) 0) (c .config .carrier) 0
+    ∷ length (inForceOf c anchor other) ∷ []
 
 unfoldable pub bitmap : List ℕ → List ℕ → List ℕ → List ℕ → Reply
 bitmap cell anchor other answer =
@@ -121,7 +124,8 @@ backwardDown cell anchor other grant t slot l k answer =
 
 unfoldable pub stepDown : List ℕ → List ℕ → List ℕ → List ℕ → StepReply
 stepDown walk anchor other answer =
-    cond (lacks 14 walk || lacks 7 answer) (tooShort, walk, answer) (putStepped (steppedOf (npdschWalk walk) anchor other) walk answer)
+    cond (lacks 14 walk || lacks 7 answer) (tooShort, walk, answer)
+    (putStepped (steppedOf (npdschWalk walk) anchor other) walk answer)
 
 -- ---- NPDCCH
 
@@ -142,7 +146,8 @@ backwardControl cell anchor other grant t slot l k answer =
 
 unfoldable pub stepControl : List ℕ → List ℕ → List ℕ → List ℕ → StepReply
 stepControl walk anchor other answer =
-    cond (lacks 13 walk || lacks 7 answer) (tooShort, walk, answer) (putStepped (steppedOf (npdcchWalk walk) anchor other) walk answer)
+    cond (lacks 13 walk || lacks 7 answer) (tooShort, walk, answer)
+    (putStepped (steppedOf (npdcchWalk walk) anchor other) walk answer)
 
 -- ---- where NPDCCH may start
 
@@ -156,12 +161,14 @@ search cell anchor other space answer =
 unfoldable pub forwardOn : (CellConfig → Channel) → List ℕ → List ℕ → List ℕ → ℕ → List ℕ → Reply
 forwardOn channel cell anchor other p answer =
     cond (lacks 8 cell || lacks 6 answer) (tooShort, answer)
-    (put (downlinkPlaceNumbers (broadcast.forwardOf (cellIn cell 0 8) anchor other (channel (configAt cell 0)) p)) answer)
+    (put (downlinkPlaceNumbers
+    (broadcast.forwardOf (cellIn cell 0 8) anchor other (channel (configAt cell 0)) p)) answer)
 
 unfoldable pub backwardOn : (CellConfig → Channel) → List ℕ → List ℕ → List ℕ → ℕ → ℕ → ℕ → ℕ → List ℕ → Reply
 backwardOn channel cell anchor other t slot l k answer =
     cond (lacks 8 cell || lacks 5 answer) (tooShort, answer)
-    (put (backNumbers (broadcast.backwardOf (cellIn cell 0 8) anchor other (channel (configAt cell 0)) t slot l k)) answer)
+    (put (backNumbers
+    (broadcast.backwardOf (cellIn cell 0 8) anchor other (channel (configAt cell 0)) t slot l k)) answer)
 
 -- ---- the numbers of a transmitted subframe: an output that is no subframe's is refused by 15
 
@@ -173,7 +180,9 @@ fill cell anchor other grant i bits level output =
     )
 
 -- one element: its state, and its two amplitudes
-unfoldable pub element : List ℕ → List ℕ → List ℕ → List ℕ → ℕ → ℕ → ℕ → ℕ → List ℕ → Float → List ℕ → List Float → ℕ × List ℕ × List Float
+unfoldable pub element : List ℕ → List ℕ → List ℕ → List ℕ → ℕ → ℕ → ℕ → ℕ → List ℕ → Float → List ℕ → List Float
+    → ℕ × List ℕ × List Float
 element cell anchor other grant i slot l k bits level answer amplitudes =
     cond ((lacks 8 cell || lacks 5 grant) || (lacks 2 answer || lacks 2 amplitudes)) (tooShort, answer, amplitudes)
-    (putElement (numbersOf (elementAnswer (cellIn cell 0 8) anchor other (npdschAt grant 0) i slot l k bits level)) answer amplitudes)
+    (putElement (numbersOf
+    (elementAnswer (cellIn cell 0 8) anchor other (npdschAt grant 0) i slot l k bits level)) answer amplitudes)

@@ -110,7 +110,8 @@ pub extern "C" fn nbiot_plan_up(grant: &[u64], answer: &mut [u64]) -> u64
 // The same beside windows.
 #[no_mangle]
 pub extern "C" fn nbiot_plan_up_windows(grant: &[u64], windows: &[u64], answer: &mut [u64]) -> u64
-    ensures { λ r. ⌜ (r, now (answer .exit)) ≡ calls.planUp (now (grant .entry)) (now (windows .entry)) (now (answer .entry)) ⌝ }
+    ensures { λ r. ⌜ (r, now (answer .exit))
+        ≡ calls.planUp (now (grant .entry)) (now (windows .entry)) (now (answer .entry)) ⌝ }
 {
     if buffers::short_beside(windows, 7, 7, grant.len(), answer.len()) {
         return TOO_SHORT;
@@ -139,7 +140,8 @@ pub extern "C" fn nbiot_forward_up_windows(
     p: u64,
     answer: &mut [u64],
 ) -> u64
-    ensures { λ r. ⌜ (r, now (answer .exit)) ≡ calls.forwardUp (now (grant .entry)) (now (windows .entry)) p (now (answer .entry)) ⌝ }
+    ensures { λ r. ⌜ (r, now (answer .exit))
+        ≡ calls.forwardUp (now (grant .entry)) (now (windows .entry)) p (now (answer .entry)) ⌝ }
 {
     if buffers::short_beside(windows, 7, 5, grant.len(), answer.len()) {
         return TOO_SHORT;
@@ -157,7 +159,8 @@ pub extern "C" fn nbiot_backward_up(
     k: u64,
     answer: &mut [u64],
 ) -> u64
-    ensures { λ r. ⌜ (r, now (answer .exit)) ≡ calls.backwardUp (now (grant .entry)) [] slot l k (now (answer .entry)) ⌝ }
+    ensures { λ r. ⌜ (r, now (answer .exit))
+        ≡ calls.backwardUp (now (grant .entry)) [] slot l k (now (answer .entry)) ⌝ }
 {
     if buffers::short2(7, 5, grant.len(), answer.len()) {
         return TOO_SHORT;
@@ -195,7 +198,8 @@ pub extern "C" fn nbiot_backward_up_windows(
 // One step of a walk: the answer at its position, which moves on.
 #[no_mangle]
 pub extern "C" fn nbiot_step_up(walk: &mut [u64], answer: &mut [u64]) -> u64
-    ensures { λ r. ⌜ (r, now (walk .exit), now (answer .exit)) ≡ calls.stepUp (now (walk .entry)) [] (now (answer .entry)) ⌝ }
+    ensures { λ r. ⌜ (r, now (walk .exit), now (answer .exit))
+        ≡ calls.stepUp (now (walk .entry)) [] (now (answer .entry)) ⌝ }
 {
     if buffers::short2(8, 7, walk.len(), answer.len()) {
         return TOO_SHORT;
@@ -257,7 +261,8 @@ pub extern "C" fn nbiot_plan_ack(grant: &[u64], answer: &mut [u64]) -> u64
 // The same beside windows.
 #[no_mangle]
 pub extern "C" fn nbiot_plan_ack_windows(grant: &[u64], windows: &[u64], answer: &mut [u64]) -> u64
-    ensures { λ r. ⌜ (r, now (answer .exit)) ≡ calls.planAck (now (grant .entry)) (now (windows .entry)) (now (answer .entry)) ⌝ }
+    ensures { λ r. ⌜ (r, now (answer .exit))
+        ≡ calls.planAck (now (grant .entry)) (now (windows .entry)) (now (answer .entry)) ⌝ }
 {
     if buffers::short_beside(windows, 4, 7, grant.len(), answer.len()) {
         return TOO_SHORT;
@@ -286,7 +291,8 @@ pub extern "C" fn nbiot_forward_ack_windows(
     p: u64,
     answer: &mut [u64],
 ) -> u64
-    ensures { λ r. ⌜ (r, now (answer .exit)) ≡ calls.forwardAck (now (grant .entry)) (now (windows .entry)) p (now (answer .entry)) ⌝ }
+    ensures { λ r. ⌜ (r, now (answer .exit))
+        ≡ calls.forwardAck (now (grant .entry)) (now (windows .entry)) p (now (answer .entry)) ⌝ }
 {
     if buffers::short_beside(windows, 4, 5, grant.len(), answer.len()) {
         return TOO_SHORT;
@@ -304,7 +310,8 @@ pub extern "C" fn nbiot_backward_ack(
     k: u64,
     answer: &mut [u64],
 ) -> u64
-    ensures { λ r. ⌜ (r, now (answer .exit)) ≡ calls.backwardAck (now (grant .entry)) [] slot l k (now (answer .entry)) ⌝ }
+    ensures { λ r. ⌜ (r, now (answer .exit))
+        ≡ calls.backwardAck (now (grant .entry)) [] slot l k (now (answer .entry)) ⌝ }
 {
     if buffers::short2(4, 5, grant.len(), answer.len()) {
         return TOO_SHORT;
@@ -342,7 +349,8 @@ pub extern "C" fn nbiot_backward_ack_windows(
 // One step of a walk: the answer at its position, which moves on.
 #[no_mangle]
 pub extern "C" fn nbiot_step_ack(walk: &mut [u64], answer: &mut [u64]) -> u64
-    ensures { λ r. ⌜ (r, now (walk .exit), now (answer .exit)) ≡ calls.stepAck (now (walk .entry)) [] (now (answer .entry)) ⌝ }
+    ensures { λ r. ⌜ (r, now (walk .exit), now (answer .exit))
+        ≡ calls.stepAck (now (walk .entry)) [] (now (answer .entry)) ⌝ }
 {
     if buffers::short2(5, 7, walk.len(), answer.len()) {
         return TOO_SHORT;
@@ -386,7 +394,8 @@ pub extern "C" fn nbiot_plan_down(
     answer: &mut [u64],
 ) -> u64
     ensures { λ r. ⌜ (r, now (answer .exit))
-        ≡ calls.planDown (now (cell .entry)) (now (anchor .entry)) (now (other .entry)) (now (grant .entry)) (now (answer .entry)) ⌝ }
+        ≡ calls.planDown (now (cell .entry)) (now (anchor .entry)) (now (other .entry)) (now (grant .entry))
+        (now (answer .entry)) ⌝ }
 {
     if buffers::short3(8, 5, 5, cell.len(), grant.len(), answer.len()) {
         return TOO_SHORT;
@@ -481,7 +490,8 @@ pub extern "C" fn nbiot_plan_control(
     answer: &mut [u64],
 ) -> u64
     ensures { λ r. ⌜ (r, now (answer .exit))
-        ≡ calls.planControl (now (cell .entry)) (now (anchor .entry)) (now (other .entry)) (now (grant .entry)) (now (answer .entry)) ⌝ }
+        ≡ calls.planControl (now (cell .entry)) (now (anchor .entry)) (now (other .entry)) (now (grant .entry))
+        (now (answer .entry)) ⌝ }
 {
     if buffers::short3(8, 4, 5, cell.len(), grant.len(), answer.len()) {
         return TOO_SHORT;
@@ -576,7 +586,8 @@ pub extern "C" fn nbiot_search(
     answer: &mut [u64],
 ) -> u64
     ensures { λ r. ⌜ (r, now (answer .exit))
-        ≡ calls.search (now (cell .entry)) (now (anchor .entry)) (now (other .entry)) (now (space .entry)) (now (answer .entry)) ⌝ }
+        ≡ calls.search (now (cell .entry)) (now (anchor .entry)) (now (other .entry)) (now (space .entry))
+        (now (answer .entry)) ⌝ }
 {
     if buffers::short3(8, 4, 48, cell.len(), space.len(), answer.len()) {
         return TOO_SHORT;
@@ -599,7 +610,8 @@ pub extern "C" fn nbiot_forward_npbch(
     answer: &mut [u64],
 ) -> u64
     ensures { λ r. ⌜ (r, now (answer .exit))
-        ≡ calls.forwardOn npbchOf (now (cell .entry)) (now (anchor .entry)) (now (other .entry)) p (now (answer .entry)) ⌝ }
+        ≡ calls.forwardOn npbchOf (now (cell .entry)) (now (anchor .entry)) (now (other .entry)) p
+        (now (answer .entry)) ⌝ }
 {
     if buffers::short2(8, 6, cell.len(), answer.len()) {
         return TOO_SHORT;
@@ -621,7 +633,8 @@ pub extern "C" fn nbiot_backward_npbch(
     answer: &mut [u64],
 ) -> u64
     ensures { λ r. ⌜ (r, now (answer .exit))
-        ≡ calls.backwardOn npbchOf (now (cell .entry)) (now (anchor .entry)) (now (other .entry)) t slot l k (now (answer .entry)) ⌝ }
+        ≡ calls.backwardOn npbchOf (now (cell .entry)) (now (anchor .entry)) (now (other .entry)) t slot l k
+        (now (answer .entry)) ⌝ }
 {
     if buffers::short2(8, 5, cell.len(), answer.len()) {
         return TOO_SHORT;
@@ -640,7 +653,8 @@ pub extern "C" fn nbiot_forward_sib1(
     answer: &mut [u64],
 ) -> u64
     ensures { λ r. ⌜ (r, now (answer .exit))
-        ≡ calls.forwardOn sib1Of (now (cell .entry)) (now (anchor .entry)) (now (other .entry)) p (now (answer .entry)) ⌝ }
+        ≡ calls.forwardOn sib1Of (now (cell .entry)) (now (anchor .entry)) (now (other .entry)) p
+        (now (answer .entry)) ⌝ }
 {
     if buffers::short2(8, 6, cell.len(), answer.len()) {
         return TOO_SHORT;
@@ -662,7 +676,8 @@ pub extern "C" fn nbiot_backward_sib1(
     answer: &mut [u64],
 ) -> u64
     ensures { λ r. ⌜ (r, now (answer .exit))
-        ≡ calls.backwardOn sib1Of (now (cell .entry)) (now (anchor .entry)) (now (other .entry)) t slot l k (now (answer .entry)) ⌝ }
+        ≡ calls.backwardOn sib1Of (now (cell .entry)) (now (anchor .entry)) (now (other .entry)) t slot l k
+        (now (answer .entry)) ⌝ }
 {
     if buffers::short2(8, 5, cell.len(), answer.len()) {
         return TOO_SHORT;
@@ -738,7 +753,8 @@ pub extern "C" fn nbiot_forward_up_plain(
     p: u64,
     answer: &mut [u64],
 ) -> u64
-    ensures { λ r. ⌜ (r, now (answer .exit)) ≡ calls.forwardUp (now (grant .entry)) (now (windows .entry)) p (now (answer .entry)) ⌝ }
+    ensures { λ r. ⌜ (r, now (answer .exit))
+        ≡ calls.forwardUp (now (grant .entry)) (now (windows .entry)) p (now (answer .entry)) ⌝ }
 {
     if buffers::short_beside(windows, 7, 5, grant.len(), answer.len()) {
         return TOO_SHORT;
@@ -769,7 +785,8 @@ pub extern "C" fn nbiot_forward_ack_plain(
     p: u64,
     answer: &mut [u64],
 ) -> u64
-    ensures { λ r. ⌜ (r, now (answer .exit)) ≡ calls.forwardAck (now (grant .entry)) (now (windows .entry)) p (now (answer .entry)) ⌝ }
+    ensures { λ r. ⌜ (r, now (answer .exit))
+        ≡ calls.forwardAck (now (grant .entry)) (now (windows .entry)) p (now (answer .entry)) ⌝ }
 {
     if buffers::short_beside(windows, 4, 5, grant.len(), answer.len()) {
         return TOO_SHORT;

@@ -1,4 +1,5 @@
--- What the questions on an NPDCCH answer, on any numbers and buffers: 01 "Downlink grants" and "Questions", 02 L2; TS 36.211 clause 10.2.5.5.
+-- What the questions on an NPDCCH answer, on any numbers and buffers: 01 "Downlink grants" and "Questions", 02 L2; TS
+-- 36.211 clause 10.2.5.5.
 use mathlib.Core.List.{List}
 use Prim.Native.Nat.{ℕ}
 use Rattle.cell.specs.declared.CellConfig.{CellConfig}

@@ -1,5 +1,5 @@
--- What the questions on an NPDSCH answer, on any numbers and buffers: 01 "Downlink grants" and "Questions", 02 L2; TS 36.213 clauses 16.4.1 and
--- 16.4.1.3, TS 36.211 clause 10.2.3.4.
+-- What the questions on an NPDSCH answer, on any numbers and buffers: 01 "Downlink grants" and "Questions", 02 L2; TS
+-- 36.213 clauses 16.4.1 and 16.4.1.3, TS 36.211 clause 10.2.3.4.
 use mathlib.Core.List.{List}
 use Prim.Native.Nat.{ℕ, _+_}
 use Rattle.grid.specs.Grid.{subcarriers}
@@ -19,7 +19,8 @@ use Rattle.downlink.specs.Answers.{planAnswer, forwardAnswer, backAnswer}
 use Rattle.npdsch.specs.declared.NpdschGrant.{NpdschGrant}
 use Rattle.npdsch.specs.Refusals.{grantRefusal}
 
--- the first subframe sent is the usable one before which exactly (delay) usable ones lie, counting from n + 5; all subcarriers are used
+-- the first subframe sent is the usable one before which exactly (delay) usable ones lie, counting from n + 5; all
+-- subcarriers are used
 abbrev pub burstOf : CellConfig → NpdschGrant → Burst
 burstOf c g = record {
   layout = layoutOf c;

@@ -18,7 +18,8 @@ use Rattle.nprach.specs.Windows.{isOneOf, unitsOfMs, allPeriods, isRead,
 abbrev pub resting : ℕ → Closure
 resting ms = record { period = 40 / ms; phase = 0; closed = 0 }
 
--- the groups that a window closes, as a closure: a window begins where a group does, and closes each group that its length reaches into
+-- the groups that a window closes, as a closure: a window begins where a group does, and closes each group that its
+-- length reaches into
 unfoldable pub closureOf : ℕ → ℕ → ℕ → Bool → Window → Closure
 closureOf ms a n read w =
     cond (read && sharesTone a n w)
@@ -48,8 +49,8 @@ scaled part (n ∷ list) = n * part ∷ scaled part list
 abbrev pub steps : ℕ → List ℕ
 steps part = scaled part doubles
 
--- nested closures that leave open the groups of ms that a test does; the longest period is one of theirs, its clear groups are counted, and there are some if there are
--- any in 2,560 ms
+-- nested closures that leave open the groups of ms that a test does; the longest period is one of theirs, its clear
+-- groups are counted, and there are some if there are any in 2,560 ms
 pub record NestedFor (ms : ℕ) (isOpen : ℕ → Bool) (nested : Nested) : Type 0 where
   pub same : (u : ℕ) → clear (nested .closures) u ≡ isOpen u
   pub nesting : WellNested nested

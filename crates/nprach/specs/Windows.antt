@@ -1,4 +1,5 @@
--- Random access windows: 02 L4; TS 36.211 clauses 10.1.3.6 (uplink slots that overlap them are postponed) and 10.1.6 (the preamble).
+-- Random access windows: 02 L4; TS 36.211 clauses 10.1.3.6 (uplink slots that overlap them are postponed) and 10.1.6
+-- (the preamble).
 use mathlib.Core.Bool.{Bool, cond, not, _&&_, _||_}
 use mathlib.Core.List.{List, [], _∷_, _++_}
 use Prim.Native.Nat.{ℕ, _+_, _-_, _*_, _/_, _%_}
@@ -67,7 +68,8 @@ areListed ws =
 abbrev pub sharesTone : ℕ → ℕ → Window → Bool
 sharesTone a n w = ltb a (w .tone + windowTones) && ltb (w .tone) (a + n)
 
--- before time e, in ms, windows begin at every t equal to the start modulo the period, below 0 too: how long before e the last of them begins
+-- before time e, in ms, windows begin at every t equal to the start modulo the period, below 0 too: how long before e
+-- the last of them begins
 abbrev pub sinceBegin : Window → ℕ → ℕ
 sinceBegin w e = (e + allPeriods - 1 - w .start) % w .period + 1
 
@@ -86,7 +88,8 @@ isClear ms a n ws u =
     (not (meets ms a n (isRead ws 1) (ws .w1) u) && not (meets ms a n (isRead ws 2) (ws .w2) u))
     && (not (meets ms a n (isRead ws 3) (ws .w3) u) && not (meets ms a n (isRead ws 4) (ws .w4) u))
 
--- ---- refusals: 19 a fifth window, a number that is not listed, or tones past 47; 20 no group is ever free on the granted tones
+-- ---- refusals: 19 a fifth window, a number that is not listed, or tones past 47; 20 no group is ever free on the
+-- granted tones
 
 unfoldable pub windowsRefusal : ℕ → ℕ → ℕ → Windows → ℕ
 windowsRefusal ms a n ws =
@@ -101,4 +104,5 @@ abbrev pub openTo : ℕ → ℕ → ℕ → Windows → ℕ → Bool
 openTo spacing tone tones ws = isClear (groupMs spacing) (narrowTones spacing * tone) (narrowTones spacing * tones) ws
 
 abbrev pub refusalOn : ℕ → ℕ → ℕ → Windows → ℕ
-refusalOn spacing tone tones = windowsRefusal (groupMs spacing) (narrowTones spacing * tone) (narrowTones spacing * tones)
+refusalOn spacing tone tones =
+    windowsRefusal (groupMs spacing) (narrowTones spacing * tone) (narrowTones spacing * tones)

@@ -1,5 +1,5 @@
--- Cases P2 to P6 of 01, as statements about the answers of grants with no random access window. What a case leaves open is any
--- accepted number; L4's cases are examples with every number fixed.
+-- Cases P2 to P6 of 01, as statements about the answers of grants with no random access window. What a case leaves
+-- open is any accepted number; L4's cases are examples with every number fixed.
 use mathlib.Core.List.{List, [], _∷_, _++_, map}
 use mathlib.Core.Path.{_≡_}
 use Prim.Native.Nat.{ℕ, zero, suc, _+_, _*_, _/_, _≤_}
@@ -62,11 +62,14 @@ pub record UplinkCases : Type 0 where
       → planOf g ws ≡ refusedPlan 11
   pub p4-wide : (g : NpuschGrant) (ws : Windows) → FreeInRange g → g .mcs ≤ 15 → g .spacing ≡ 1 → g .subcarrier ≡ 19
       → planOf g ws ≡ refusedPlan 11
-  pub p5 : (n delay mcs : ℕ) → n ≤ lastSubframe → delay ≤ 3 → mcs ≤ 4 → carriedSlots (threeTones n delay mcs) 32 ≡ firstPass ++ firstPass
+  pub p5 : (n delay mcs : ℕ) → n ≤ lastSubframe → delay ≤ 3 → mcs ≤ 4
+      → carriedSlots (threeTones n delay mcs) 32 ≡ firstPass ++ firstPass
   -- 8 copies, and 16
-  pub p6-8 : (g : NpuschGrant) → FreeInRange g → g .mcs ≤ 4 → g .subcarrier ≤ 47 → g .spacing ≡ 0 → g .units ≡ 0 → g .copies ≡ 3
+  pub p6-8 : (g : NpuschGrant) → FreeInRange g → g .mcs ≤ 4 → g .subcarrier ≤ 47 → g .spacing ≡ 0 → g .units ≡ 0
+      → g .copies ≡ 3
       → planOf g none .last ≡ planOf g none .first + 127
-  pub p6-16 : (g : NpuschGrant) → FreeInRange g → g .mcs ≤ 4 → g .subcarrier ≤ 47 → g .spacing ≡ 0 → g .units ≡ 0 → g .copies ≡ 4
+  pub p6-16 : (g : NpuschGrant) → FreeInRange g → g .mcs ≤ 4 → g .subcarrier ≤ 47 → g .spacing ≡ 0 → g .units ≡ 0
+      → g .copies ≡ 4
       → planOf g none .last ≡ planOf g none .first + 275
 
 -- ---- 02 L4
@@ -103,4 +106,5 @@ pub record WindowCases : Type 0 where
   pub never : planOf (oneTone 0) (lasting 1376256) ≡ refusedPlan 20
   -- 128 repetitions, and a period of 240, are not listed
   pub unlistedLength : planOf (oneTone 0) (lasting 22020096) ≡ refusedPlan 19
-  pub unlistedPeriod : planOf (oneTone 0) (oneWindow (record { period = 240; start = 8; length = 172032; tone = 0 })) ≡ refusedPlan 19
+  pub unlistedPeriod : planOf (oneTone 0)
+      (oneWindow (record { period = 240; start = 8; length = 172032; tone = 0 })) ≡ refusedPlan 19

@@ -1,4 +1,5 @@
--- What the uplink questions answer, on any numbers, of a grant beside random access windows: 01 "Questions", 02 L4. A grant alone is one beside `none`.
+-- What the uplink questions answer, on any numbers, of a grant beside random access windows: 01 "Questions", 02 L4. A
+-- grant alone is one beside `none`.
 use Prim.Native.Nat.{ℕ}
 use Rattle.grid.specs.Grid.{uplinkSubcarriers}
 use Rattle.sending.specs.declared.Back.{Back}

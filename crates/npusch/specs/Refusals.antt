@@ -1,4 +1,5 @@
--- When an uplink grant is refused, and with which number: 01 "Numbers a caller may get back", 02 L4. Each test is asked where those before it passed.
+-- When an uplink grant is refused, and with which number: 01 "Numbers a caller may get back", 02 L4. Each test is
+-- asked where those before it passed.
 use mathlib.Core.Bool.{Bool, cond, _||_}
 use Prim.Native.Nat.{ℕ}
 use lib.Dec.{eqb, ltb, leb}

@@ -1,4 +1,5 @@
--- Uplink slots by subcarrier spacing: 01 "Time and grid" and "Uplink grants"; TS 36.211 clauses 10.1.2 and 10.1.3.6, TS 36.213 clause 16.5.1.
+-- Uplink slots by subcarrier spacing: 01 "Time and grid" and "Uplink grants"; TS 36.211 clauses 10.1.2 and 10.1.3.6,
+-- TS 36.213 clause 16.5.1.
 use mathlib.Core.Bool.{Bool, cond}
 use Prim.Native.Nat.{ℕ, _+_, _*_, _/_}
 use lib.Dec.{eqb, leb}

@@ -39,8 +39,8 @@ pub struct Places {
     pub places: u64,
 }
 
-// A narrowband reference stands at symbol l of a slot: port 2000 at l = 5 near and at l = 6 far, port 2001 the other way
-// round. Near: k mod 6 is v; far: it is (v + 3) mod 6.
+// A narrowband reference stands at symbol l of a slot: port 2000 at l = 5 near and at l = 6 far, port 2001 the other
+// way round. Near: k mod 6 is v; far: it is (v + 3) mod 6.
 fn is_nrs(g: Layout, l: u64, near: bool, far: bool) -> bool
     ensures { λ r. ⌜ r ≡ nrsOn g l near far ⌝ }
 {
@@ -196,7 +196,8 @@ fn burst_forward(
 ) -> DownlinkPlace
     requires { ⌜ Searchable p laid (messagesIn (now si)) × Fits b ⌝ }
     ensures { λ r. ⌜ r
-        ≡ placeAt refusedPlace placeOf (sendingOf (leftIn p laid (messagesIn (now (si .entry)))) allPeriods b) position ⌝ }
+        ≡ placeAt refusedPlace placeOf
+        (sendingOf (leftIn p laid (messagesIn (now (si .entry)))) allPeriods b) position ⌝ }
 {
     let w = count_used(b.layout, b.low, b.width);
     let total = downlink::sent_subframes(b) * w;
@@ -256,7 +257,8 @@ fn npdsch_lent(
     g: NpdschGrant,
     p: u64,
 ) -> DownlinkPlace
-    ensures { λ r. ⌜ r ≡ npdsch.forwardOf (lentCell c (now (si .entry))) (now (anchor .entry)) (now (other .entry)) g p ⌝ }
+    ensures { λ r. ⌜ r
+        ≡ npdsch.forwardOf (lentCell c (now (si .entry))) (now (anchor .entry)) (now (other .entry)) g p ⌝ }
 {
     let v = cell::judged_lent(c, si, anchor, other);
     forward(npdsch::ready(v.no, c, g), c, si, v.pattern, v.laid, p)
@@ -279,7 +281,8 @@ fn npdcch_lent(
     g: NpdcchGrant,
     p: u64,
 ) -> DownlinkPlace
-    ensures { λ r. ⌜ r ≡ npdcch.forwardOf (lentCell c (now (si .entry))) (now (anchor .entry)) (now (other .entry)) g p ⌝ }
+    ensures { λ r. ⌜ r
+        ≡ npdcch.forwardOf (lentCell c (now (si .entry))) (now (anchor .entry)) (now (other .entry)) g p ⌝ }
 {
     let v = cell::judged_lent(c, si, anchor, other);
     forward(npdcch::ready(v.no, c, g), c, si, v.pattern, v.laid, p)

@@ -12,5 +12,6 @@ use Rattle.plain_uplink.specs.declared.elements.Along.{Along}
 pub record Passed (s : Shape) (l e : ℕ) (r : Along) : Type 0 where
   pub within : r .k ≤ s .subcarriers
   pub counted :
-      rank (carriesData s) (uplinkElementOf (s .subcarriers) l (r .k)) + r .left ≡ rank (carriesData s) (l * s .subcarriers) + e
+      rank (carriesData s) (uplinkElementOf (s .subcarriers) l (r .k)) + r .left
+      ≡ rank (carriesData s) (l * s .subcarriers) + e
   pub found : r .k < s .subcarriers → (carriesData s (uplinkElementOf (s .subcarriers) l (r .k)) ≡ true) × (r .left ≡ 0)

@@ -20,7 +20,8 @@ openBeside spacing s ws = openTo spacing (s .tone) (s .tones) ws
 
 -- the question on the shape, in the groups that they leave open
 abbrev pub questionBeside : ℕ → Shape → Windows → Question
-questionBeside spacing s ws = record { no = refusalBeside spacing s ws; sending = sendingOf s (openBeside spacing s ws) }
+questionBeside spacing s ws =
+    record { no = refusalBeside spacing s ws; sending = sendingOf s (openBeside spacing s ws) }
 
 -- the numbers of a shape that its spacing gives; whoever makes shapes shows them
 pub record AtSpacing (spacing : ℕ) (s : Shape) : Type 0 where

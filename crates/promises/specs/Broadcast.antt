@@ -38,11 +38,13 @@ channelAnswers c anchor other channel = record {
 }
 
 -- a channel that repeats after P subframes, in those of one cause
-pub record ChannelDemand (c : Cell) (bitmap : List ℕ) (P : ℕ) (cause : Cause) (g : Granted) (a : Answers SubframePlace) : Type 0 where
+pub record ChannelDemand (c : Cell) (bitmap : List ℕ) (P : ℕ) (cause : Cause) (g : Granted)
+    (a : Answers SubframePlace) : Type 0 where
   -- 1. to 4., in one period
   pub demand : Demand (periodGrid P) g a
   -- At any subframe backward answers as at the one of that period.
-  pub again : (x : SubframePlace) → a .backward x ≡ a .backward (record { t = x .t % P; slot = x .slot; l = x .l; k = x .k })
+  pub again : (x : SubframePlace)
+      → a .backward x ≡ a .backward (record { t = x .t % P; slot = x .slot; l = x .l; k = x .k })
   -- The channel is the cause that its subframes are not usable, in every period; so no grant has a place there.
   pub apart : (x : SubframePlace) (s p : ℕ) → a .backward x ≡ backOf (ours s p) → why c bitmap (x .t) ≡ cause
   pub caused : (p : ℕ) → p < a .places → why c bitmap (a .forward p .place .t) ≡ cause
@@ -76,10 +78,12 @@ pub record BroadcastPromises : Type 0 where
       → ChannelDemand c (bitmapOf c anchor other) 2560 Sib1 (sib1Granted c)
       (channelAnswers c anchor other (sib1Of (c .config)))
   -- 02's own words: block b of 100 symbols goes out in frames 8b to 8b + 7
-  pub blocks : (c : Cell) (anchor other : List ℕ) → judgeOf c anchor other ≡ 0 → c .config .carrier ≡ 0 → (p : ℕ) → p < 6400
+  pub blocks : (c : Cell) (anchor other : List ℕ) → judgeOf c anchor other ≡ 0 → c .config .carrier ≡ 0 → (p : ℕ)
+      → p < 6400
       → Placed c anchor other (npbchOf (c .config)) p (10 * (p / 100)) (100 * (p / 800) + p % 100)
   -- and the eight codeword subframes of SIB1 in sequence in the eight frames of each copy
   pub inSequence : (c : Cell) (anchor other : List ℕ) → judgeOf c anchor other ≡ 0 → c .config .carrier ≡ 0 → (p : ℕ)
       → p < sib1Copies (c .config .sib1) * 8 * sib1Count c
-      → Placed c anchor other (sib1Of (c .config)) p (10 * sib1Frame (c .config .identity) (c .config .sib1) (p / sib1Count c) + 4)
+      → Placed c anchor other (sib1Of (c .config)) p
+      (10 * sib1Frame (c .config .identity) (c .config .sib1) (p / sib1Count c) + 4)
       (p / sib1Count c % 8 * sib1Count c + p % sib1Count c)

@@ -82,11 +82,12 @@ pub record CauseTold (no : ℕ) (usable : Type 0) (a : CauseAnswer) : Type 0 whe
 
 -- ---- 02 L5: messages
 
--- they are laid copy by copy over what the anchor and the bitmap allow, and on the anchor what they leave is usable; on a non-anchor none is
--- laid, and what the bitmap allows is usable
+-- they are laid copy by copy over what the anchor and the bitmap allow, and on the anchor what they leave is usable;
+-- on a non-anchor none is laid, and what the bitmap allows is usable
 pub record MessagesLaid (c : Cell) (bitmap : List ℕ) : Type 0 where
   pub laid : AllLaid (c .messages) (free (c .config) bitmap)
-  pub onAnchor : c .config .carrier ≡ 0 → (t : ℕ) → usable c bitmap t ≡ remaining (c .messages) (free (c .config) bitmap) t
+  pub onAnchor : c .config .carrier ≡ 0 → (t : ℕ)
+      → usable c bitmap t ≡ remaining (c .messages) (free (c .config) bitmap) t
   pub onOther : c .config .carrier ≡ 1 → (t : ℕ) → usable c bitmap t ≡ allowed bitmap (c .config .bits) t
 
 -- ---- one element by its numbers, beside what backward answers at its place
@@ -96,7 +97,8 @@ pub record ElementTold (no : ℕ) (at : Back) (bits : List ℕ) (level : Float) 
   pub refused : (no ≡ 0 → ⊥) → e ≡ record { no = no; state = 0; re = plusZero; im = plusZero }
   pub sent : (s p : ℕ) → no ≡ 0 → at ≡ backOf (ours s p)
       → e ≡ record { no = 0; state = 4; re = symbolOf bits level s .re; im = symbolOf bits level s .im }
-  pub unsent : (kind : ℕ) → no ≡ 0 → at ≡ backOf (notOurs kind) → e ≡ record { no = 0; state = kind; re = plusZero; im = plusZero }
+  pub unsent : (kind : ℕ) → no ≡ 0 → at ≡ backOf (notOurs kind)
+      → e ≡ record { no = 0; state = kind; re = plusZero; im = plusZero }
 
 -- ---- 02 L8: kinds
 

@@ -62,7 +62,8 @@ withholds cause = eqb (causeNumber cause) 6
 abbrev pub takes : Cause → Bool
 takes cause = not (none cause) && not (withholds cause)
 
--- a place is no reference element, not in the control region, in no subframe that is taken, and in none that the bitmap withholds
+-- a place is no reference element, not in the control region, in no subframe that is taken, and in none that the
+-- bitmap withholds
 pub record Clear (c : Cell) (bitmap : List ℕ) (x : SubframePlace) : Type 0 where
   pub noReference : reference (layoutOf (c .config)) (x .l) (x .k) ≡ false
   pub noControl : controlRegion (layoutOf (c .config)) (x .slot) (x .l) ≡ false
@@ -77,7 +78,8 @@ pub record DownlinkDemand (c : Cell) (bitmap : List ℕ) (g : Granted) (a : Answ
 
 -- ---- the cause that backward hands on, of every question, refused ones too (their plan has first 0 and last 0)
 
-pub record HandsOn (c : Cell) (anchor other : List ℕ) (plan : DownlinkPlan) (backward : SubframePlace → DownlinkBack) : Type 0 where
+pub record HandsOn (c : Cell) (anchor other : List ℕ) (plan : DownlinkPlan)
+    (backward : SubframePlace → DownlinkBack) : Type 0 where
   -- Inside the grid and strictly between the first and the last subframe it is what the question of the cause answers.
   pub between : (x : SubframePlace) → downlinkGrid .Inside x → plan .first < x .t → x .t < plan .last
       → backward x .cause ≡ causeOf c anchor other (x .t) .cause
@@ -145,8 +147,10 @@ pub record Promises : Type 0 where
       → Demand (uplinkGrid (uplinkSubcarriers (g .spacing))) (ackGranted g ws)
       (uplinkAnswers (ack.planOf g ws) (ack.forwardOf g ws) (ack.backwardOf g ws))
   -- no place of either is in a group that meets a random access window in time and tone: 02 L4
-  pub uplinkClear : (g : NpuschGrant) (ws : Windows) → npusch.planOf g ws .no ≡ 0 → (p : ℕ) → p < npusch.planOf g ws .places
-      → KeepsClear (g .spacing) (firstTone (g .spacing) (g .subcarrier)) (grantTones g) ws (npusch.forwardOf g ws p .slot)
+  pub uplinkClear : (g : NpuschGrant) (ws : Windows) → npusch.planOf g ws .no ≡ 0 → (p : ℕ)
+      → p < npusch.planOf g ws .places
+      → KeepsClear (g .spacing) (firstTone (g .spacing) (g .subcarrier)) (grantTones g) ws
+      (npusch.forwardOf g ws p .slot)
   pub ackClear : (g : HarqAckGrant) (ws : Windows) → ack.planOf g ws .no ≡ 0 → (p : ℕ) → p < ack.planOf g ws .places
       → KeepsClear (g .spacing) (toneOf (g .spacing) (g .field)) 1 ws (ack.forwardOf g ws p .slot)
   -- the test of a group that the answers read is such a meeting, for every window that is listed
@@ -154,11 +158,13 @@ pub record Promises : Type 0 where
   -- NPDSCH
   pub downlink : (c : Cell) (anchor other : List ℕ) (g : NpdschGrant) → npdsch.planOf c anchor other g .no ≡ 0
       → DownlinkDemand c (bitmapOf c anchor other) (downlinkGranted c (bitmapOf c anchor other) g)
-      (downlinkAnswers (npdsch.planOf c anchor other g) (npdsch.forwardOf c anchor other g) (npdsch.backwardOf c anchor other g))
+      (downlinkAnswers (npdsch.planOf c anchor other g) (npdsch.forwardOf c anchor other g)
+      (npdsch.backwardOf c anchor other g))
   -- NPDCCH
   pub control : (c : Cell) (anchor other : List ℕ) (g : NpdcchGrant) → npdcch.planOf c anchor other g .no ≡ 0
       → DownlinkDemand c (bitmapOf c anchor other) (controlGranted c (bitmapOf c anchor other) g)
-      (downlinkAnswers (npdcch.planOf c anchor other g) (npdcch.forwardOf c anchor other g) (npdcch.backwardOf c anchor other g))
+      (downlinkAnswers (npdcch.planOf c anchor other g) (npdcch.forwardOf c anchor other g)
+      (npdcch.backwardOf c anchor other g))
   -- the cause, NPDSCH and NPDCCH
   pub downlinkCause : (c : Cell) (anchor other : List ℕ) (g : NpdschGrant)
       → HandsOn c anchor other (npdsch.planOf c anchor other g) (byPlace (npdsch.backwardOf c anchor other g))
@@ -175,9 +181,11 @@ pub record Promises : Type 0 where
   pub course : (w : Walk) (anchor other : List ℕ) → w .p ≡ 0 → askedOf w anchor other .no ≡ 0
       → Course w anchor other (askedOf w anchor other)
   -- the bitmap in force
-  pub inForce : (c : Cell) (anchor other : List ℕ) → InForce c (judgeOf c anchor other) anchor other (inForceOf c anchor other)
+  pub inForce : (c : Cell) (anchor other : List ℕ)
+      → InForce c (judgeOf c anchor other) anchor other (inForceOf c anchor other)
   -- the messages of an accepted cell
-  pub messages : (c : Cell) (anchor other : List ℕ) → judgeOf c anchor other ≡ 0 → MessagesLaid c (bitmapOf c anchor other)
+  pub messages : (c : Cell) (anchor other : List ℕ) → judgeOf c anchor other ≡ 0
+      → MessagesLaid c (bitmapOf c anchor other)
   -- the question of the cause, at any subframe
   pub cause : (c : Cell) (anchor other : List ℕ) (t : ℕ)
       → CauseTold (judgeOf c anchor other) (usable c (bitmapOf c anchor other) t ≡ true) (causeOf c anchor other t)
@@ -186,5 +194,6 @@ pub record Promises : Type 0 where
   -- one element of transmitted subframe i of an NPDSCH, which goes out where forward has its first place
   pub element : (c : Cell) (anchor other : List ℕ) (g : NpdschGrant) (i slot l k : ℕ) (bits : List ℕ) (level : Float)
       → ElementTold (elementRefusal c anchor other g i slot l k bits level)
-      (npdsch.backwardOf c anchor other g (npdsch.forwardOf c anchor other g (i * eligibleCount c) .t) slot l k .back) bits level
+      (npdsch.backwardOf c anchor other g
+      (npdsch.forwardOf c anchor other g (i * eligibleCount c) .t) slot l k .back) bits level
       (numbersOf (elementAnswer c anchor other g i slot l k bits level))

@@ -14,8 +14,9 @@ takenAt0 cports = cond (ltb cports 2) cports 2
 abbrev pub takenAt1 : ℕ → ℕ
 takenAt1 cports = cond (ltb cports 4) 0 2
 
--- E of one NCCE, from ports and control region: six subcarriers of fourteen symbols, without the control region, the narrowband
--- references of two symbols in each slot, and the cell references of symbols 0, 4 and 1 in each slot that lie outside the control region
+-- E of one NCCE, from ports and control region: six subcarriers of fourteen symbols, without the control region, the
+-- narrowband references of two symbols in each slot, and the cell references of symbols 0, 4 and 1 in each slot that
+-- lie outside the control region
 abbrev pub closedCount : ℕ → ℕ → ℕ → ℕ
 closedCount nports cports control =
     84 - 6 * control

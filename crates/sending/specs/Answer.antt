@@ -1,5 +1,5 @@
--- What plan, forward and backward answer of a grant on either link, on any numbers: 01 "Questions". Each kind of grant says which question it is; a link
--- says how a refusal, the ends and a spot are shown.
+-- What plan, forward and backward answer of a grant on either link, on any numbers: 01 "Questions". Each kind of
+-- grant says which question it is; a link says how a refusal, the ends and a spot are shown.
 use mathlib.Core.Bool.{Bool, cond}
 use Prim.Native.Nat.{ℕ, _-_}
 use lib.Dec.{eqb, ltb}

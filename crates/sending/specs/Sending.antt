@@ -2,8 +2,9 @@
 use mathlib.Core.Bool.{Bool, cond, _&&_}
 use Prim.Native.Nat.{ℕ, _+_, _*_, _/_, _%_}
 
--- K units are sent, the i-th at time i, and it carries codeword unit carry i, each `copies` times; a unit has W elements, the e-th at elem e.
--- sent and index, used and number go back from a time and from an element; kind is what stands at an element that is not ours.
+-- K units are sent, the i-th at time i, and it carries codeword unit carry i, each `copies` times; a unit has W
+-- elements, the e-th at elem e. sent and index, used and number go back from a time and from an element; kind is what
+-- stands at an element that is not ours.
 pub record Sending : Type 0 where
   pub K : ℕ
   pub W : ℕ

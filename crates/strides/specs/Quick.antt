@@ -128,7 +128,8 @@ pub record Here (ms : Messages) (u : ℕ → Bool) (table : Timetable) (n : ℕ)
 
 abbrev pub Stretches : Timetable → ℕ → Bool → Stretch → Type 0
 Stretches table n far (stretch.Quiet d) = (0 < d) × ((i : ℕ) → i < d → Quiet table (n + i))
-Stretches table n far (Alone whose) = (far ≡ true) × (0 < laneAt table whose .window) × Apart table whose (laneAt table whose .window) n
+Stretches table n far (Alone whose) =
+    (far ≡ true) × (0 < laneAt table whose .window) × Apart table whose (laneAt table whose .window) n
 Stretches table n far (Busy d) = 0 < d
 
 abbrev pub heldAt : Sight → Bool → Kept → Leap

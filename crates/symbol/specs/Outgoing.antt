@@ -1,4 +1,5 @@
--- What goes out at an element, what a fill writes there and what is answered for it: 01 "Questions" (fill, one element).
+-- What goes out at an element, what a fill writes there and what is answered for it: 01 "Questions" (fill, one
+-- element).
 use mathlib.Core.List.{List}
 use Prim.Native.Nat.{ℕ}
 use lib.Ieee as Ieee

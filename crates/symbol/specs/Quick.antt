@@ -12,7 +12,8 @@ use Rattle.symbol.specs.Outgoing.{plusZero}
 
 -- the four symbols at a level, by their two bits
 abbrev pub symbolsOf : Float → List Symbol
-symbolsOf level = qpskOf false false level ∷ qpskOf false true level ∷ qpskOf true false level ∷ qpskOf true true level ∷ []
+symbolsOf level =
+    qpskOf false false level ∷ qpskOf false true level ∷ qpskOf true false level ∷ qpskOf true true level ∷ []
 
 -- what is written where nothing goes out
 abbrev pub silence : Symbol

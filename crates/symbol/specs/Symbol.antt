@@ -16,7 +16,8 @@ abbrev pub signed : Bool → Float → Float
 signed false x = x
 signed true x = Ieee.neg x
 
--- symbol c of the codeword: real from bit 2c, imaginary from bit 2c + 1 of the bits, the first bit the highest of byte 0
+-- symbol c of the codeword: real from bit 2c, imaginary from bit 2c + 1 of the bits, the first bit the highest of
+-- byte 0
 unfoldable pub symbolOf : List ℕ → Float → ℕ → Symbol
 symbolOf bits level c =
     record { re = signed (bitOf bits (2 * c)) (sizeOf level); im = signed (bitOf bits (2 * c + 1)) (sizeOf level) }

@@ -5,7 +5,8 @@ use lib.Dec.{eqb}
 use Rattle.spans.specs.declared.Pattern.{Pattern}
 use Rattle.sync.specs.Sync.{bySchedule}
 
--- the pattern of an anchor whose bitmap allows all: no NPBCH, NPSS and NSSS, and in four spans no SIB1, in the even or in the odd frames
+-- the pattern of an anchor whose bitmap allows all: no NPBCH, NPSS and NSSS, and in four spans no SIB1, in the even
+-- or in the odd frames
 unfoldable pub anchorPattern : ℕ → ℕ → Pattern
 anchorPattern identity schedule = record {
   log = bySchedule (schedule % 3) 4 3 2;

@@ -29,11 +29,13 @@ sib1Copies schedule = bySchedule (schedule % 3) 4 8 16
 abbrev pub sib1First : ℕ → ℕ → ℕ
 sib1First identity schedule = bySchedule (schedule % 3) (16 * (identity % 4)) (16 * (identity % 2)) (identity % 2)
 
--- (f - first) mod (256 div copies), the remainder from 0 up: 256 is a multiple of the divisor and no smaller than the first frame
+-- (f - first) mod (256 div copies), the remainder from 0 up: 256 is a multiple of the divisor and no smaller than the
+-- first frame
 abbrev pub sib1Place : ℕ → ℕ → ℕ → ℕ
 sib1Place identity schedule f = (f + 256 - sib1First identity schedule) % (256 / sib1Copies schedule)
 
 -- subframe 4 of every other frame of 16
 abbrev pub sib1 : ℕ → ℕ → ℕ → Bool
 sib1 identity schedule t =
-    eqb (subframe t) 4 && (even (sib1Place identity schedule (frame t)) && ltb (sib1Place identity schedule (frame t)) 16)
+    eqb (subframe t) 4
+    && (even (sib1Place identity schedule (frame t)) && ltb (sib1Place identity schedule (frame t)) 16)

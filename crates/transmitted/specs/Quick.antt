@@ -21,7 +21,8 @@ use Rattle.transmitted.specs.Refusals.{callRefusal}
 
 -- what goes out at element x of a subframe whose first symbol is `first`
 unfoldable pub goesIn : Layout → ℕ → ℕ → Outgoing
-goesIn g first x = cond (used g 0 subcarriers x) (Ours (first + numberOf g 0 subcarriers x)) (goesOut (Content.notOurs (kindOf g x)))
+goesIn g first x =
+    cond (used g 0 subcarriers x) (Ours (first + numberOf g 0 subcarriers x)) (goesOut (Content.notOurs (kindOf g x)))
 
 -- the symbols of the subframe have their bits
 pub record Prepared (g : Layout) (first : ℕ) (bits : List ℕ) : Type 0 where
@@ -30,7 +31,8 @@ pub record Prepared (g : Layout) (first : ℕ) (bits : List ℕ) : Type 0 where
   pub small : first < 2 ^ 32
 
 -- a call judged: its refusal, and for an accepted one what goes out
-pub record CallFor (c : Cell) (anchor other : List ℕ) (g : NpdschGrant) (i : ℕ) (outside : Bool) (bits : List ℕ) (wrongOutput : Bool)
+pub record CallFor (c : Cell) (anchor other : List ℕ) (g : NpdschGrant) (i : ℕ) (outside : Bool) (bits : List ℕ)
+    (wrongOutput : Bool)
     (level : Float) (r : Call) : Type 0 where
   pub number : r .no ≡ callRefusal c anchor other g i outside bits wrongOutput level
   pub prepared : r .no ≡ 0 → Prepared (layoutOf (c .config)) (r .first) bits

@@ -1,4 +1,5 @@
--- When a fill, or a question on one element, is refused, and with which number: the cell's refusals, the grant's, then 14 to 17 of 01's table.
+-- When a fill, or a question on one element, is refused, and with which number: the cell's refusals, the grant's,
+-- then 14 to 17 of 01's table.
 use mathlib.Core.Bool.{Bool, false, cond, not, _||_}
 use mathlib.Core.List.{List}
 use Prim.Native.Nat.{ℕ, _+_, _*_, _/_}
@@ -20,7 +21,8 @@ use Rattle.symbol.specs.Symbol.{levelInRange}
 abbrev pub codewordBytes : Burst → ℕ
 codewordBytes b = (b .codeword * countOf (b .layout) (b .low) (b .width) + 3) / 4
 
--- 14 to 17, for transmitted subframe i; outside: the element that is asked lies outside the grid; wrongOutput: the output has another size
+-- 14 to 17, for transmitted subframe i; outside: the element that is asked lies outside the grid; wrongOutput: the
+-- output has another size
 unfoldable pub lateRefusal : Burst → ℕ → Bool → List ℕ → Bool → Float → ℕ
 lateRefusal b i outside bits wrongOutput level =
     cond (leb (sentSubframes b) i || outside) noSuchPlace
@@ -31,7 +33,8 @@ lateRefusal b i outside bits wrongOutput level =
 -- the cell's and the grant's come first
 unfoldable pub callRefusal : Cell → List ℕ → List ℕ → NpdschGrant → ℕ → Bool → List ℕ → Bool → Float → ℕ
 callRefusal c anchor other g i outside bits wrongOutput level =
-    cond (eqb (refusalOf c anchor other g) 0) (lateRefusal (burstOf (c .config) g) i outside bits wrongOutput level) (refusalOf c anchor other g)
+    cond (eqb (refusalOf c anchor other g) 0) (lateRefusal (burstOf (c .config) g) i outside bits wrongOutput level)
+    (refusalOf c anchor other g)
 
 -- the element is any number of slot, l and k; there is no output
 abbrev pub elementRefusal : Cell → List ℕ → List ℕ → NpdschGrant → ℕ → ℕ → ℕ → ℕ → List ℕ → Float → ℕ

@@ -60,7 +60,8 @@ logsWith logs read s = record {
 unfoldable pub logsOf : Messages → Logs
 logsOf ms =
     logsWith
-    (logsWith (logsWith (logsWith (record { shortest = 4; longest = 6 }) (isRead ms 1) (ms .s1)) (isRead ms 2) (ms .s2)) (isRead ms 3) (ms .s3))
+    (logsWith (logsWith (logsWith (record { shortest = 4; longest = 6 }) (isRead ms 1) (ms .s1)) (isRead ms 2)
+    (ms .s2)) (isRead ms 3) (ms .s3))
     (isRead ms 4) (ms .s4)
 
 abbrev pub shortestOf : Messages → ℕ

@@ -1,4 +1,5 @@
--- What stands where in a slot that is sent: TS 36.211 clause 10.1.3.6 (data) and table 10.1.4.2-1 (reference symbols); 01 "Uplink grants".
+-- What stands where in a slot that is sent: TS 36.211 clause 10.1.3.6 (data) and table 10.1.4.2-1 (reference
+-- symbols); 01 "Uplink grants".
 use mathlib.Core.Bool.{Bool, not, _&&_}
 use Prim.Native.Nat.{ℕ}
 use lib.Dec.{ltb}
@@ -19,11 +20,13 @@ isDataSymbol s l = ltb l symbols && not (isReference s l)
 
 -- element x carries data: a granted tone of a symbol that is no reference symbol
 unfoldable pub carriesData : Shape → ℕ → Bool
-carriesData s x = isDataSymbol s (uplinkSymbolOf (s .subcarriers) x) && isGranted s (uplinkSubcarrierOf (s .subcarriers) x)
+carriesData s x =
+    isDataSymbol s (uplinkSymbolOf (s .subcarriers) x) && isGranted s (uplinkSubcarrierOf (s .subcarriers) x)
 
 -- element x carries the reference signal
 unfoldable pub carriesReference : Shape → ℕ → Bool
-carriesReference s x = isReference s (uplinkSymbolOf (s .subcarriers) x) && isGranted s (uplinkSubcarrierOf (s .subcarriers) x)
+carriesReference s x =
+    isReference s (uplinkSymbolOf (s .subcarriers) x) && isGranted s (uplinkSubcarrierOf (s .subcarriers) x)
 
 -- data elements of a slot, in the order of element numbers: how many, the e-th, and the place of x among them
 unfoldable pub slotData : Shape → ℕ

@@ -1,4 +1,5 @@
--- An uplink grant's sending: its slots, their data elements, the copy order, and kind 1 on the reference signal of slots that are sent.
+-- An uplink grant's sending: its slots, their data elements, the copy order, and kind 1 on the reference signal of
+-- slots that are sent.
 use mathlib.Core.Bool.{Bool, _&&_}
 use Prim.Native.Nat.{ℕ, _*_}
 use mir.Val.{boolByte}

@@ -29,7 +29,8 @@ splitOf s p = record {
   k = uplinkSubcarrierOf (s .subcarriers) (elementAt s (p % slotData s));
 }
 
--- the groups of the 40 ms after each 256 ms, as one more closure: groups are counted from time 0, gap periods from the first one's group
+-- the groups of the 40 ms after each 256 ms, as one more closure: groups are counted from time 0, gap periods from
+-- the first one's group
 abbrev pub gapClosure : Shape → Closure
 gapClosure s = record {
   period = gapPeriod s / s .group;
@@ -43,7 +44,8 @@ pub record Parted (s : Shape) (part : ℕ) : Type 0 where
   pub gapPeriods : gapPeriod s / s .group ≡ 37 * part
   pub gaps : s .gap / s .group ≡ 5 * part
 
--- the longest period of the closures is so many parts that in 37 of them each part comes at each place of a gap period once
+-- the longest period of the closures is so many parts that in 37 of them each part comes at each place of a gap
+-- period once
 pub record Spread (part : ℕ) (nested : Nested) : Type 0 where
   pub times : ℕ
   pub evenly : (c : ℕ) → rank (λ k. not (ltb ((c + k * times) % 37) 5)) 37 ≡ 32

@@ -17,7 +17,8 @@ inBlock s x = ltb (x % gapPeriod s) (s .block)
 abbrev pub groupAt : Shape → ℕ → ℕ
 groupAt s slot = slot / s .group
 
--- it may be sent: the 256 ms run on while slots are postponed, and no random access window closes its group; isOpen u says so of group u
+-- it may be sent: the 256 ms run on while slots are postponed, and no random access window closes its group; isOpen u
+-- says so of group u
 unfoldable pub active : Shape → (ℕ → Bool) → ℕ → Bool
 active s isOpen x = inBlock s x && isOpen (groupAt s (s .first + x))
 

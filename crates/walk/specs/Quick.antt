@@ -18,4 +18,5 @@ isEnd q p = eqb (q .no) 0 && eqb p (q .places)
 
 -- where forward refuses: at 14 plan tells the end, which is no refusal
 unfoldable pub stoppedAt : Asked → ℕ → ℕ → WalkPlace
-stoppedAt q p number = cond (eqb number noSuchPlace) (cond (isEnd q p) finishedStep (refusedStep number)) (refusedStep number)
+stoppedAt q p number =
+    cond (eqb number noSuchPlace) (cond (isEnd q p) finishedStep (refusedStep number)) (refusedStep number)

@@ -71,7 +71,8 @@ onward answer p = record { answer = answer; p = p + 1 }
 abbrev pub unmoved : WalkPlace → ℕ → Moved
 unmoved answer p = record { answer = answer; p = p }
 
--- a refused record has its number; below the total forward answers and p moves on; at the total the walk is finished; past it 14
+-- a refused record has its number; below the total forward answers and p moves on; at the total the walk is finished;
+-- past it 14
 unfoldable pub moved : Asked → ℕ → Moved
 moved q p =
     cond (eqb (q .no) 0)
