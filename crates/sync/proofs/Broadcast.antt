@@ -1,41 +1,17 @@
--- The subframes of NPBCH and of SIB1: they repeat, how many a period has, and the pattern that has them.
+-- The subframes of NPBCH and of SIB1: they repeat, and how many a period has.
 use mathlib.Core.Path.{_≡_, refl, sym, ap, _∙_}
 use Prim.Native.Nat.{ℕ, zero, suc, _+_, _*_, _%_, _<_}
 use native.Mathlib.Nat.{mod-eq-of-lt}
 use native.Mathlib.Omega.{arith}
 use lib.Dec.{T, eqb, eqb→eq}
 use Rattle.counting.specs.Counting.{rank}
-use Rattle.counting.proofs.Facts.{each, each-at, alike, alike-eq}
+use Rattle.counting.proofs.Facts.{each, each-at}
 use Rattle.counting.proofs.Rank.{rank-same}
-use Rattle.counting.proofs.Period.{rank-whole, test-split}
-use Rattle.spans.specs.Pattern.{allows, Regular}
-use Rattle.spans.proofs.Laws.{repeats}
+use Rattle.counting.proofs.Period.{rank-whole}
 use Rattle.sync.specs.Sync.{npbch, bySchedule, sib1Copies, sib1}
-use Rattle.sync.specs.Quick.{npbchPattern}
 use Rattle.sync.proofs.Taken.{sib1-mod}
 
 -- ---- NPBCH
-
-pub npbch-regular : Regular npbchPattern
-unfolding npbchPattern
-npbch-regular = record { fits = omega arith; few = omega arith; usual-small = omega arith; sib1-small = omega arith }
-
-npbch-table : T (each 160 (λ t. alike (allows npbchPattern t) (npbch t)))
-unfolding allows npbchPattern
-npbch-table = tt
-
-npbch-mod : (t : ℕ) → npbch (t % 160) ≡ npbch t
-npbch-mod t = let e : t % 160 % 10 ≡ t % 10 = omega arith in rw e refl
-
-npbch-short : (t : ℕ) → allows npbchPattern (t + 160) ≡ allows npbchPattern t
-unfolding npbchPattern
-npbch-short = repeats npbchPattern npbch-regular
-
-pub npbch-allows : (t : ℕ) → allows npbchPattern t ≡ npbch t
-npbch-allows t =
-    test-split (allows npbchPattern) 160 npbch-short t
-    ∙ alike-eq (allows npbchPattern (t % 160)) (npbch (t % 160)) (each-at 160 (λ t. alike (allows npbchPattern t) (npbch t)) npbch-table (t % 160) (omega arith))
-    ∙ npbch-mod t
 
 -- 64 frames
 pub npbch-again : (t : ℕ) → npbch (t + 640) ≡ npbch t

@@ -1,4 +1,4 @@
--- What the anchor takes for synchronization and broadcast, that the anchor's pattern leaves the rest, and that SIB1's pattern has SIB1.
+-- What the anchor takes for synchronization and broadcast, and that the anchor's pattern leaves the rest.
 use mathlib.Core.Bool.{Bool, true, false, cond, not, _&&_, _||_}
 use mathlib.Core.Path.{_≡_, refl, sym, ap, _∙_}
 use Prim.Native.Nat.{ℕ, zero, suc, _+_, _-_, _*_, _/_, _%_, _^_, _≤_, _<_}
@@ -12,7 +12,7 @@ use Rattle.spans.specs.Pattern.{allows, periodOf, Regular}
 use Rattle.spans.proofs.Laws.{repeats}
 use Rattle.sync.specs.Sync.{npbch, npss, nsss, bySchedule, sib1}
 use Rattle.grid.specs.Grid.{frame}
-use Rattle.sync.specs.Quick.{anchorPattern, sib1Pattern}
+use Rattle.sync.specs.Quick.{anchorPattern}
 
 abbrev pub taken : ℕ → ℕ → ℕ → Bool
 taken identity schedule t = npbch t || (npss t || (nsss t || sib1 identity schedule t))
@@ -59,15 +59,11 @@ taken-mod a k t =
 pub sib1-mod : (a k t : ℕ) → sib1 a k t ≡ sib1 (a % 4) (k % 3) (t % 640)
 sib1-mod a k t = rw (subframe-mod t, mod-mod k 3, place-mod (k % 3) a t (mod-lt k (lit< tt))) refl
 
--- ---- the anchor's pattern, and SIB1's
+-- ---- the anchor's pattern
 
 pattern-mod : (a k : ℕ) → anchorPattern a k ≡ anchorPattern (a % 4) (k % 3)
 unfolding anchorPattern
 pattern-mod a k = rw (mod-mod k 3, mod4 a, mod42 a) refl
-
-sib1-pattern-mod : (a k : ℕ) → sib1Pattern a k ≡ sib1Pattern (a % 4) (k % 3)
-unfolding anchorPattern sib1Pattern
-sib1-pattern-mod a k = rw (mod-mod k 3, mod4 a, mod42 a) refl
 
 -- 16, 8 or 4 spans; so it repeats with 640 subframes
 regular-at : (a r : ℕ) → r < 3 → Regular (record {
@@ -105,56 +101,20 @@ anchor-short : (a k t : ℕ) → allows (anchorPattern a k) (t + 640) ≡ allows
 unfolding anchorPattern
 anchor-short a k t = short-at (anchorPattern a k) (anchor-regular a k) (k % 3) (mod-lt k (lit< tt)) refl t
 
--- the mask of the four spans is a part of the usual one
-pub sib1-in-usual : (a k : ℕ) → anchorPattern a k .sib1 ≤ 0x7b_9ef7_b9ef
-unfolding anchorPattern
-sib1-in-usual a k = by (eqb (k % 3) 2 && eqb (a % 2) 1)
-  where
-    by : (b : Bool) → cond b 0x7b_9cf7_b9cf 0x73_9ef7_39ef ≤ 0x7b_9ef7_b9ef
-    by true = omega arith
-    by false = omega arith
+-- the table: for each identity mod 4, schedule mod 3 and subframe of 640
+abbrev right : ℕ → ℕ → ℕ → Bool
+right a k t = alike (allows (anchorPattern a k) t) (not (taken a k t))
 
--- SIB1's has as many spans
-pub sib1-regular : (a k : ℕ) → Regular (sib1Pattern a k)
-unfolding sib1Pattern
-sib1-regular a k =
-    let r = anchor-regular a k in
-    record { fits = r .fits; few = r .few; usual-small = omega arith; sib1-small = omega arith }
-
-sib1-short : (a k t : ℕ) → allows (sib1Pattern a k) (t + 640) ≡ allows (sib1Pattern a k) t
-unfolding anchorPattern sib1Pattern
-sib1-short a k t = short-at (sib1Pattern a k) (sib1-regular a k) (k % 3) (mod-lt k (lit< tt)) refl t
-
--- a pattern and a test that go by identity mod 4 and schedule mod 3, and repeat with 640 subframes: a table says that they are alike
-module _ (pattern : ℕ → ℕ → Pattern) (test : ℕ → ℕ → ℕ → Bool)
-    (short : (a k t : ℕ) → allows (pattern a k) (t + 640) ≡ allows (pattern a k) t)
-    (by-mod : (a k : ℕ) → pattern a k ≡ pattern (a % 4) (k % 3)) (test-mod : (a k t : ℕ) → test a k t ≡ test (a % 4) (k % 3) (t % 640)) where
-  abbrev right : ℕ → ℕ → ℕ → Bool
-  right a k t = alike (allows (pattern a k) t) (test a k t)
-
-  module _ (table : T (each 4 (λ a. each 3 (λ k. each 640 (λ t. right a k t))))) where
-    table-at : (a k t : ℕ) → a < 4 → k < 3 → t < 640 → allows (pattern a k) t ≡ test a k t
-    table-at a k t ha hk ht =
-        alike-eq (allows (pattern a k) t) (test a k t)
-        (each-at 640 (λ t. right a k t) (each-at 3 (λ k. each 640 (λ t. right a k t)) (each-at 4 (λ a. each 3 (λ k. each 640 (λ t. right a k t))) table a ha) k hk) t ht)
-
-    by-table : (a k t : ℕ) → allows (pattern a k) t ≡ test a k t
-    by-table a k t =
-        test-split (allows (pattern a k)) 640 (short a k) t ∙ ap (λ (p : Pattern). allows p (t % 640)) (by-mod a k)
-        ∙ table-at (a % 4) (k % 3) (t % 640) (omega arith) (omega arith) (omega arith) ∙ sym (test-mod a k t)
-
--- the tables: for each identity mod 4, schedule mod 3 and subframe of 640
-anchor-table : T (each 4 (λ a. each 3 (λ k. each 640 (λ t. alike (allows (anchorPattern a k) t) (not (taken a k t))))))
+anchor-table : T (each 4 (λ a. each 3 (λ k. each 640 (λ t. right a k t))))
 unfolding allows anchorPattern
 anchor-table = tt
 
-sib1-table : T (each 4 (λ a. each 3 (λ k. each 640 (λ t. alike (allows (sib1Pattern a k) t) (sib1 a k t)))))
-unfolding allows anchorPattern sib1Pattern
-sib1-table = tt
+table-at : (a k t : ℕ) → a < 4 → k < 3 → t < 640 → allows (anchorPattern a k) t ≡ not (taken a k t)
+table-at a k t ha hk ht =
+    alike-eq (allows (anchorPattern a k) t) (not (taken a k t))
+    (each-at 640 (λ t. right a k t) (each-at 3 (λ k. each 640 (λ t. right a k t)) (each-at 4 (λ a. each 3 (λ k. each 640 (λ t. right a k t))) anchor-table a ha) k hk) t ht)
 
 pub anchor-allows : (a k t : ℕ) → allows (anchorPattern a k) t ≡ not (taken a k t)
-anchor-allows =
-    by-table anchorPattern (λ a k t. not (taken a k t)) anchor-short pattern-mod (λ a k t. ap not (taken-mod a k t)) anchor-table
-
-pub sib1-allows : (a k t : ℕ) → allows (sib1Pattern a k) t ≡ sib1 a k t
-sib1-allows = by-table sib1Pattern sib1 sib1-short sib1-pattern-mod sib1-mod sib1-table
+anchor-allows a k t =
+    test-split (allows (anchorPattern a k)) 640 (anchor-short a k) t ∙ ap (λ (p : Pattern). allows p (t % 640)) (pattern-mod a k)
+    ∙ table-at (a % 4) (k % 3) (t % 640) (omega arith) (omega arith) (omega arith) ∙ ap not (sym (taken-mod a k t))

@@ -1,6 +1,6 @@
--- For the code alone. What the quick code chooses: the anchor's masks, and those of what it broadcasts.
+-- For the code alone. What the quick code chooses: the anchor's masks.
 use mathlib.Core.Bool.{cond, _&&_}
-use Prim.Native.Nat.{ℕ, _-_, _*_, _%_}
+use Prim.Native.Nat.{ℕ, _*_, _%_}
 use lib.Dec.{eqb}
 use Rattle.spans.specs.declared.Pattern.{Pattern}
 use Rattle.sync.specs.Sync.{bySchedule}
@@ -13,17 +13,4 @@ anchorPattern identity schedule = record {
   first = bySchedule (schedule % 3) (4 * (identity % 4)) (4 * (identity % 2)) 0;
   usual = 0x7b_9ef7_b9ef;
   sib1 = cond (eqb (schedule % 3) 2 && eqb (identity % 2) 1) 0x7b_9cf7_b9cf 0x73_9ef7_39ef;
-}
-
--- the pattern of NPBCH alone: subframe 0 of each of a span's four frames
-unfoldable pub npbchPattern : Pattern
-npbchPattern = record { log = 2; first = 0; usual = 0x80_2008_0200; sib1 = 0x80_2008_0200 }
-
--- the pattern of SIB1 alone: what the anchor's usual mask has and its mask of the four spans lacks
-unfoldable pub sib1Pattern : ℕ → ℕ → Pattern
-sib1Pattern identity schedule = record {
-  log = anchorPattern identity schedule .log;
-  first = anchorPattern identity schedule .first;
-  usual = 0;
-  sib1 = 0x7b_9ef7_b9ef - anchorPattern identity schedule .sib1;
 }

@@ -3,7 +3,7 @@ ghost use mathlib.Core.Path.{_≡_};
 ghost use mathlib.Core.Bool.{_&&_};
 ghost use lib.Dec.{ltb};
 ghost use Prim.Native.Nat.{_<_};
-ghost use Rattle.sync.specs.Quick.{anchorPattern, npbchPattern, sib1Pattern};
+ghost use Rattle.sync.specs.Quick.{anchorPattern};
 ghost use Rattle.sync.specs.Sync.{even, npbch, npss, nsss, sib1Copies, sib1Place, sib1};
 use spans::Pattern;
 
@@ -13,9 +13,6 @@ const USUAL: u64 = 0x7b_9ef7_b9ef;
 const NOT_EVEN: u64 = 0x73_9ef7_39ef;
 
 const NOT_ODD: u64 = 0x7b_9cf7_b9cf;
-
-// Those with NPBCH.
-const NPBCH: u64 = 0x80_2008_0200;
 
 fn four(log: u64, first: u64, sib1: u64) -> Pattern
     ensures { λ r. ⌜ r ≡ record { log = log; first = first; usual = 0x7b_9ef7_b9ef; sib1 = sib1 } ⌝ }
@@ -43,31 +40,6 @@ pub fn pattern(identity: u64, schedule: u64) -> Pattern
         return four(2, 0, NOT_EVEN);
     }
     four(2, 0, NOT_ODD)
-}
-
-// The pattern of NPBCH's subframes.
-pub fn npbch_pattern() -> Pattern
-    ensures { λ r. ⌜ r ≡ npbchPattern ⌝ }
-{
-    Pattern {
-        log: 2,
-        first: 0,
-        usual: NPBCH,
-        sib1: NPBCH,
-    }
-}
-
-// The pattern of SIB1's subframes: in four spans what the anchor's pattern lacks.
-pub fn sib1_pattern(identity: u64, schedule: u64) -> Pattern
-    ensures { λ r. ⌜ r ≡ sib1Pattern identity schedule ⌝ }
-{
-    let p = pattern(identity, schedule);
-    Pattern {
-        log: p.log,
-        first: p.first,
-        usual: 0,
-        sib1: USUAL - p.sib1,
-    }
 }
 
 pub fn is_npbch(t: u64) -> bool
