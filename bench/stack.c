@@ -3,7 +3,7 @@
  * written over is counted, from the caller's stack pointer to the deepest byte that changed. Arguments on the stack and
  * the return address are in it; nothing of the caller is. x86-64 alone, as the archive.
  */
-#include "nbiot.h"
+#include "nbiot_numbers.h"
 #include <stdio.h>
 #include <string.h>
 

@@ -1,45 +1,27 @@
 /*
  * Where each symbol of an NB-IoT grant stands, and what stands at each place of the grid.
  *
- * Link with libnbiot_c.a, which is for x86-64 and freestanding but for memcpy and memset. Nothing is kept between calls and nothing is
- * allocated; calls may run side by side. Any numbers may be passed, in any buffers. nbiot_fill and nbiot_element want the processor's
- * usual rounding to nearest, and floating-point exceptions that are not trapped.
+ *     struct nbiot_cell cell = {.mode = NBIOT_STANDALONE, .narrowband_ports = 1};
+ *     struct nbiot_npdsch_grant grant = {.n = 15, .rmax = 64, .subframes = 6};
+ *     struct nbiot_downlink_place at = nbiot_npdsch_forward(&cell, &grant, 60);
+ *     if (at.refusal != 0) {
+ *         puts(nbiot_refusal_words(at.refusal));
+ *     }
  *
- * Buffers. Each goes with the number of its elements. A pointer points to that many; where there are none it may be any, NULL too.
- * Buffers that are written overlap no other buffer of the call.
+ * The answer is subframe at.t, slot at.slot, symbol at.l and subcarrier at.k, where symbol at.symbol of the codeword
+ * stands: 21, 0, 5, 1 and 60.
  *
- * Every function returns a refusal number, 0 if there is none. Of those that apply the first in this list is returned; the order is
- * the list's, not the number's:
+ * Link with libnbiot_c.a, which is for x86-64 and freestanding but for memcpy and memset. Nothing is kept between
+ * calls and nothing is allocated; calls may run side by side. The functions below are static inline: they lay the
+ * structs out as numbers for the functions that the archive exports, which nbiot_numbers.h declares. A later version
+ * may give these more numbers; what is written with the structs stays as it is, if fields that it does not know are
+ * set to 0.
  *
- *     1  mode above 3 or carrier above 1
- *     2  identity above 503
- *     3  narrowband ports not 1 or 2
- *     4  cell ports not 1, 2 or 4 in-band, or not 0 in the other modes
- *     5  control region not 1 to 3 in-band, or not 0 in the other modes
- *    24  mode 0 with cell ports other than the narrowband ports
- *     6  SIB1 schedule above 11
- *     7  bitmap length not 0, 10 or 40, its buffer too short, or spare bits set
- *    21  a number of the messages that is not listed, a fifth schedule, or a window longer than its period
- *     8  the bitmap alone allows no subframe
- *    18  it allows some, and the anchor or its messages take them all
- *    25  the broadcast of a non-anchor
- *     9  n above 2^30 - 1, of an acknowledgement above 2^31 - 1
- *    10  a field above its largest number, or NCCE 1 with format 1
- *    11  subcarrier field 48 to 63 at 3.75 kHz, 19 to 63 at 15 kHz
- *    12  Rmax or NPDCCH copies not a power of two, 1 to 2048
- *    22  a search space whose period is below 4 subframes
- *    23  a search space whose offset is not below a hyperframe, 10240 subframes
- *    13  MCS 5 to 15
- *    19  a fifth random access window, a number of a window that is not listed, or its tones past 47
- *    20  the windows leave no group of slots ever free on the granted tones
- *    14  position or transmitted subframe past the end, or a place outside the grid
- *    15  bits not ceil(N * E / 4) bytes, or output not 336 numbers
- *    16  level not from 2^-20 to 2^20
- *    17  fill asked for two ports
- *   255  a cell, grant, walk, windows, search space, answer or amplitudes buffer is too short: judged first, and nothing is written
- *
- * A refused call answers its number and zeros in the answer; output and walk stay as they were. A buffer that is longer than
- * needed keeps its rest, so that a later version may answer more numbers.
+ * Every number may be passed in every field: what is bad is refused. Each answer has the number of its refusal, 0 if
+ * there is none, and of a refused question all else is 0; a walk and the output of a fill then stay as they were.
+ * Times are counted from 0 on and do not turn: t in subframes of 1 ms, slots of the uplink in 0.5 ms at 15 kHz and
+ * in 2 ms at 3.75 kHz, slots of the downlink 0 or 1 in their subframe. l is the symbol in a slot, 0 to 6, k the
+ * subcarrier.
  */
 #ifndef NBIOT_H
 #define NBIOT_H
@@ -47,498 +29,418 @@
 #include <stddef.h>
 #include <stdint.h>
 
-#ifdef __cplusplus
-extern "C" {
-#endif
-
-#define NBIOT_TOO_SHORT 255
-
 /*
- * System information messages, which take subframes of an anchor: the window's length and offset, a count up to 4, then four schedules;
- * those past the count are not read. Schedule i, from 0, has its numbers from NBIOT_MESSAGES_FIRST + i * NBIOT_SCHEDULE_NUMBERS on.
+ * The refusals. Of those that apply the first in this list is the answer: the order is the list's, not the number's.
+ * nbiot_refusal_words has these words; 0 is "accepted", and a number that is not in the list "none". 255 is no
+ * answer to what is asked here: it comes before all others, from the functions on numbers alone.
  */
-enum {
-    NBIOT_SCHEDULE_PERIOD, /* frames from window to window: 64 to 4096, a power of two */
-    NBIOT_SCHEDULE_EVERY,  /* a copy begins every 2nd, 4th, 8th or 16th frame of a window */
-    NBIOT_SCHEDULE_SIZE,   /* subframes of a copy: 2 or 8 */
-    NBIOT_SCHEDULE_NUMBERS
+#define NBIOT_REFUSALS(REFUSAL) \
+    REFUSAL(1, MODE, "mode above 3 or carrier above 1") \
+    REFUSAL(2, IDENTITY, "identity above 503") \
+    REFUSAL(3, NARROWBAND_PORTS, "narrowband ports not 1 or 2") \
+    REFUSAL(4, CELL_PORTS, "cell ports not 1, 2 or 4 in-band, or not 0 in the other modes") \
+    REFUSAL(5, CONTROL_REGION, "control region not 1 to 3 in-band, or not 0 in the other modes") \
+    REFUSAL(24, UNEQUAL_PORTS, "mode 0 with cell ports other than the narrowband ports") \
+    REFUSAL(6, SIB1_SCHEDULE, "SIB1 schedule above 11") \
+    REFUSAL(7, BITMAP, "bitmap length not 0, 10 or 40, its buffer too short, or spare bits set") \
+    REFUSAL(21, MESSAGES, \
+            "a number of the messages that is not listed, a fifth schedule, or a window longer than its period") \
+    REFUSAL(8, NONE_ALLOWED, "the bitmap alone allows no subframe") \
+    REFUSAL(18, ALL_TAKEN, "it allows some, and the anchor or its messages take them all") \
+    REFUSAL(25, NOT_ANCHOR, "the broadcast of a non-anchor") \
+    REFUSAL(9, N, "n above 2^30 - 1, of an acknowledgement above 2^31 - 1") \
+    REFUSAL(10, FIELD, "a field above its largest number, or NCCE 1 with format 1") \
+    REFUSAL(11, SUBCARRIER, "subcarrier field 48 to 63 at 3.75 kHz, 19 to 63 at 15 kHz") \
+    REFUSAL(12, RMAX, "Rmax or NPDCCH copies not a power of two, 1 to 2048") \
+    REFUSAL(22, PERIOD, "a search space whose period is below 4 subframes") \
+    REFUSAL(23, OFFSET, "a search space whose offset is not below a hyperframe, 10240 subframes") \
+    REFUSAL(13, MCS, "MCS 5 to 15") \
+    REFUSAL(19, WINDOWS, \
+            "a fifth random access window, a number of a window that is not listed, or its tones past 47") \
+    REFUSAL(20, NEVER_FREE, "the windows leave no group of slots ever free on the granted tones") \
+    REFUSAL(14, NO_SUCH_PLACE, "position or transmitted subframe past the end, or a place outside the grid") \
+    REFUSAL(15, LENGTH, "bits not ceil(N * E / 4) bytes, or output not 336 numbers") \
+    REFUSAL(16, LEVEL, "level not from 2^-20 to 2^20") \
+    REFUSAL(17, TWO_PORTS, "fill asked for two ports") \
+    REFUSAL(255, TOO_SHORT, \
+            "a cell, grant, walk, windows, search space, answer or amplitudes buffer is too short")
+
+#define NBIOT_REFUSAL_NAME(number, name, words) NBIOT_REFUSED_##name = number,
+enum nbiot_refusal { NBIOT_REFUSALS(NBIOT_REFUSAL_NAME) NBIOT_ACCEPTED = 0 };
+#undef NBIOT_REFUSAL_NAME
+
+static inline const char *nbiot_refusal_words(uint64_t refusal);
+
+/* ---- A cell */
+
+/* Bytes that are lent: where there are none the pointer may be any, NULL too. */
+struct nbiot_bytes {
+    const uint8_t *at;
+    size_t count;
 };
 
-enum {
-    NBIOT_MESSAGES_WINDOW, /* 160, 320, 480, 640, 960, 1280 or 1600 ms */
-    NBIOT_MESSAGES_OFFSET, /* 0 to 15 frames */
-    NBIOT_MESSAGES_COUNT,
-    NBIOT_MESSAGES_FIRST,
-    NBIOT_MESSAGES_NUMBERS = NBIOT_MESSAGES_FIRST + 4 * NBIOT_SCHEDULE_NUMBERS
+/* System information messages, which take subframes of an anchor. Schedules past the count are not read. */
+struct nbiot_schedule {
+    uint64_t period; /* frames from window to window: 64 to 4096, a power of two */
+    uint64_t every;  /* a copy begins every 2nd, 4th, 8th or 16th frame of a window */
+    uint64_t size;   /* subframes of a copy: 2 or 8 */
 };
 
-/*
- * A cell's numbers: eight, or these and the messages' fifteen. A buffer of 8 to 22 numbers is read as eight, for which no message is sent;
- * one of 23 or more has messages. Until the version that knows messages a longer buffer was read as eight.
- */
-enum {
-    NBIOT_CELL_MODE,     /* 0 in-band same identity, 1 in-band different identity, 2 guard band, 3 standalone */
-    NBIOT_CELL_CARRIER,  /* 0 anchor, 1 non-anchor */
-    NBIOT_CELL_IDENTITY, /* 0 to 503 */
-    NBIOT_CELL_NPORTS,   /* narrowband reference ports, 1 or 2 */
-    NBIOT_CELL_CPORTS,   /* cell reference ports: in mode 0 as the narrowband ports, in mode 1 1, 2 or 4, else 0 */
-    NBIOT_CELL_CONTROL,  /* control region: 1 to 3 in-band, else 0 */
-    NBIOT_CELL_SIB1,     /* SIB1 schedule, 0 to 11 */
-    NBIOT_CELL_BITS,     /* bitmap length: 0, 10 or 40 */
-    NBIOT_CELL_NUMBERS,
-    NBIOT_CELL_MESSAGES = NBIOT_CELL_NUMBERS,
-    NBIOT_CELL_WITH_MESSAGES = NBIOT_CELL_MESSAGES + NBIOT_MESSAGES_NUMBERS
+struct nbiot_messages {
+    uint64_t window; /* 160, 320, 480, 640, 960, 1280 or 1600 ms */
+    uint64_t offset; /* 0 to 15 frames */
+    uint64_t count;  /* of schedules, 0 to 4 */
+    struct nbiot_schedule schedule[4];
 };
 
-/* An NPUSCH format 1 grant. It ends in subframe n; the rest are fields of the grant. */
-enum {
-    NBIOT_UP_N,
-    NBIOT_UP_SPACING,    /* 0: 3.75 kHz, 1: 15 kHz */
-    NBIOT_UP_SUBCARRIER,
-    NBIOT_UP_UNITS,
-    NBIOT_UP_COPIES,
-    NBIOT_UP_DELAY,
-    NBIOT_UP_MCS,
-    NBIOT_UP_NUMBERS
+enum nbiot_mode { NBIOT_IN_BAND_SAME_IDENTITY, NBIOT_IN_BAND_OTHER_IDENTITY, NBIOT_GUARD_BAND, NBIOT_STANDALONE };
+enum nbiot_carrier { NBIOT_ANCHOR, NBIOT_NON_ANCHOR };
+
+struct nbiot_cell {
+    uint64_t mode;             /* enum nbiot_mode */
+    uint64_t carrier;          /* enum nbiot_carrier */
+    uint64_t identity;         /* 0 to 503 */
+    uint64_t narrowband_ports; /* 1 or 2 */
+    uint64_t cell_ports;       /* in-band of the same identity as the narrowband ports, of another 1, 2 or 4, else 0 */
+    uint64_t control_region;   /* 1 to 3 in-band, else 0 */
+    uint64_t sib1_schedule;    /* 0 to 11 */
+    uint64_t bitmap_length;    /* in bits: 0, which allows every subframe, 10 or 40 */
+    struct nbiot_bytes anchor_bitmap;     /* each is read by its own carrier alone; */
+    struct nbiot_bytes non_anchor_bitmap; /* the first bit is the highest of byte 0 */
+    const struct nbiot_messages *messages; /* NULL: none */
 };
-
-/* An acknowledgement on NPUSCH format 2 of an NPDSCH that ends in subframe n. The rest are fields. */
-enum {
-    NBIOT_ACK_N,
-    NBIOT_ACK_SPACING,   /* 0: 3.75 kHz, 1: 15 kHz */
-    NBIOT_ACK_FIELD,     /* the 4-bit field of tone and delay */
-    NBIOT_ACK_COPIES,
-    NBIOT_ACK_NUMBERS
-};
-
-/*
- * Random access windows, which postpone uplink slots: a count up to 4, then four windows; those past the count are not read, but
- * the buffer has all 17 numbers. Window i, from 0, has its numbers from NBIOT_WINDOWS_FIRST + i * NBIOT_WINDOW_NUMBERS on.
- * Each uplink function is here twice: by its short name it knows no window; where the name ends in _windows they are lent, after
- * the grant or the walk. Lent a buffer of no numbers or a count of 0, that one answers what the short one does.
- */
-enum {
-    NBIOT_WINDOW_PERIOD, /* 40, 80, 160, 320, 640, 1280 or 2560 ms */
-    NBIOT_WINDOW_START,  /* 8 to 1024 ms, a power of two: windows begin at every t, below 0 too, equal to it modulo the period */
-    NBIOT_WINDOW_LENGTH, /* in 1/30720 ms: 172032 or 196608, times a power of two up to 64 */
-    NBIOT_WINDOW_TONE,   /* the first of 12 tones at 3.75 kHz, 0 to 36; a 15 kHz tone k covers 4k to 4k + 3 */
-    NBIOT_WINDOW_NUMBERS
-};
-
-enum {
-    NBIOT_WINDOWS_COUNT,
-    NBIOT_WINDOWS_FIRST,
-    NBIOT_WINDOWS_NUMBERS = NBIOT_WINDOWS_FIRST + 4 * NBIOT_WINDOW_NUMBERS
-};
-
-/* An NPDSCH grant that ends in subframe n. Delay, subframes and copies are fields, rmax is the number itself. */
-enum {
-    NBIOT_DOWN_N,
-    NBIOT_DOWN_DELAY,
-    NBIOT_DOWN_RMAX,
-    NBIOT_DOWN_SUBFRAMES,
-    NBIOT_DOWN_COPIES,
-    NBIOT_DOWN_NUMBERS
-};
-
-/* An NPDCCH sent r times from subframe n on. */
-enum {
-    NBIOT_CONTROL_N,
-    NBIOT_CONTROL_R,
-    NBIOT_CONTROL_FORMAT, /* 0: one NCCE, 1: both */
-    NBIOT_CONTROL_NCCE,
-    NBIOT_CONTROL_NUMBERS
-};
-
-/* A UE-specific search space of NPDCCH, asked from subframe n on. G and the offset are fields, rmax is the number itself. */
-enum {
-    NBIOT_SPACE_N,
-    NBIOT_SPACE_RMAX,
-    NBIOT_SPACE_G,     /* 0 to 7: 1.5, 2, 4, 8, 16, 32, 48, 64; the period is rmax times it, in subframes */
-    NBIOT_SPACE_ALPHA, /* 0 to 3: the offset is 0, 1/8, 1/4 or 3/8 of the period, rounded down */
-    NBIOT_SPACE_NUMBERS
-};
-
-/*
- * Judge a cell. The anchor's bitmap and the non-anchor's are lent; only the carrier's own is read. The first bit is the
- * highest of byte 0.
- */
-uint64_t nbiot_judge(const uint64_t *cell, size_t cell_len,
-                     const uint8_t *anchor, size_t anchor_len,
-                     const uint8_t *other, size_t other_len);
-
-/*
- * The bitmap in force. It is not copied: the answer names the buffer that it is a part of and its bytes, from the buffer's
- * first on.
- */
-enum {
-    NBIOT_BITMAP_NO,
-    NBIOT_BITMAP_BUFFER, /* 0 anchor, 1 other */
-    NBIOT_BITMAP_BYTES,  /* 0, 2 or 5 */
-    NBIOT_BITMAP_NUMBERS
-};
-
-uint64_t nbiot_bitmap(const uint64_t *cell, size_t cell_len,
-                      const uint8_t *anchor, size_t anchor_len,
-                      const uint8_t *other, size_t other_len,
-                      uint64_t *answer, size_t answer_len);
 
 /* Why a subframe is not usable: the first of these that applies. */
-enum {
-    NBIOT_CAUSE_NONE = 0,   /* usable; or nothing is said, as of a refused cell */
-    NBIOT_CAUSE_NPBCH = 1,
-    NBIOT_CAUSE_NPSS = 2,
-    NBIOT_CAUSE_NSSS = 3,
-    NBIOT_CAUSE_SIB1 = 4,
-    NBIOT_CAUSE_MESSAGE = 5, /* a system information message takes it */
-    NBIOT_CAUSE_BITMAP = 6   /* withheld by the bitmap */
+enum nbiot_subframe_cause {
+    NBIOT_CAUSE_NONE, /* usable; or nothing is said, as of a refused cell */
+    NBIOT_CAUSE_NPBCH,
+    NBIOT_CAUSE_NPSS,
+    NBIOT_CAUSE_NSSS,
+    NBIOT_CAUSE_SIB1,
+    NBIOT_CAUSE_MESSAGE, /* a system information message takes it */
+    NBIOT_CAUSE_BITMAP   /* withheld by the bitmap */
 };
 
-/* E: how many elements of a subframe are eligible. */
-enum {
-    NBIOT_COUNT_NO,
-    NBIOT_COUNT_E,
-    NBIOT_COUNT_NUMBERS
+/* "none", "npbch", "npss", "nsss", "sib1", "message" or "bitmap"; "unknown" of any other number. */
+static inline const char *nbiot_cause_name(uint64_t cause);
+
+struct nbiot_subframe {
+    uint64_t refusal;
+    uint64_t cause; /* enum nbiot_subframe_cause */
 };
 
-uint64_t nbiot_count(const uint64_t *cell, size_t cell_len,
-                     const uint8_t *anchor, size_t anchor_len,
-                     const uint8_t *other, size_t other_len,
-                     uint64_t *answer, size_t answer_len);
-
-/* The cause of subframe t, any t. */
-enum {
-    NBIOT_SUBFRAME_NO,
-    NBIOT_SUBFRAME_CAUSE,
-    NBIOT_SUBFRAME_NUMBERS
+struct nbiot_eligible {
+    uint64_t refusal;
+    uint64_t elements; /* E, of one subframe */
 };
 
-uint64_t nbiot_cause(const uint64_t *cell, size_t cell_len,
-                     const uint8_t *anchor, size_t anchor_len,
-                     const uint8_t *other, size_t other_len, uint64_t t,
-                     uint64_t *answer, size_t answer_len);
-
-/* Plan a grant. An uplink plan counts slots, a downlink plan subframes and has no size and order. */
-enum {
-    NBIOT_PLAN_NO,
-    NBIOT_PLAN_FIRST,
-    NBIOT_PLAN_LAST,
-    NBIOT_PLAN_COPIES,
-    NBIOT_PLAN_PLACES,
-    NBIOT_PLAN_DOWN_NUMBERS,
-    NBIOT_PLAN_SIZE = NBIOT_PLAN_DOWN_NUMBERS, /* transport block size */
-    NBIOT_PLAN_ORDER,                          /* modulation order */
-    NBIOT_PLAN_UP_NUMBERS
+struct nbiot_bitmap_in_force {
+    uint64_t refusal;
+    struct nbiot_bytes bytes; /* the first bytes of the carrier's own: 0, 2 or 5 */
 };
 
-uint64_t nbiot_plan_up(const uint64_t *grant, size_t grant_len,
-                       uint64_t *answer, size_t answer_len);
+/* The refusal of a cell, or 0. */
+static inline uint64_t nbiot_cell_judge(const struct nbiot_cell *cell);
 
-uint64_t nbiot_plan_up_windows(const uint64_t *grant, size_t grant_len,
-                               const uint64_t *windows, size_t windows_len,
-                               uint64_t *answer, size_t answer_len);
+/* Why subframe t, any t, is not usable. */
+static inline struct nbiot_subframe nbiot_cell_cause(const struct nbiot_cell *cell, uint64_t t);
 
-uint64_t nbiot_plan_ack(const uint64_t *grant, size_t grant_len,
-                        uint64_t *answer, size_t answer_len);
+/* How many elements of a subframe are eligible. */
+static inline struct nbiot_eligible nbiot_cell_count(const struct nbiot_cell *cell);
 
-uint64_t nbiot_plan_ack_windows(const uint64_t *grant, size_t grant_len,
-                                const uint64_t *windows, size_t windows_len,
-                                uint64_t *answer, size_t answer_len);
+static inline struct nbiot_bitmap_in_force nbiot_cell_bitmap(const struct nbiot_cell *cell);
 
-uint64_t nbiot_plan_down(const uint64_t *cell, size_t cell_len,
-                         const uint8_t *anchor, size_t anchor_len,
-                         const uint8_t *other, size_t other_len,
-                         const uint64_t *grant, size_t grant_len,
-                         uint64_t *answer, size_t answer_len);
+/* ---- The downlink: NPDSCH and NPDCCH */
 
-uint64_t nbiot_plan_control(const uint64_t *cell, size_t cell_len,
-                            const uint8_t *anchor, size_t anchor_len,
-                            const uint8_t *other, size_t other_len,
-                            const uint64_t *grant, size_t grant_len,
-                            uint64_t *answer, size_t answer_len);
-
-/* Forward: the place of position p, counted in time order and then element order, and the codeword symbol there. */
-enum {
-    NBIOT_PLACE_UP_NO,
-    NBIOT_PLACE_UP_SLOT,
-    NBIOT_PLACE_UP_L,
-    NBIOT_PLACE_UP_K,
-    NBIOT_PLACE_UP_SYMBOL,
-    NBIOT_PLACE_UP_NUMBERS
+/* An NPDSCH grant that ends in subframe n. */
+struct nbiot_npdsch_grant {
+    uint64_t n;         /* 0 to 2^30 - 1 */
+    uint64_t delay;     /* field, 0 to 7 */
+    uint64_t rmax;      /* the number itself: a power of two, 1 to 2048 */
+    uint64_t subframes; /* field, 0 to 7: 1, 2, 3, 4, 5, 6, 8, 10 */
+    uint64_t copies;    /* field, 0 to 15: 1 to 2048 */
 };
 
-enum {
-    NBIOT_PLACE_NO,
-    NBIOT_PLACE_T, /* subframe */
-    NBIOT_PLACE_SLOT,
-    NBIOT_PLACE_L,
-    NBIOT_PLACE_K,
-    NBIOT_PLACE_SYMBOL,
-    NBIOT_PLACE_NUMBERS
+/* An NPDCCH that is sent r times from subframe n on. */
+struct nbiot_npdcch_grant {
+    uint64_t n;      /* 0 to 2^30 - 1 */
+    uint64_t r;      /* the number itself: a power of two, 1 to 2048 */
+    uint64_t format; /* 0: one NCCE, 1: both */
+    uint64_t ncce;   /* 0 or 1, of format 1 0 */
 };
 
-uint64_t nbiot_forward_up(const uint64_t *grant, size_t grant_len, uint64_t p,
-                          uint64_t *answer, size_t answer_len);
+struct nbiot_downlink_plan {
+    uint64_t refusal;
+    uint64_t first; /* subframe */
+    uint64_t last;
+    uint64_t copies; /* the number */
+    uint64_t places;
+};
 
-uint64_t nbiot_forward_up_windows(const uint64_t *grant, size_t grant_len,
-                                  const uint64_t *windows, size_t windows_len, uint64_t p,
-                                  uint64_t *answer, size_t answer_len);
+struct nbiot_downlink_place {
+    uint64_t refusal;
+    uint64_t t;
+    uint64_t slot;
+    uint64_t l;
+    uint64_t k;
+    uint64_t symbol; /* of the codeword */
+};
 
-uint64_t nbiot_forward_ack(const uint64_t *grant, size_t grant_len, uint64_t p,
-                           uint64_t *answer, size_t answer_len);
+/* What is not one of the grant's places: nothing of these, a narrowband or an uplink reference, a cell reference. */
+enum nbiot_kind { NBIOT_KIND_PLAIN, NBIOT_KIND_REFERENCE, NBIOT_KIND_CELL_REFERENCE };
 
-uint64_t nbiot_forward_ack_windows(const uint64_t *grant, size_t grant_len,
-                                   const uint64_t *windows, size_t windows_len, uint64_t p,
-                                   uint64_t *answer, size_t answer_len);
+struct nbiot_downlink_back {
+    uint64_t refusal;
+    uint64_t ours;     /* 1: one of the grant's places, with its symbol and position; 0: not, with its kind */
+    uint64_t symbol;
+    uint64_t position;
+    uint64_t kind;     /* enum nbiot_kind */
+    uint64_t cause;    /* enum nbiot_subframe_cause: why the grant skips subframe t between its first and its last */
+};
 
-uint64_t nbiot_forward_down(const uint64_t *cell, size_t cell_len,
-                            const uint8_t *anchor, size_t anchor_len,
-                            const uint8_t *other, size_t other_len,
-                            const uint64_t *grant, size_t grant_len, uint64_t p,
-                            uint64_t *answer, size_t answer_len);
+static inline struct nbiot_downlink_plan nbiot_npdsch_plan(const struct nbiot_cell *cell,
+                                                           const struct nbiot_npdsch_grant *grant);
+static inline struct nbiot_downlink_plan nbiot_npdcch_plan(const struct nbiot_cell *cell,
+                                                           const struct nbiot_npdcch_grant *grant);
 
-uint64_t nbiot_forward_control(const uint64_t *cell, size_t cell_len,
-                               const uint8_t *anchor, size_t anchor_len,
-                               const uint8_t *other, size_t other_len,
-                               const uint64_t *grant, size_t grant_len, uint64_t p,
-                               uint64_t *answer, size_t answer_len);
+/* Forward: the place of a position, counted from 0 in time order and then element order, and the symbol there. */
+static inline struct nbiot_downlink_place nbiot_npdsch_forward(const struct nbiot_cell *cell,
+                                                               const struct nbiot_npdsch_grant *grant,
+                                                               uint64_t position);
+static inline struct nbiot_downlink_place nbiot_npdcch_forward(const struct nbiot_cell *cell,
+                                                               const struct nbiot_npdcch_grant *grant,
+                                                               uint64_t position);
+
+/* Backward: what stands at a place. Any t may be asked. */
+static inline struct nbiot_downlink_back nbiot_npdsch_backward(const struct nbiot_cell *cell,
+                                                               const struct nbiot_npdsch_grant *grant,
+                                                               uint64_t t, uint64_t slot, uint64_t l, uint64_t k);
+static inline struct nbiot_downlink_back nbiot_npdcch_backward(const struct nbiot_cell *cell,
+                                                               const struct nbiot_npdcch_grant *grant,
+                                                               uint64_t t, uint64_t slot, uint64_t l, uint64_t k);
 
 /*
- * Backward: what stands at symbol l and subcarrier k of a slot, in the downlink of a slot of subframe t. In the downlink the last
- * number is the cause that makes a subframe between the first and the last one sent unusable; elsewhere there is none.
+ * Walk: the places of a grant one after the other. A step judges the record anew, answers what forward answers at
+ * the position and moves the position on. At the end it answers finished and moves nothing.
  */
-enum {
-    NBIOT_BACK_NO,
-    NBIOT_BACK_OURS,     /* 1: one of the grant's places, with its symbol and position; 0: not */
-    NBIOT_BACK_SYMBOL,
-    NBIOT_BACK_POSITION,
-    NBIOT_BACK_KIND,     /* not ours: 0 plain, 1 narrowband or uplink reference, 2 cell reference */
-    NBIOT_BACK_UP_NUMBERS,
-    NBIOT_BACK_CAUSE = NBIOT_BACK_UP_NUMBERS,
-    NBIOT_BACK_NUMBERS
+struct nbiot_npdsch_walk {
+    uint64_t position; /* starts at 0 */
+    struct nbiot_cell cell;
+    struct nbiot_npdsch_grant grant;
 };
 
-uint64_t nbiot_backward_up(const uint64_t *grant, size_t grant_len,
-                           uint64_t slot, uint64_t l, uint64_t k,
-                           uint64_t *answer, size_t answer_len);
+struct nbiot_npdcch_walk {
+    uint64_t position;
+    struct nbiot_cell cell;
+    struct nbiot_npdcch_grant grant;
+};
 
-uint64_t nbiot_backward_up_windows(const uint64_t *grant, size_t grant_len,
-                                   const uint64_t *windows, size_t windows_len,
-                                   uint64_t slot, uint64_t l, uint64_t k,
-                                   uint64_t *answer, size_t answer_len);
+struct nbiot_step {
+    uint64_t refusal;
+    uint64_t finished; /* 1 at the end, with zeros */
+    uint64_t t;        /* of the uplink 0 */
+    uint64_t slot;
+    uint64_t l;
+    uint64_t k;
+    uint64_t symbol;
+};
 
-uint64_t nbiot_backward_ack(const uint64_t *grant, size_t grant_len,
-                            uint64_t slot, uint64_t l, uint64_t k,
-                            uint64_t *answer, size_t answer_len);
+static inline struct nbiot_step nbiot_npdsch_step(struct nbiot_npdsch_walk *walk);
+static inline struct nbiot_step nbiot_npdcch_step(struct nbiot_npdcch_walk *walk);
 
-uint64_t nbiot_backward_ack_windows(const uint64_t *grant, size_t grant_len,
-                                    const uint64_t *windows, size_t windows_len,
-                                    uint64_t slot, uint64_t l, uint64_t k,
-                                    uint64_t *answer, size_t answer_len);
+/* ---- The uplink: NPUSCH format 1, and acknowledgements on format 2 */
 
-uint64_t nbiot_backward_down(const uint64_t *cell, size_t cell_len,
-                             const uint8_t *anchor, size_t anchor_len,
-                             const uint8_t *other, size_t other_len,
-                             const uint64_t *grant, size_t grant_len,
-                             uint64_t t, uint64_t slot, uint64_t l, uint64_t k,
-                             uint64_t *answer, size_t answer_len);
+enum nbiot_spacing { NBIOT_3_75_KHZ, NBIOT_15_KHZ };
 
-uint64_t nbiot_backward_control(const uint64_t *cell, size_t cell_len,
-                                const uint8_t *anchor, size_t anchor_len,
-                                const uint8_t *other, size_t other_len,
-                                const uint64_t *grant, size_t grant_len,
-                                uint64_t t, uint64_t slot, uint64_t l, uint64_t k,
-                                uint64_t *answer, size_t answer_len);
+/* A grant of NPUSCH format 1 that ends in subframe n. */
+struct nbiot_npusch_grant {
+    uint64_t n;          /* 0 to 2^30 - 1 */
+    uint64_t spacing;    /* enum nbiot_spacing */
+    uint64_t subcarrier; /* field, 0 to 47 at 3.75 kHz, 0 to 18 at 15 kHz */
+    uint64_t units;      /* field, 0 to 7: 1, 2, 3, 4, 5, 6, 8, 10 resource units */
+    uint64_t copies;     /* field, 0 to 7: 1 to 128 */
+    uint64_t delay;      /* field, 0 to 3: 8, 16, 32, 64 */
+    uint64_t mcs;        /* 0 to 4 */
+};
+
+/* The acknowledgement of an NPDSCH whose last subframe is n. */
+struct nbiot_ack_grant {
+    uint64_t n;       /* 0 to 2^31 - 1 */
+    uint64_t spacing; /* enum nbiot_spacing */
+    uint64_t field;   /* of tone and delay, 0 to 15 */
+    uint64_t copies;  /* field, 0 to 7: 1 to 128 */
+};
+
+/* Random access windows, which postpone uplink slots. Windows past the count are not read. */
+struct nbiot_window {
+    uint64_t period; /* 40, 80, 160, 320, 640, 1280 or 2560 ms */
+    uint64_t start;  /* 8 to 1024 ms, a power of two: windows begin at every ms equal to it modulo the period */
+    uint64_t length; /* in 1/30720 ms: 172032 or 196608, times a power of two up to 64 */
+    uint64_t tone;   /* the first of 12 tones at 3.75 kHz, 0 to 36; a 15 kHz tone k covers 4k to 4k + 3 */
+};
+
+struct nbiot_windows {
+    uint64_t count; /* 0 to 4 */
+    struct nbiot_window window[4];
+};
+
+struct nbiot_uplink_plan {
+    uint64_t refusal;
+    uint64_t first; /* slot */
+    uint64_t last;
+    uint64_t copies; /* the number */
+    uint64_t places;
+    uint64_t size;  /* transport block size */
+    uint64_t order; /* modulation order */
+};
+
+struct nbiot_uplink_place {
+    uint64_t refusal;
+    uint64_t slot;
+    uint64_t l;
+    uint64_t k;
+    uint64_t symbol; /* of the codeword */
+};
+
+struct nbiot_back {
+    uint64_t refusal;
+    uint64_t ours;     /* 1: one of the places, with its symbol and position; 0: not, with its kind */
+    uint64_t symbol;
+    uint64_t position;
+    uint64_t kind;     /* enum nbiot_kind */
+};
+
+/* Windows may be NULL here and in the walks: none. */
+static inline struct nbiot_uplink_plan nbiot_npusch_plan(const struct nbiot_npusch_grant *grant,
+                                                         const struct nbiot_windows *windows);
+static inline struct nbiot_uplink_plan nbiot_ack_plan(const struct nbiot_ack_grant *grant,
+                                                      const struct nbiot_windows *windows);
+
+static inline struct nbiot_uplink_place nbiot_npusch_forward(const struct nbiot_npusch_grant *grant,
+                                                             const struct nbiot_windows *windows, uint64_t position);
+static inline struct nbiot_uplink_place nbiot_ack_forward(const struct nbiot_ack_grant *grant,
+                                                          const struct nbiot_windows *windows, uint64_t position);
+
+static inline struct nbiot_back nbiot_npusch_backward(const struct nbiot_npusch_grant *grant,
+                                                      const struct nbiot_windows *windows,
+                                                      uint64_t slot, uint64_t l, uint64_t k);
+static inline struct nbiot_back nbiot_ack_backward(const struct nbiot_ack_grant *grant,
+                                                   const struct nbiot_windows *windows,
+                                                   uint64_t slot, uint64_t l, uint64_t k);
+
+struct nbiot_npusch_walk {
+    uint64_t position;
+    struct nbiot_npusch_grant grant;
+    const struct nbiot_windows *windows;
+};
+
+struct nbiot_ack_walk {
+    uint64_t position;
+    struct nbiot_ack_grant grant;
+    const struct nbiot_windows *windows;
+};
+
+static inline struct nbiot_step nbiot_npusch_step(struct nbiot_npusch_walk *walk);
+static inline struct nbiot_step nbiot_ack_step(struct nbiot_ack_walk *walk);
 
 /*
- * Walk: the places of a grant one after the other. The record is the caller's: the position, which starts at 0, in the
- * downlink the cell's eight numbers, then the grant's, and after it in the downlink the messages' fifteen, if the record has room for
- * them. A step judges the record anew, answers what forward answers at the position
- * and moves the position on; the other numbers stay. At the end it answers finished and moves nothing. An uplink step has t 0.
+ * ---- The plain engine, for acceptance tests
+ *
+ * Forward and step once more, by an engine that uses none of the quick search. It goes one subframe or slot at a time,
+ * so that its time grows with the way to the position. On every input it answers what the other one does.
  */
-enum {
-    NBIOT_WALK_P,
-    NBIOT_WALK_UP_GRANT,
-    NBIOT_WALK_CELL = NBIOT_WALK_UP_GRANT,
-    NBIOT_WALK_GRANT = NBIOT_WALK_CELL + NBIOT_CELL_NUMBERS,
-    NBIOT_WALK_UP_NUMBERS = NBIOT_WALK_UP_GRANT + NBIOT_UP_NUMBERS,
-    NBIOT_WALK_ACK_NUMBERS = NBIOT_WALK_UP_GRANT + NBIOT_ACK_NUMBERS,
-    NBIOT_WALK_DOWN_NUMBERS = NBIOT_WALK_GRANT + NBIOT_DOWN_NUMBERS,
-    NBIOT_WALK_CONTROL_NUMBERS = NBIOT_WALK_GRANT + NBIOT_CONTROL_NUMBERS,
-    NBIOT_WALK_DOWN_WITH_MESSAGES = NBIOT_WALK_DOWN_NUMBERS + NBIOT_MESSAGES_NUMBERS,
-    NBIOT_WALK_CONTROL_WITH_MESSAGES = NBIOT_WALK_CONTROL_NUMBERS + NBIOT_MESSAGES_NUMBERS
+static inline struct nbiot_downlink_place nbiot_npdsch_forward_plain(const struct nbiot_cell *cell,
+                                                                     const struct nbiot_npdsch_grant *grant,
+                                                                     uint64_t position);
+static inline struct nbiot_downlink_place nbiot_npdcch_forward_plain(const struct nbiot_cell *cell,
+                                                                     const struct nbiot_npdcch_grant *grant,
+                                                                     uint64_t position);
+static inline struct nbiot_uplink_place nbiot_npusch_forward_plain(const struct nbiot_npusch_grant *grant,
+                                                                   const struct nbiot_windows *windows,
+                                                                   uint64_t position);
+static inline struct nbiot_uplink_place nbiot_ack_forward_plain(const struct nbiot_ack_grant *grant,
+                                                                const struct nbiot_windows *windows,
+                                                                uint64_t position);
+static inline struct nbiot_step nbiot_npdsch_step_plain(struct nbiot_npdsch_walk *walk);
+static inline struct nbiot_step nbiot_npdcch_step_plain(struct nbiot_npdcch_walk *walk);
+static inline struct nbiot_step nbiot_npusch_step_plain(struct nbiot_npusch_walk *walk);
+static inline struct nbiot_step nbiot_ack_step_plain(struct nbiot_ack_walk *walk);
+
+/* ---- Where NPDCCH may start */
+
+/* A UE-specific search space, asked from subframe n on. */
+struct nbiot_search_space {
+    uint64_t n;     /* 0 to 2^30 - 1 */
+    uint64_t rmax;  /* the number itself: a power of two, 1 to 2048 */
+    uint64_t g;     /* field, 0 to 7: 1.5, 2, 4, 8, 16, 32, 48, 64; the period is rmax times it, in subframes */
+    uint64_t alpha; /* field, 0 to 3: the offset is 0, 1/8, 1/4 or 3/8 of the period, rounded down */
 };
 
-enum {
-    NBIOT_STEP_NO,
-    NBIOT_STEP_FINISHED, /* 1 at the end, with zeros */
-    NBIOT_STEP_T,
-    NBIOT_STEP_SLOT,
-    NBIOT_STEP_L,
-    NBIOT_STEP_K,
-    NBIOT_STEP_SYMBOL,
-    NBIOT_STEP_NUMBERS
+struct nbiot_candidate {
+    uint64_t first; /* subframe: the n of an NPDCCH grant */
+    uint64_t r;     /* how often it is sent: its r */
+    uint64_t last;  /* subframe: the n of the grant that it orders */
 };
 
-uint64_t nbiot_step_up(uint64_t *walk, size_t walk_len,
-                       uint64_t *answer, size_t answer_len);
+/* All candidates of format 1 from the start on, by their first subframe and then by R; past the count all are 0. */
+struct nbiot_candidates {
+    uint64_t refusal;
+    uint64_t start; /* the first start not before n, which need not be usable */
+    uint64_t count; /* 1, 3, 7 or 15 */
+    struct nbiot_candidate candidate[15];
+};
 
-uint64_t nbiot_step_up_windows(uint64_t *walk, size_t walk_len,
-                               const uint64_t *windows, size_t windows_len,
-                               uint64_t *answer, size_t answer_len);
-
-uint64_t nbiot_step_ack(uint64_t *walk, size_t walk_len,
-                        uint64_t *answer, size_t answer_len);
-
-uint64_t nbiot_step_ack_windows(uint64_t *walk, size_t walk_len,
-                                const uint64_t *windows, size_t windows_len,
-                                uint64_t *answer, size_t answer_len);
-
-uint64_t nbiot_step_down(uint64_t *walk, size_t walk_len,
-                         const uint8_t *anchor, size_t anchor_len,
-                         const uint8_t *other, size_t other_len,
-                         uint64_t *answer, size_t answer_len);
-
-uint64_t nbiot_step_control(uint64_t *walk, size_t walk_len,
-                            const uint8_t *anchor, size_t anchor_len,
-                            const uint8_t *other, size_t other_len,
-                            uint64_t *answer, size_t answer_len);
+static inline struct nbiot_candidates nbiot_search_space_candidates(const struct nbiot_cell *cell,
+                                                                    const struct nbiot_search_space *space);
 
 /*
- * The plain engine, for acceptance tests: forward and step once more, by an engine that uses none of the quick search. It goes one subframe
- * or slot at a time and keeps only that number and running counts, so that its time grows with the way to the position. On every input each
- * of these functions returns, answers and leaves what the function without _plain does; an uplink one what the one that ends in _windows
- * does, where windows of no numbers are no window.
+ * ---- The broadcast: NPBCH and SIB1, which an anchor sends by itself
+ *
+ * Forward has the places of one period from subframe 0 on, 64 frames of NPBCH (6400 places) and 256 of SIB1.
+ * Backward takes any subframe by its number in its period. NPBCH's elements and kinds are always those of a cell in-
+ * band with two narrowband ports, four cell ports and a control region of 3.
  */
-uint64_t nbiot_forward_up_plain(const uint64_t *grant, size_t grant_len,
-                                const uint64_t *windows, size_t windows_len, uint64_t p,
-                                uint64_t *answer, size_t answer_len);
-
-uint64_t nbiot_forward_ack_plain(const uint64_t *grant, size_t grant_len,
-                                 const uint64_t *windows, size_t windows_len, uint64_t p,
-                                 uint64_t *answer, size_t answer_len);
-
-uint64_t nbiot_forward_down_plain(const uint64_t *cell, size_t cell_len,
-                                  const uint8_t *anchor, size_t anchor_len,
-                                  const uint8_t *other, size_t other_len,
-                                  const uint64_t *grant, size_t grant_len, uint64_t p,
-                                  uint64_t *answer, size_t answer_len);
-
-uint64_t nbiot_forward_control_plain(const uint64_t *cell, size_t cell_len,
-                                     const uint8_t *anchor, size_t anchor_len,
-                                     const uint8_t *other, size_t other_len,
-                                     const uint64_t *grant, size_t grant_len, uint64_t p,
-                                     uint64_t *answer, size_t answer_len);
-
-uint64_t nbiot_step_up_plain(uint64_t *walk, size_t walk_len,
-                             const uint64_t *windows, size_t windows_len,
-                             uint64_t *answer, size_t answer_len);
-
-uint64_t nbiot_step_ack_plain(uint64_t *walk, size_t walk_len,
-                              const uint64_t *windows, size_t windows_len,
-                              uint64_t *answer, size_t answer_len);
-
-uint64_t nbiot_step_down_plain(uint64_t *walk, size_t walk_len,
-                               const uint8_t *anchor, size_t anchor_len,
-                               const uint8_t *other, size_t other_len,
-                               uint64_t *answer, size_t answer_len);
-
-uint64_t nbiot_step_control_plain(uint64_t *walk, size_t walk_len,
-                                  const uint8_t *anchor, size_t anchor_len,
-                                  const uint8_t *other, size_t other_len,
-                                  uint64_t *answer, size_t answer_len);
+static inline struct nbiot_downlink_place nbiot_npbch_forward(const struct nbiot_cell *cell, uint64_t position);
+static inline struct nbiot_downlink_place nbiot_sib1_forward(const struct nbiot_cell *cell, uint64_t position);
+static inline struct nbiot_back nbiot_npbch_backward(const struct nbiot_cell *cell,
+                                                     uint64_t t, uint64_t slot, uint64_t l, uint64_t k);
+static inline struct nbiot_back nbiot_sib1_backward(const struct nbiot_cell *cell,
+                                                    uint64_t t, uint64_t slot, uint64_t l, uint64_t k);
 
 /*
- * Where NPDCCH may start: the first start of the search space not before n, which need not be usable, and all candidates of format 1 from
- * there on, by their first subframe and then by R. Candidate i, from 0, has its numbers from NBIOT_SEARCH_FIRST + i *
- * NBIOT_CANDIDATE_NUMBERS on; past the count all are 0. A candidate's last subframe is the n of the grant that it orders.
+ * ---- The numbers of a transmitted subframe of an NPDSCH, on one port
+ *
+ * QPSK from the bits of the whole codeword, the first bit the highest of byte 0: two bits a symbol, N * E symbols for
+ * N subframes with E eligible elements each (a plan's places by its copies), rounded up to whole bytes. i counts the
+ * transmitted subframes from 0 on. The processor has to round to nearest, as usual, and not to trap floating-point
+ * exceptions.
  */
-enum {
-    NBIOT_CANDIDATE_FIRST, /* first subframe: the n of an NPDCCH grant */
-    NBIOT_CANDIDATE_R,     /* how often it is sent: its r */
-    NBIOT_CANDIDATE_LAST,  /* last subframe */
-    NBIOT_CANDIDATE_NUMBERS
+
+/* at[slot][l][k][0] is the real number of an element, at[slot][l][k][1] the imaginary one; +0 where not ours. */
+struct nbiot_numbers {
+    float at[2][7][12][2];
 };
 
-enum {
-    NBIOT_SEARCH_NO,
-    NBIOT_SEARCH_START,
-    NBIOT_SEARCH_COUNT, /* 1, 3, 7 or 15 */
-    NBIOT_SEARCH_FIRST,
-    NBIOT_SEARCH_NUMBERS = NBIOT_SEARCH_FIRST + 15 * NBIOT_CANDIDATE_NUMBERS
+enum nbiot_state { NBIOT_STATE_SILENT, NBIOT_STATE_REFERENCE, NBIOT_STATE_CELL_REFERENCE, NBIOT_STATE_SYMBOL = 4 };
+
+struct nbiot_amplitude {
+    uint64_t refusal;
+    uint64_t state; /* enum nbiot_state */
+    float re;       /* of a symbol, else +0 */
+    float im;
 };
 
-uint64_t nbiot_search(const uint64_t *cell, size_t cell_len,
-                      const uint8_t *anchor, size_t anchor_len,
-                      const uint8_t *other, size_t other_len,
-                      const uint64_t *space, size_t space_len,
-                      uint64_t *answer, size_t answer_len);
+/* The refusal, or 0 and all of the output written. */
+static inline uint64_t nbiot_npdsch_fill(const struct nbiot_cell *cell, const struct nbiot_npdsch_grant *grant,
+                                         uint64_t i, struct nbiot_bytes bits, float level,
+                                         struct nbiot_numbers *output);
 
-/*
- * The broadcast: NPBCH and SIB1, which an anchor sends by itself. Forward has the places of one period from subframe 0 on, 64 frames of
- * NPBCH (6400 places) and 256 of SIB1; the answer is that of an NPDSCH's forward. Backward takes any subframe by its number in its period,
- * and its answer has no cause. NPBCH's elements and kinds are always those of a cell in-band with two narrowband ports, four cell ports and
- * a control region of 3.
- */
-uint64_t nbiot_forward_npbch(const uint64_t *cell, size_t cell_len,
-                             const uint8_t *anchor, size_t anchor_len,
-                             const uint8_t *other, size_t other_len, uint64_t p,
-                             uint64_t *answer, size_t answer_len);
+/* One element of it. */
+static inline struct nbiot_amplitude nbiot_npdsch_element(const struct nbiot_cell *cell,
+                                                          const struct nbiot_npdsch_grant *grant,
+                                                          uint64_t i, uint64_t slot, uint64_t l, uint64_t k,
+                                                          struct nbiot_bytes bits, float level);
 
-uint64_t nbiot_backward_npbch(const uint64_t *cell, size_t cell_len,
-                              const uint8_t *anchor, size_t anchor_len,
-                              const uint8_t *other, size_t other_len,
-                              uint64_t t, uint64_t slot, uint64_t l, uint64_t k,
-                              uint64_t *answer, size_t answer_len);
-
-uint64_t nbiot_forward_sib1(const uint64_t *cell, size_t cell_len,
-                            const uint8_t *anchor, size_t anchor_len,
-                            const uint8_t *other, size_t other_len, uint64_t p,
-                            uint64_t *answer, size_t answer_len);
-
-uint64_t nbiot_backward_sib1(const uint64_t *cell, size_t cell_len,
-                             const uint8_t *anchor, size_t anchor_len,
-                             const uint8_t *other, size_t other_len,
-                             uint64_t t, uint64_t slot, uint64_t l, uint64_t k,
-                             uint64_t *answer, size_t answer_len);
-
-/*
- * Fill transmitted subframe i of an NPDSCH on one port: QPSK from the codeword's bits, the first bit the highest of byte 0.
- * Element (slot * 7 + l) * 12 + k has its real number at twice its number and its imaginary one after it; +0 where not ours.
- */
-enum { NBIOT_FILL_NUMBERS = 336 };
-
-uint64_t nbiot_fill(const uint64_t *cell, size_t cell_len,
-                    const uint8_t *anchor, size_t anchor_len,
-                    const uint8_t *other, size_t other_len,
-                    const uint64_t *grant, size_t grant_len,
-                    uint64_t i, const uint8_t *bits, size_t bits_len, float level,
-                    float *output, size_t output_len);
-
-/* One element of transmitted subframe i. */
-enum {
-    NBIOT_ELEMENT_NO,
-    NBIOT_ELEMENT_STATE, /* 0 silent, 1 or 2 a reference of that kind, 4 a symbol */
-    NBIOT_ELEMENT_NUMBERS
-};
-
-enum {
-    NBIOT_AMPLITUDE_RE, /* a symbol's two numbers, else +0 */
-    NBIOT_AMPLITUDE_IM,
-    NBIOT_AMPLITUDES
-};
-
-uint64_t nbiot_element(const uint64_t *cell, size_t cell_len,
-                       const uint8_t *anchor, size_t anchor_len,
-                       const uint8_t *other, size_t other_len,
-                       const uint64_t *grant, size_t grant_len,
-                       uint64_t i, uint64_t slot, uint64_t l, uint64_t k,
-                       const uint8_t *bits, size_t bits_len, float level,
-                       uint64_t *answer, size_t answer_len,
-                       float *amplitudes, size_t amplitudes_len);
-
-#ifdef __cplusplus
-}
-#endif
+#include "nbiot_inline.h"
 
 #endif

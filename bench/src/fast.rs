@@ -1,8 +1,8 @@
 //! The questions in plain Rust, as fast as we can write them. Nothing is kept between calls: each call judges its cell and
 //! its grant. No loop runs over subframes or elements, but for the fill, which writes its numbers once, and for `plain`, the plain engine
 //! by hand.
-//! Cells, grants, windows and answers are in the order of include/nbiot.h. A cell is of 8 numbers, or of 23 with its messages, a walk's
-//! record of 15 more with them; which it is the compiler knows, so that a cell of 8 is asked nothing about messages.
+//! Cells, grants, windows and answers are in the order of include/nbiot_numbers.h. A cell is of 8 numbers, or of 23 with its messages, a
+//! walk's record of 15 more with them; which it is the compiler knows, so that a cell of 8 is asked nothing about messages.
 
 mod acknowledgement;
 mod broadcast;

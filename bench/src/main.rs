@@ -10,13 +10,14 @@ mod instructions;
 mod measure;
 mod messages;
 mod no_windows;
-mod ours;
 mod plain;
 mod questions;
 
 use broadcast::Broadcast;
 use inputs::{Input, Random};
 use messages::{InputWithMessages, Schedules};
+// the proved library
+use nbiot::numbers as ours;
 
 const TIMED: usize = 512;
 const COMPARED: usize = 1 << 18;

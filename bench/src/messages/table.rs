@@ -16,14 +16,21 @@ fn many(schedules: Schedules) -> (usize, usize) {
     }
 }
 
+/// Whether the library reads messages: a window of no length is refused then.
+fn reads_messages() -> bool {
+    let mut cell = [0; 23];
+    [cell[0], cell[3]] = [3, 1];
+    ours::judge(&cell, &[], &[]) == 21
+}
+
 /// A line of the table. A library that reads no messages answers as if none were sent: its answers are counted, and may differ.
 fn report(name: &str, ours: f64, fast: f64, agreed: usize, compared: usize) {
     println!("| {name} | {ours:.1} | {fast:.1} | {:.2} | {agreed} of {compared}{} |", ours / fast, remark(agreed == compared));
-    assert!(agreed == compared || !ours::reads_messages(), "{name}: the answers differ");
+    assert!(agreed == compared || !reads_messages(), "{name}: the answers differ");
 }
 
 fn records(name: &str, same: usize, compared: usize) {
-    assert!(same == compared || !ours::reads_messages(), "{name}: the records differ");
+    assert!(same == compared || !reads_messages(), "{name}: the records differ");
 }
 
 fn remark(agrees: bool) -> &'static str {
@@ -32,7 +39,7 @@ fn remark(agrees: bool) -> &'static str {
 
 /// Search spaces, and cells that broadcast, are drawn by generators of their own.
 pub fn table(r: &mut Random, spaces: &mut Random, b: &mut Random) {
-    if !ours::reads_messages() {
+    if !reads_messages() {
         println!("\nThe library reads 8 numbers of a cell: below it answers as if no messages were sent.");
         println!("Its answers differ, and its times are of another question.");
     }

@@ -1,4 +1,4 @@
--- Cells, grants and answers as buffers of numbers, in the order of include/nbiot.h, and what a call replies.
+-- Cells, grants and answers as buffers of numbers, in the order of include/nbiot_numbers.h, and what a call replies.
 use mathlib.Core.Bool.{Bool, cond, _&&_}
 use mathlib.Core.List.{List, [], _∷_, _++_}
 use Prim.Native.Nat.{ℕ, zero, suc, _+_}

@@ -1,5 +1,5 @@
-// The public questions for C: numbers and slices in, answers into lent buffers, in the order of include/nbiot.h.
-// What follows a cell's eight numbers is lent on as its messages.
+// The public questions for C: numbers and slices in, answers into lent buffers, in the order of
+// include/nbiot_numbers.h. What follows a cell's eight numbers is lent on as its messages.
 // A buffer that is too short gets 255, before anything else is judged, and nothing is written.
 ghost use mathlib.Core.List.{[]};
 ghost use mathlib.Core.Path.{_≡_};

@@ -1,7 +1,23 @@
-//! The proved library, through its C functions. A call is safe: each buffer goes with its own length. A cell and a walk's record of the
-//! downlink may have any length, which says whether messages are lent.
+//! The functions that the archive exports, on buffers of numbers in the order of include/nbiot_numbers.h. A call is safe: each buffer
+//! goes with its own length. A cell and a walk's record of the downlink may have any length, which says whether messages are lent. Each
+//! returns a refusal number, 0 if there is none. The structs of this crate ask the same.
 
-use crate::fast::{AckGrant, AckWalk, ControlGrant, DownGrant, SearchSpace, UpGrant, UpWalk};
+#![allow(missing_docs, clippy::too_many_arguments)]
+
+/// An NPUSCH format 1 grant.
+pub type UpGrant = [u64; 7];
+/// An acknowledgement.
+pub type AckGrant = [u64; 4];
+/// An NPDSCH grant.
+pub type DownGrant = [u64; 5];
+/// An NPDCCH.
+pub type ControlGrant = [u64; 4];
+/// A search space of NPDCCH.
+pub type SearchSpace = [u64; 4];
+/// A walk over an NPUSCH: the position and the grant.
+pub type UpWalk = [u64; 8];
+/// A walk over an acknowledgement: the position and the grant.
+pub type AckWalk = [u64; 5];
 
 extern "C" {
     fn nbiot_judge(cell: *const u64, cells: usize, anchor: *const u8, anchors: usize, other: *const u8, others: usize) -> u64;
@@ -274,11 +290,4 @@ pub fn element(
             answer.as_mut_ptr(), answer.len(), amplitudes.as_mut_ptr(), amplitudes.len(),
         )
     }
-}
-
-/// Whether the library reads messages: a window of no length is refused then.
-pub fn reads_messages() -> bool {
-    let mut cell = [0; 23];
-    [cell[0], cell[3]] = [3, 1];
-    judge(&cell, &[], &[]) == 21
 }
