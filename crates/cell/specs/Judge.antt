@@ -15,7 +15,8 @@ use Rattle.cell.specs.declared.CauseAnswer.{CauseAnswer}
 use Rattle.cell.specs.Bitmap.{ownBuffer, bitmapIn, bitmapOf}
 use Rattle.cell.specs.Usable.{period, why, usable}
 
--- modes 0 and 1
+-- mode 0 in-band with the cell's own identity, 1 in-band with another; 2 guard band and 3 standalone, which differ in
+-- nothing that is asked here
 abbrev pub inBand : CellConfig → Bool
 inBand c = ltb (c .mode) 2
 
