@@ -21,26 +21,51 @@ use uplink::UplinkPlace;
 use uplink::UplinkPlan;
 use walk::WalkPlace;
 
-pub fn put_fault(f: Fault, out: &mut Page, at: usize) -> usize
-    requires { ⌜ at + 320 ≤ 65536 ⌝ }
-    ensures { λ r. ⌜ r ≤ at + 320 ⌝ }
+mod drawn;
+mod told;
+
+pub use drawn::Shown;
+pub use drawn::put_more;
+pub use drawn::put_slot;
+pub use drawn::put_slot_columns;
+pub use drawn::put_subframe;
+pub use drawn::put_tones;
+pub use drawn::put_unit;
+pub use told::put_help;
+pub use told::put_meaning;
+
+// A fault's word.
+fn put_fault_word(f: Fault, out: &mut Page, at: usize) -> usize
+    requires { ⌜ at + 16 ≤ 65536 ⌝ }
+    ensures { λ r. ⌜ r ≤ at + 16 ⌝ }
 {
     match f {
-        Fault::Long => put(out, at, b"error=long\n"),
-        Fault::Question => put(out, at, b"error=question\n"),
-        Fault::Kind => put(out, at, b"error=kind\n"),
-        Fault::Value => put(out, at, b"error=value\n"),
-        Fault::Name => put(out, at, b"error=name\n"),
-        Fault::Number => put(out, at, b"error=number\n"),
-        Fault::Hex => put(out, at, b"error=hex\n"),
-        Fault::Size => put(out, at, b"error=size\n"),
+        Fault::Long => put(out, at, b"error=long"),
+        Fault::Question => put(out, at, b"error=question"),
+        Fault::Kind => put(out, at, b"error=kind"),
+        Fault::Value => put(out, at, b"error=value"),
+        Fault::Name => put(out, at, b"error=name"),
+        Fault::Number => put(out, at, b"error=number"),
+        Fault::Hex => put(out, at, b"error=hex"),
+        Fault::Size => put(out, at, b"error=size"),
     }
 }
 
-// A name with its equals sign, and a number.
+// A fault, by the numbers of its line and its word.
+pub fn put_fault(f: Fault, line: u64, word: usize, out: &mut Page, at: usize) -> usize
+    requires { ⌜ at + 320 ≤ 65536 ⌝ }
+    ensures { λ r. ⌜ r ≤ at + 320 ⌝ }
+{
+    let a = put_fault_word(f, out, at);
+    let b = put_value(out, a, b" line=", line);
+    let c = put_value(out, b, b" word=", word as u64);
+    put(out, c, b"\n")
+}
+
+// A name with its equals sign, or other words, and a number.
 fn put_value(out: &mut Page, at: usize, name: &[u8], x: u64) -> usize
-    requires { ⌜ (length (now name) ≤ 12) × (at + 32 ≤ 65536) ⌝ }
-    ensures { λ r. ⌜ r ≤ at + 32 ⌝ }
+    requires { ⌜ at + (length (now name) + 20) ≤ 65536 ⌝ }
+    ensures { λ r. ⌜ r ≤ at + (length (now (name .entry)) + 20) ⌝ }
 {
     let mid = put(out, at, name);
     put_decimal(out, mid, x)

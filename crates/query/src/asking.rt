@@ -2,12 +2,14 @@
 use crate::either;
 use crate::engines;
 use crate::picture;
+use crate::timeline;
 use questions::ANCHOR;
 use questions::DATA;
 use questions::I;
 use questions::K;
 use questions::Kind;
 use questions::L;
+use questions::NO;
 use questions::OTHER;
 use questions::P;
 use questions::Question;
@@ -62,19 +64,10 @@ fn plan(k: Kind, v: &Values, anchor: &[u8], other: &[u8], out: &mut Page, at: us
     requires { ⌜ at + 320 ≤ 65536 ⌝ }
     ensures { λ r. ⌜ r ≤ at + 320 ⌝ }
 {
-    match k {
-        Kind::Up => answers::put_uplink_plan(
-            nbiot::plan_up_beside(questions::npusch_grant(v), questions::windows_of(v)),
-            out,
-            at,
-        ),
-        Kind::Ack => answers::put_uplink_plan(
-            nbiot::plan_ack_beside(questions::harq_ack_grant(v), questions::windows_of(v)),
-            out,
-            at,
-        ),
-        _ => answers::put_downlink_plan(either::plan(k, v, anchor, other), out, at),
+    if either::is_uplink(k) {
+        return answers::put_uplink_plan(either::plan_slots(k, v), out, at);
     }
+    answers::put_downlink_plan(either::plan(k, v, anchor, other), out, at)
 }
 
 fn forward(k: Kind, v: &Values, anchor: &[u8], other: &[u8], out: &mut Page, at: usize) -> usize
@@ -96,46 +89,16 @@ fn backward(k: Kind, v: &Values, anchor: &[u8], other: &[u8], out: &mut Page, at
     let slot = v[SLOT];
     let l = v[L];
     let s = v[K];
-    match k {
-        Kind::Up => {
-            let x = nbiot::backward_up_beside(
-                questions::npusch_grant(v),
-                questions::windows_of(v),
-                slot,
-                l,
-                s,
-            );
-            answers::put_back(x, out, at)
-        }
-        Kind::Ack => {
-            let x = nbiot::backward_ack_beside(
-                questions::harq_ack_grant(v),
-                questions::windows_of(v),
-                slot,
-                l,
-                s,
-            );
-            answers::put_back(x, out, at)
-        }
-        Kind::Npbch => {
-            answers::put_back(
-                either::standing(k, v, anchor, other, v[T], slot, l, s),
-                out,
-                at,
-            )
-        }
-        Kind::Sib1 => {
-            answers::put_back(
-                either::standing(k, v, anchor, other, v[T], slot, l, s),
-                out,
-                at,
-            )
-        }
-        _ => {
-            let x = either::backward(k, v, anchor, other, v[T], slot, l, s);
-            answers::put_downlink_back(x, out, at)
-        }
+    if either::is_uplink(k) {
+        let x = either::standing(k, v, anchor, other, slot, 0, l, s);
+        return answers::put_back(x, out, at);
     }
+    if picture::is_broadcast(k) {
+        let x = either::standing(k, v, anchor, other, v[T], slot, l, s);
+        return answers::put_back(x, out, at);
+    }
+    let x = either::backward(k, v, anchor, other, v[T], slot, l, s);
+    answers::put_downlink_back(x, out, at)
 }
 
 // The position after the step is kept.
@@ -236,10 +199,12 @@ pub fn ask<'a>(
         Question::Search => search(v, a, b, out, at),
         Question::Fill => fill(v, a, b, d, out, at),
         Question::Element => element(v, a, b, d, out, at),
+        Question::Meaning => answers::put_meaning(v[NO], out, at),
         Question::Plan(k) => plan(k, v, a, b, out, at),
         Question::Forward(k) => forward(k, v, a, b, out, at),
         Question::Backward(k) => backward(k, v, a, b, out, at),
         Question::Step(k) => step(k, v, a, b, out, at),
         Question::Picture(k) => picture::put_picture(k, v, a, b, out, at),
+        Question::Timeline(k) => timeline::put_timeline(k, v, a, b, out, at),
     }
 }

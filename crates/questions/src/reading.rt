@@ -15,35 +15,34 @@ use bytes::scan::find;
 use messages::Schedule;
 use nprach::Window;
 use text::Number;
+use text::part;
 ghost use Prim.Native.Nat.{_≤_, _<_};
 ghost use lib.ListN.{length};
 
-// The longest line, the newline aside.
-pub const LONGEST: usize = 4096;
+// The longest line, its end aside.
+const LONGEST: usize = 4096;
 
 const LARGEST_ROOM: u64 = 1024;
 
 const LARGEST_ENGINE: u64 = 1;
 
-// The questions that want no kind stand first.
+// The questions that want no kind stand first; then help, whose words are its own.
 const QUESTIONS: [[u8; 80]; 2] = [
     *b"set       cell      bitmap    cause     count     search    fill      element   ",
-    *b"plan      forward   backward  step      picture                                 ",
+    *b"meaning   help      plan      forward   backward  step      picture   timeline  ",
 ];
 
-const ASKED: usize = 13;
+const ASKED: usize = 16;
 
-const WITHOUT_KIND: usize = 8;
+const HELP: usize = 9;
 
-const FORWARD: usize = 9;
+const FORWARD: usize = 11;
 
-const BACKWARD: usize = 10;
+const BACKWARD: usize = 12;
 
-const PICTURE: usize = 12;
+const PICTURE: usize = 14;
 
-// The kinds of the uplink stand first, those of the broadcast last.
-const ACK: usize = 1;
-
+// The kinds of the broadcast stand last.
 const NPBCH: usize = 4;
 
 const NO_KIND: usize = 6;
@@ -70,11 +69,13 @@ pub enum Question {
     Search,
     Fill,
     Element,
+    Meaning,
     Plan(Kind),
     Forward(Kind),
     Backward(Kind),
     Step(Kind),
     Picture(Kind),
+    Timeline(Kind),
 }
 
 pub enum Fault {
@@ -88,11 +89,14 @@ pub enum Fault {
     Size,
 }
 
-// What a line says: nothing; nothing that is a question; a question, with the end of the words that name it.
+// What a line says: nothing; nothing that is a question, with the number of the word at fault; a question, with the
+// end of the words that name it; that help is asked of the word that starts at a place, of all where the line ends
+// there.
 pub enum Line {
     Nothing,
-    Wrong(Fault),
+    Wrong(Fault, usize),
     Asked(Question, usize),
+    Help(usize),
 }
 
 // What a value word gives: a number to a name's row; a buffer, by its name's row and the start of its hex digits; a
@@ -126,11 +130,13 @@ fn question_of(row: usize, kind: usize) -> Question {
         5 => Question::Search,
         6 => Question::Fill,
         7 => Question::Element,
-        8 => Question::Plan(kind_of(kind)),
-        9 => Question::Forward(kind_of(kind)),
-        10 => Question::Backward(kind_of(kind)),
-        11 => Question::Step(kind_of(kind)),
-        _ => Question::Picture(kind_of(kind)),
+        8 => Question::Meaning,
+        10 => Question::Plan(kind_of(kind)),
+        11 => Question::Forward(kind_of(kind)),
+        12 => Question::Backward(kind_of(kind)),
+        13 => Question::Step(kind_of(kind)),
+        14 => Question::Picture(kind_of(kind)),
+        _ => Question::Timeline(kind_of(kind)),
     }
 }
 
@@ -183,16 +189,6 @@ fn read_buffer(name: usize, s: &[u8], start: usize) -> Word {
         return Word::Wrong(Fault::Size);
     }
     Word::Buffer(name, start)
-}
-
-// A part of a line; an empty one where it starts past its end.
-fn part(line: &[u8], start: usize, end: usize) -> &[u8]
-    requires { ⌜ end ≤ length (now line) ⌝ }
-{
-    if start <= end {
-        return &line[start..end];
-    }
-    &line[end..end]
 }
 
 // The end of the part of a text that starts at a place: the next comma, or the text's end.
@@ -310,63 +306,98 @@ fn kind_after(line: &[u8], at: usize) -> usize
     text::number_of(&KINDS, NO_KIND, &line[start..end])
 }
 
-// The question, where all value words are good.
-fn check_words(line: &[u8], named: usize, q: Question) -> Line
-    requires { ⌜ named ≤ length (now line) ⌝ }
+// The question, where all value words are good; the first of them has a number.
+fn check_words(line: &[u8], named: usize, first: usize, q: Question) -> Line
+    requires { ⌜ (named ≤ length (now line)) × ((length (now line) ≤ 4096) × (first ≤ 3)) ⌝ }
 {
     let mut end = named;
+    let mut word = first;
     while end < line.len() {
         let start = end + 1;
         end = next_end(line, end);
         let w = read_word(line, start, end);
         if let Word::Wrong(f) = w {
-            return Line::Wrong(f);
+            return Line::Wrong(f, word);
         }
+        word += 1;
     }
     Line::Asked(q, named)
 }
 
-// The kind is as the question wants it: none, or one of a grant; forward and backward have those of the broadcast too,
-// and a picture all but those of the uplink.
+// The kind is as the question wants it: one of a grant; forward, backward and a picture have those of the broadcast
+// too.
 fn suits(row: usize, kind: usize) -> bool {
-    if row < WITHOUT_KIND {
-        return kind == NO_KIND;
-    }
-    if row == PICTURE {
-        return (ACK < kind) & (kind < NO_KIND);
-    }
-    if (row == FORWARD) | (row == BACKWARD) {
+    if (row == FORWARD) | (row == BACKWARD) | (row == PICTURE) {
         return kind < NO_KIND;
     }
     kind < NPBCH
 }
 
-// The end of the words that name the question.
-fn named_end(line: &[u8], row: usize, end: usize) -> usize
-    requires { ⌜ end ≤ length (now line) ⌝ }
-    ensures { λ r. ⌜ r ≤ length (now (line .entry)) ⌝ }
+// A question with no kind, whose word ends at a place.
+fn read_plain(line: &[u8], row: usize, end: usize) -> Line
+    requires { ⌜ (end ≤ length (now line)) × (length (now line) ≤ 4096) ⌝ }
 {
-    if row < WITHOUT_KIND {
-        return end;
+    if kind_after(line, end) < NO_KIND {
+        return Line::Wrong(Fault::Kind, 2);
     }
-    if end == line.len() {
-        return end;
-    }
-    next_end(line, end)
+    check_words(line, end, 2, question_of(row, NO_KIND))
 }
 
-// A line that is not empty, no remark and not too long.
-fn read_question(line: &[u8]) -> Line {
-    let end = find(line, 0, line.len(), b' ');
-    let row = text::number_of(&QUESTIONS, ASKED, &line[0..end]);
-    if row >= ASKED {
-        return Line::Wrong(Fault::Question);
+// A question with a kind, whose first word ends at a place.
+fn read_kind(line: &[u8], row: usize, end: usize) -> Line
+    requires { ⌜ (end ≤ length (now line)) × (length (now line) ≤ 4096) ⌝ }
+{
+    if end == line.len() {
+        return Line::Wrong(Fault::Kind, 2);
     }
     let kind = kind_after(line, end);
     if !suits(row, kind) {
-        return Line::Wrong(Fault::Kind);
+        return Line::Wrong(Fault::Kind, 2);
     }
-    check_words(line, named_end(line, row, end), question_of(row, kind))
+    check_words(line, next_end(line, end), 3, question_of(row, kind))
+}
+
+// A word that help tells of: a question, a kind or a name.
+fn is_known(word: &[u8]) -> bool {
+    (text::number_of(&QUESTIONS, ASKED, word) < ASKED)
+        | (text::number_of(&KINDS, NO_KIND, word) < NO_KIND)
+        | (text::number_of(&NAMES, NAMED, word) < NAMED)
+}
+
+// Help, whose word ends at a place.
+fn read_help(line: &[u8], end: usize) -> Line
+    requires { ⌜ end ≤ length (now line) ⌝ }
+{
+    if end == line.len() {
+        return Line::Help(end);
+    }
+    let start = end + 1;
+    let last = next_end(line, end);
+    if !is_known(&line[start..last]) {
+        return Line::Wrong(Fault::Name, 2);
+    }
+    if last < line.len() {
+        return Line::Wrong(Fault::Value, 3);
+    }
+    Line::Help(start)
+}
+
+// A line that is not empty, no remark and not too long.
+fn read_question(line: &[u8]) -> Line
+    requires { ⌜ length (now line) ≤ 4096 ⌝ }
+{
+    let end = find(line, 0, line.len(), b' ');
+    let row = text::number_of(&QUESTIONS, ASKED, &line[0..end]);
+    if row >= ASKED {
+        return Line::Wrong(Fault::Question, 1);
+    }
+    if row < HELP {
+        return read_plain(line, row, end);
+    }
+    if row == HELP {
+        return read_help(line, end);
+    }
+    read_kind(line, row, end)
 }
 
 pub fn read_line(line: &[u8]) -> Line {
@@ -377,9 +408,21 @@ pub fn read_line(line: &[u8]) -> Line {
         return Line::Nothing;
     }
     if line.len() > LONGEST {
-        return Line::Wrong(Fault::Long);
+        return Line::Wrong(Fault::Long, 0);
     }
     read_question(line)
+}
+
+// A line without the carriage return at its end.
+pub fn without_return(line: &[u8]) -> &[u8] {
+    if line.len() == 0 {
+        return line;
+    }
+    let n = line.len() - 1;
+    if line[n] == b'\r' {
+        return &line[0..n];
+    }
+    line
 }
 
 fn keep_number(v: &mut Values, name: usize, x: u64) {

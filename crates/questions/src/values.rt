@@ -23,12 +23,12 @@ pub const NAMES: [[u8; 80]; 6] = [
     *b"n         delay     rmax      subframes copies    r         format    ncce      ",
     *b"g         alpha     spacing   subcarrierunits     mcs       field     windows   ",
     *b"siwindow  sioffset  messages  p         t         slot      l         k         ",
-    *b"i         room      engine    level     anchor    other     data      w1        ",
-    *b"w2        w3        w4        m1        m2        m3        m4                  ",
+    *b"i         room      engine    no        level     anchor    other     data      ",
+    *b"w1        w2        w3        w4        m1        m2        m3        m4        ",
 ];
 
 // How many names there are. The number of a name stands where its value is read.
-pub const NAMED: usize = 47;
+pub const NAMED: usize = 48;
 
 pub const P: usize = 27;
 
@@ -46,21 +46,23 @@ pub const ROOM: usize = 33;
 
 pub const ENGINE: usize = 34;
 
-pub const LEVEL: usize = 35;
+pub const NO: usize = 35;
 
-pub const ANCHOR: usize = 36;
+pub const LEVEL: usize = 36;
 
-pub const OTHER: usize = 37;
+pub const ANCHOR: usize = 37;
 
-pub const DATA: usize = 38;
+pub const OTHER: usize = 38;
+
+pub const DATA: usize = 39;
 
 // At a buffer's row stands the count of its bytes; from the first window's row on stand four numbers of each window,
 // and then three of each schedule.
-pub type Values = [u64; 67];
+pub type Values = [u64; 68];
 
 // All 0, but the room and the messages' window.
 pub fn start() -> Values {
-    let mut v = [0u64; 67];
+    let mut v = [0u64; 68];
     v[ROOM] = 336;
     v[SIWINDOW] = 160;
     v
@@ -151,20 +153,20 @@ pub fn search_space_of(v: &Values) -> SearchSpace {
 
 const WINDOWS: usize = 23;
 
-const W1: usize = 39;
+const W1: usize = 40;
 
-pub const W4: usize = 42;
+pub const W4: usize = 43;
 
 // The place of a window's first number, by the row of its name.
 fn first_of(name: usize) -> usize
-    requires { ⌜ (39 ≤ name) × (name ≤ 42) ⌝ }
-    ensures { λ r. ⌜ r + 4 ≤ 55 ⌝ }
+    requires { ⌜ (40 ≤ name) × (name ≤ 43) ⌝ }
+    ensures { λ r. ⌜ r + 4 ≤ 56 ⌝ }
 {
     W1 + 4 * (name - W1)
 }
 
 fn window_of(name: usize, v: &Values) -> Window
-    requires { ⌜ (39 ≤ name) × (name ≤ 42) ⌝ }
+    requires { ⌜ (40 ≤ name) × (name ≤ 43) ⌝ }
 {
     let at = first_of(name);
     Window {
@@ -210,23 +212,23 @@ const SIOFFSET: usize = 25;
 
 const MESSAGES: usize = 26;
 
-const M1: usize = 43;
+const M1: usize = 44;
 
-const M4: usize = 46;
+const M4: usize = 47;
 
 // The place of the first schedule's numbers.
-const SCHEDULES: usize = 55;
+const SCHEDULES: usize = 56;
 
 // The place of a schedule's first number, by the row of its name.
 fn first_of_schedule(name: usize) -> usize
-    requires { ⌜ (43 ≤ name) × (name ≤ 46) ⌝ }
-    ensures { λ r. ⌜ r + 3 ≤ 67 ⌝ }
+    requires { ⌜ (44 ≤ name) × (name ≤ 47) ⌝ }
+    ensures { λ r. ⌜ r + 3 ≤ 68 ⌝ }
 {
     SCHEDULES + 3 * (name - M1)
 }
 
 fn schedule_of(name: usize, v: &Values) -> Schedule
-    requires { ⌜ (43 ≤ name) × (name ≤ 46) ⌝ }
+    requires { ⌜ (44 ≤ name) × (name ≤ 47) ⌝ }
 {
     let at = first_of_schedule(name);
     Schedule {
@@ -339,14 +341,6 @@ pub fn level_of(v: &Values) -> f32 {
     text::float_of((v[LEVEL] % 0x1_0000_0000) as u32)
 }
 
-// How many subframes the codeword has.
-pub fn codeword_subframes(v: &Values) -> u64 {
-    if v[SUBFRAMES] > 7 {
-        return 0;
-    }
-    grid::length(v[SUBFRAMES])
-}
-
 pub fn control_region(v: &Values) -> u64 {
     v[CONTROL]
 }
@@ -357,4 +351,9 @@ pub fn sib1_control(v: &Values) -> u64 {
         return 3;
     }
     0
+}
+
+// The uplink's spacing is 15 kHz.
+pub fn is_15_khz(v: &Values) -> bool {
+    v[SPACING] == 1
 }

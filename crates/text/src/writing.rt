@@ -19,12 +19,12 @@ pub fn put(out: &mut Page, at: usize, s: &[u8]) -> usize
     at + i
 }
 
-// A number in decimal.
-pub fn put_decimal(out: &mut Page, at: usize, x: u64) -> usize
+// A number in decimal at the right end of 20 places, of which the first are cut off where they are blank.
+pub fn put_right(out: &mut Page, at: usize, x: u64, cut: usize) -> usize
     requires { ⌜ at + 20 ≤ 65536 ⌝ }
     ensures { λ r. ⌜ r ≤ at + 20 ⌝ }
 {
-    let mut digits = [b'0'; 20];
+    let mut digits = [b' '; 20];
     digits[19] = b'0' + (x % 10) as u8;
     let mut rest = x / 10;
     let mut i = 19;
@@ -33,7 +33,18 @@ pub fn put_decimal(out: &mut Page, at: usize, x: u64) -> usize
         digits[i] = b'0' + (rest % 10) as u8;
         rest /= 10;
     }
+    if i > cut {
+        return put(out, at, &digits[cut..]);
+    }
     put(out, at, &digits[i..])
+}
+
+// A number in decimal.
+pub fn put_decimal(out: &mut Page, at: usize, x: u64) -> usize
+    requires { ⌜ at + 20 ≤ 65536 ⌝ }
+    ensures { λ r. ⌜ r ≤ at + 20 ⌝ }
+{
+    put_right(out, at, x, 19)
 }
 
 // A byte in two hex digits.

@@ -9,9 +9,15 @@ const QUESTION_ERRORS: &[&[u8]] = &[
     b"Plan down",
     b" plan down",
     b" ",
-    b"cell\r",
-    b"\r",
+    b"cell\r\r",
+    b"\r\r",
+    b"\rcell",
     b"\tcell",
+    b"helps",
+    b"Help",
+    b"help\r\r",
+    b"timelines down",
+    b"meaning=7",
     b"cell\tmode=1",
     b"ours",
     b"=",
@@ -32,8 +38,16 @@ const KIND_ERRORS: &[&[u8]] = &[
     b"backward t=3 down",
     b"cell down",
     b"set up mode=1",
-    b"picture up",
-    b"picture ack",
+    b"picture",
+    b"picture acks",
+    b"picture up\r\r",
+    b"timeline",
+    b"timeline ",
+    b"timeline npbch",
+    b"timeline sib1 n=1",
+    b"timeline n=1",
+    b"meaning up no=7",
+    b"meaning npbch",
     b"plan acks",
     b"cell ack",
     b"cause down",
@@ -51,12 +65,12 @@ const KIND_ERRORS: &[&[u8]] = &[
     b"forward NPBCH p=1",
     b"backward sib t=4",
     b"picture pbch",
-    b"forward sib1\r",
+    b"forward sib1\r\r",
     b"fill down i=0",
     b"element up",
     b"bitmap control",
     b"step Down",
-    b"backward down\r",
+    b"backward down\r\r",
     b"plan down\tp=1",
     b"step \xc3\xbc",
 ];
@@ -66,8 +80,11 @@ const VALUE_ERRORS: &[&[u8]] = &[
     b"mode",
     b"",
     b" p=1",
-    b"p=1\r",
+    b"p=1\r\r",
+    b"p=1\rk=2",
+    b"\rp=1",
     b"p=1\tk=2",
+    b"7",
     b"-",
     b"\t",
     b"\xff",
@@ -96,6 +113,9 @@ const NAME_ERRORS: &[&[u8]] = &[
     b"engines=2",
     b"alfa=1",
     b"Rmax=4",
+    b"No=7",
+    b"meaning=7",
+    b"line=1",
     b"\xff=1",
 ];
 const NUMBER_ERRORS: &[&[u8]] = &[
@@ -144,6 +164,9 @@ const NUMBER_ERRORS: &[&[u8]] = &[
     b"m4=18446744073709551616,2,8",
     b"room=-",
     b"i=1_0",
+    b"no=",
+    b"no=-1",
+    b"no=18446744073709551616",
 ];
 const HEX_ERRORS: &[&[u8]] = &[
     b"anchor=abc",
@@ -189,6 +212,37 @@ const BEGINNINGS: &[&[u8]] = &[
     b"cell messages=9",
     b"cause sioffset=16 m1=1,2,3",
     b"plan down messages=2 m1=64,2,8 m2=64,2,8 siwindow=640",
+    b"meaning no=7",
+    b"timeline up copies=9",
+    b"timeline control r=3 n=4294967296",
+    b"picture ack i=4096",
+];
+
+/// Lines of help with a second word that is not known.
+const UNKNOWN_HELP_WORDS: &[&[u8]] = &[
+    b"help ",
+    b"help  n",
+    b"help colour",
+    b"help N",
+    b"help n=1",
+    b"help Questions:",
+    b"help A",
+    b"help w5",
+    b"help up\t",
+    b"help n\r\r",
+    b"help mod",
+    b"help modes x",
+    b"help \xff",
+];
+
+/// Lines of help with a word more.
+const HELP_OF_TWO_WORDS: &[&[u8]] = &[
+    b"help n ",
+    b"help n p",
+    b"help control n=1",
+    b"help up down",
+    b"help help help help",
+    b"help no \r\r",
 ];
 
 /// A line of exactly 4,096 bytes: the zeros count for nothing.
@@ -199,10 +253,15 @@ pub fn longest_line() -> Vec<u8> {
     line
 }
 
-/// A line over 4,096 bytes.
+/// A line over 4,096 bytes, also by a carriage return that isn't its end.
 fn too_long_line(random: &mut Random) -> Vec<u8> {
     let beginnings: [&[u8]; 4] = [b"cell t=", b"set data=", b"plan ", b"x"];
     let mut line = random.pick(&beginnings).to_vec();
+    if random.chance(20) {
+        line.resize(LONGEST_LINE, b'0');
+        line.extend_from_slice(b"\r\r");
+        return line;
+    }
     let length = random.pick(&[LONGEST_LINE + 1, LONGEST_LINE + 1, 5000, 9000]);
     line.resize(length, b'0');
     line
@@ -217,25 +276,57 @@ fn too_long_buffer(random: &mut Random) -> Vec<u8> {
     word
 }
 
+/// A line that is no question, with its error and where it stands.
+#[derive(Clone, Debug)]
+pub struct FaultyLine {
+    pub line: Vec<u8>,
+    pub error: LineError,
+    /// 0 for the whole line.
+    pub word: usize,
+}
+
 /// A line that is no question.
-pub fn random_faulty_line(random: &mut Random) -> Vec<u8> {
-    let mut word = match random.pick(&LineError::ALL) {
-        LineError::Long => return too_long_line(random),
-        LineError::Question => return random.pick(QUESTION_ERRORS).to_vec(),
-        LineError::Kind => return random.pick(KIND_ERRORS).to_vec(),
-        LineError::Value => random.pick(VALUE_ERRORS).to_vec(),
-        LineError::Name => random.pick(NAME_ERRORS).to_vec(),
-        LineError::Number => random.pick(NUMBER_ERRORS).to_vec(),
-        LineError::Hex => random.pick(HEX_ERRORS).to_vec(),
-        LineError::Size if random.chance(40) => too_long_buffer(random),
-        LineError::Size => random.pick(SIZE_ERRORS).to_vec(),
+pub fn random_faulty_line(random: &mut Random) -> FaultyLine {
+    let error = random.pick(&LineError::ALL);
+    let (line, word) = match error {
+        LineError::Long => (too_long_line(random), 0),
+        LineError::Question => (random.pick(QUESTION_ERRORS).to_vec(), 1),
+        LineError::Kind => (random.pick(KIND_ERRORS).to_vec(), 2),
+        LineError::Name if random.chance(25) => (random.pick(UNKNOWN_HELP_WORDS).to_vec(), 2),
+        LineError::Value if random.chance(25) => (random.pick(HELP_OF_TWO_WORDS).to_vec(), 3),
+        _ => {
+            let word = random_faulty_word(random, error);
+            after_good_words(random, &word)
+        }
     };
+    FaultyLine { line, error, word }
+}
+
+/// A word that brings an error after a good beginning.
+fn random_faulty_word(random: &mut Random, error: LineError) -> Vec<u8> {
+    let list = match error {
+        LineError::Value => VALUE_ERRORS,
+        LineError::Name => NAME_ERRORS,
+        LineError::Number => NUMBER_ERRORS,
+        LineError::Hex => HEX_ERRORS,
+        _ if random.chance(40) => return too_long_buffer(random),
+        _ => SIZE_ERRORS,
+    };
+    random.pick(list).to_vec()
+}
+
+/// A good beginning and some good words, then the bad word; and its number.
+fn after_good_words(random: &mut Random, bad: &[u8]) -> (Vec<u8>, usize) {
     let mut line = random.pick(BEGINNINGS).to_vec();
+    for _ in 0..random.below(4) {
+        line.extend_from_slice(random.pick(&[b" k=77", b" no=7"]));
+    }
+    let word = line.split(|&b| b == b' ').count() + 1;
     line.push(b' ');
-    line.append(&mut word);
+    line.extend_from_slice(bad);
     if random.chance(20) {
         // The first error from the left is the one answered.
         line.extend_from_slice(random.pick(&[b" q=1", b" k=x", b" k=3"]));
     }
-    line
+    (line, word)
 }

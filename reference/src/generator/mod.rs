@@ -12,6 +12,7 @@ pub mod words;
 pub mod asked_places;
 pub mod broadcast;
 pub mod cells;
+pub mod explained;
 pub mod grants;
 pub mod random_access_windows;
 pub mod search_spaces;

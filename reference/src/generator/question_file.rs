@@ -6,6 +6,7 @@ use super::asked_places::{
 };
 use super::broadcast::broadcast_words;
 use super::cells::{cell_words, random_cell};
+use super::explained::{meaning_words, random_help_word, timeline_words};
 use super::faulty_lines::{longest_line, random_faulty_line};
 use super::random::Random;
 use super::refusals::{possible_refusals, words_refused_with};
@@ -80,17 +81,22 @@ fn random_question(random: &mut Random, setup: &Setup) -> Question {
     let channel = random.pick(&Channel::ALL);
     let shares = match kind {
         Kind::Down if setup.has_messages() => [
-            50, 95, 140, 55, 30, 20, 180, 15, 25, 75, 25, 110, 70, 105, 5,
+            50, 95, 140, 55, 30, 20, 170, 15, 25, 70, 25, 105, 70, 105, 5, 12, 4, 4,
         ],
-        Kind::Control if setup.has_messages() => {
-            [60, 120, 160, 80, 25, 20, 180, 20, 0, 0, 25, 130, 70, 105, 5]
-        }
+        Kind::Control if setup.has_messages() => [
+            60, 120, 155, 80, 25, 20, 175, 20, 0, 0, 25, 120, 70, 105, 5, 12, 4, 4,
+        ],
         Kind::Down => [
-            50, 105, 145, 55, 30, 20, 180, 15, 25, 80, 5, 110, 70, 105, 5,
+            50, 105, 140, 55, 30, 20, 175, 15, 25, 75, 5, 105, 70, 105, 5, 12, 4, 4,
         ],
-        Kind::Control => [60, 130, 170, 80, 25, 20, 180, 20, 0, 0, 5, 130, 70, 105, 5],
-        Kind::Up | Kind::Ack => [120, 300, 400, 180, 0, 0, 0, 0, 0, 0, 0, 0, 0, 0, 0],
+        Kind::Control => [
+            60, 130, 165, 80, 25, 20, 175, 20, 0, 0, 5, 120, 70, 105, 5, 12, 4, 4,
+        ],
+        Kind::Up | Kind::Ack => [
+            120, 290, 380, 170, 0, 0, 0, 0, 0, 0, 14, 0, 0, 0, 0, 18, 4, 4,
+        ],
     };
+    let word = random_help_word(random);
     let questions = [
         Question::Plan(kind),
         Question::Forward(kind),
@@ -107,6 +113,9 @@ fn random_question(random: &mut Random, setup: &Setup) -> Question {
         Question::ChannelForward(channel),
         Question::ChannelBackward(channel),
         Question::ChannelPicture(channel),
+        Question::Timeline(kind),
+        Question::Meaning,
+        Question::Help(word),
     ];
     let mut at = random.below(1000);
     for (question, share) in questions.into_iter().zip(shares) {
@@ -196,7 +205,17 @@ impl<W: Write> FileWriter<'_, W> {
             }
             line.push_str(&format!(" {name}={text}"));
         }
-        writeln!(self.out, "{line}")
+        self.end_line(line.as_bytes())
+    }
+
+    /// Writes a line and its end, now and then with a carriage return.
+    fn end_line(&mut self, line: &[u8]) -> io::Result<()> {
+        self.out.write_all(line)?;
+        let end: &[u8] = match self.random.below(50) {
+            0 => b"\r\n",
+            _ => b"\n",
+        };
+        self.out.write_all(end)
     }
 
     /// Asks, then sets back what the line changed of the setup.
@@ -221,7 +240,7 @@ impl<W: Write> FileWriter<'_, W> {
         };
         let mut words = self.question_words(setup, question);
         let refused = self.random.chance(22);
-        if refused {
+        if refused && !possible_refusals(question).is_empty() {
             self.add_refusals(setup, question, &mut words);
         }
         self.ask(setup, question, &words)?;
@@ -236,17 +255,18 @@ impl<W: Write> FileWriter<'_, W> {
 
     /// Bad lines, empty lines and comments, a line of exactly 4,096 bytes.
     fn write_unusual_line(&mut self) -> io::Result<()> {
-        match self.random.below(12) {
-            0 => return self.out.write_all(b"\n"),
-            1 => return self.out.write_all(b"# plan down n=1\n"),
-            2 => self.out.write_all(&longest_line())?,
+        match self.random.below(16) {
+            0 => return self.end_line(b""),
+            1 => return self.end_line(b"# plan down n=1"),
+            2 => return self.out.write_all(b"\r\n"),
+            3 => self.end_line(&longest_line())?,
             _ => {
-                let line = random_faulty_line(&mut self.random);
-                self.out.write_all(&line)?;
+                let faulty = random_faulty_line(&mut self.random);
+                self.end_line(&faulty.line)?;
             }
         }
         self.left -= 1;
-        self.out.write_all(b"\n")
+        Ok(())
     }
 
     /// Adds what brings one refusal, or several at once.
@@ -269,7 +289,9 @@ impl<W: Write> FileWriter<'_, W> {
     fn question_words(&mut self, setup: &Setup, question: Question) -> Vec<Word> {
         let random = &mut self.random;
         match question {
-            Question::Set => Vec::new(),
+            Question::Set | Question::Help(_) => Vec::new(),
+            Question::Meaning => meaning_words(random),
+            Question::Timeline(_) => timeline_words(random, setup),
             Question::Cell | Question::Bitmap | Question::Count if random.chance(60) => {
                 random_other_cell(random).1
             }
@@ -288,7 +310,7 @@ impl<W: Write> FileWriter<'_, W> {
                 words
             }
             Question::Backward(_) => place_words(random, setup),
-            Question::Picture(_) if setup.has_messages() && random.chance(40) => {
+            Question::Picture(_) if setup.has_skipped() && random.chance(40) => {
                 words_before_longest_skip(random, setup)
             }
             Question::Picture(_) => vec![number_word("i", random_pictured_number(random, setup))],

@@ -63,12 +63,12 @@ const BAD_LEVELS: [u32; 20] = [
 /// that are wanted more often stand there more than once.
 pub fn possible_refusals(question: Question) -> &'static [u64] {
     match question {
-        Question::Set => &[],
+        Question::Set | Question::Meaning | Question::Help(_) => &[],
         Question::Cell | Question::Bitmap | Question::Cause | Question::Count => CELL_REFUSALS,
         Question::Search => SEARCH_REFUSALS,
-        Question::Plan(Kind::Up) => PLAN_UP_REFUSALS,
-        Question::Plan(Kind::Ack) => PLAN_ACK_REFUSALS,
-        Question::Plan(_) => PLAN_REFUSALS,
+        Question::Plan(Kind::Up) | Question::Timeline(Kind::Up) => PLAN_UP_REFUSALS,
+        Question::Plan(Kind::Ack) | Question::Timeline(Kind::Ack) => PLAN_ACK_REFUSALS,
+        Question::Plan(_) | Question::Timeline(_) => PLAN_REFUSALS,
         Question::Fill | Question::Element => FILL_REFUSALS,
         _ if question.channel().is_some() => CHANNEL_REFUSALS,
         _ => match question.kind() {

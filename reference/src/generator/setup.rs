@@ -148,6 +148,11 @@ impl Setup {
         self.cell.messages.count > 0
     }
 
+    /// Does it skip subframes for messages?
+    pub fn has_skipped(&self) -> bool {
+        self.has_messages() && !self.kind.is_uplink()
+    }
+
     /// Why a subframe isn't usable; an uplink grant's slots have no cause.
     pub fn cause(&self, t: u64) -> Option<Cause> {
         self.listing.cell.as_ref()?.cause(t)

@@ -55,8 +55,8 @@ impl Ack {
         }
     }
 
-    /// The first slot that begins after subframe n + delay - 1.
-    fn start(&self) -> u64 {
+    /// The slot first named: the first that begins after subframe n + delay - 1.
+    pub fn start(&self) -> u64 {
         first_slot_after(self.spacing, self.n + self.delay() - 1)
     }
 

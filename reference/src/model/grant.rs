@@ -73,6 +73,24 @@ impl Grant {
         }
     }
 
+    /// Slots of a resource unit of an NPUSCH.
+    pub fn slots_in_unit(&self) -> Option<u64> {
+        match self {
+            Grant::Up(g) => Some(g.slots_in_unit()),
+            _ => None,
+        }
+    }
+
+    /// The spacing of an uplink grant and the slot that it first names, from
+    /// which the 256 ms and the gaps run.
+    pub fn first_named_slot(&self) -> Option<(u64, u64)> {
+        match self {
+            Grant::Down(_) | Grant::Control(_) => None,
+            Grant::Up(g) => Some((g.spacing, g.start())),
+            Grant::Ack(g) => Some((g.spacing, g.start())),
+        }
+    }
+
     /// Subcarriers of an accepted grant's grid.
     pub fn subcarriers(&self) -> u64 {
         self.slot_use().map_or(SUBCARRIERS, |s| s.subcarriers())

@@ -77,7 +77,8 @@ impl Npusch {
         }
     }
 
-    fn slots_in_unit(&self) -> u64 {
+    /// Slots of a resource unit.
+    pub fn slots_in_unit(&self) -> u64 {
         match self.tone_count() {
             1 => 16,
             3 => 8,
@@ -86,8 +87,8 @@ impl Npusch {
         }
     }
 
-    /// The first slot that begins after the end of subframe n + delay.
-    fn start(&self) -> u64 {
+    /// The slot first named: the first that begins after the end of subframe n + delay.
+    pub fn start(&self) -> u64 {
         first_slot_after(self.spacing, self.n + DELAY[self.delay as usize])
     }
 

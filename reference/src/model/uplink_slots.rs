@@ -86,6 +86,18 @@ pub fn group_milliseconds(spacing: u64) -> u64 {
     slots_in_group(spacing) * slot_time(spacing) / 2
 }
 
+/// The subframe in which a slot begins.
+pub fn first_subframe_of(spacing: u64, slot: u64) -> u64 {
+    slot * slot_time(spacing) / 2
+}
+
+/// Is the slot in the 40 ms left empty after every 256 ms? Both run from the
+/// slot that the grant first names.
+pub fn is_in_gap(spacing: u64, first_named: u64, slot: u64) -> bool {
+    let time = (slot - first_named) * slot_time(spacing);
+    time % (SENDING_TIME + GAP_TIME) >= SENDING_TIME
+}
+
 /// The first slot that begins after the end of a subframe.
 pub fn first_slot_after(spacing: u64, subframe: u64) -> u64 {
     let end = 2 * (subframe + 1);
@@ -103,9 +115,7 @@ pub fn sent_slots(spacing: u64, start: u64, count: u64, free: &FreeGroups) -> Ve
     let mut list = Vec::new();
     let mut slot = start;
     while (list.len() as u64) < count {
-        let time = (slot - start) * slot_time(spacing);
-        let in_gap = time % (SENDING_TIME + GAP_TIME) >= SENDING_TIME;
-        if !in_gap && free.is_free(slot) {
+        if !is_in_gap(spacing, start, slot) && free.is_free(slot) {
             list.extend(slot..slot + slots_in_group(spacing));
         }
         slot += slots_in_group(spacing);

@@ -1,10 +1,11 @@
 //! Answers: each question asked of the values in force.
 
-use super::line_error::LineError;
-use super::picture::{rows, skipped_after, Picture};
+use super::line_error::LineErrorAt;
+use super::picture::{self, Picture};
 use super::question::{Kind, Question};
 use super::read_lines::next_line;
 use super::read_question::read_line;
+use super::timeline::{timeline, Timeline};
 use super::values::Values;
 use crate::model::accepted_cell::{AcceptedCell, CellCache};
 use crate::model::broadcast::{Broadcast, Channel};
@@ -24,7 +25,8 @@ const OUTPUT_BEFORE_FILL: u32 = 0x4228_0000;
 /// The answer to one line.
 #[derive(Clone, Debug)]
 pub enum Answer {
-    LineError(LineError),
+    /// With the line's number, from 1.
+    LineError(LineErrorAt, u64),
     Cell(Result<(), Refusal>),
     Bitmap(Result<Vec<u8>, Refusal>),
     /// None for a usable subframe.
@@ -43,8 +45,12 @@ pub enum Answer {
     Picture(Kind, Result<Picture, Refusal>),
     ChannelForward(Channel, Result<Place, Refusal>),
     ChannelBackward(Channel, Result<BackwardAnswer, Refusal>),
-    /// Its rows.
-    ChannelPicture(Channel, Result<Vec<String>, Refusal>),
+    ChannelPicture(Channel, Result<Picture, Refusal>),
+    Timeline(Kind, Result<Timeline, Refusal>),
+    /// Of a refusal number.
+    Meaning(Refusal),
+    /// Of one word, or of all.
+    Help(Option<&'static str>),
 }
 
 /// The last cell and grant of a kind that were accepted, listed.
@@ -59,6 +65,8 @@ struct LastListing {
 #[derive(Debug, Default)]
 pub struct Answerer {
     pub values: Values,
+    /// Lines read.
+    lines: u64,
     cells: CellCache,
     last: [Option<LastListing>; 4],
 }
@@ -72,8 +80,9 @@ impl LastListing {
 impl Answerer {
     /// The answer to a line, or none for an empty line, a comment or a `set`.
     pub fn answer_line(&mut self, line: &[u8]) -> Option<Answer> {
+        self.lines += 1;
         match read_line(&mut self.values, line) {
-            Err(error) => Some(Answer::LineError(error)),
+            Err(error) => Some(Answer::LineError(error, self.lines)),
             Ok(None) | Ok(Some(Question::Set)) => None,
             Ok(Some(question)) => Some(self.ask(question)),
         }
@@ -106,6 +115,9 @@ impl Answerer {
             Question::ChannelPicture(channel) => {
                 Answer::ChannelPicture(channel, self.channel_picture(channel))
             }
+            Question::Timeline(kind) => Answer::Timeline(kind, self.timeline(kind)),
+            Question::Meaning => Answer::Meaning(self.values.no),
+            Question::Help(word) => Answer::Help(word),
         }
     }
 
@@ -194,12 +206,18 @@ impl Answerer {
     }
 
     fn picture(&mut self, kind: Kind) -> Result<Picture, Refusal> {
-        let (_, values, listing) = self.listing(kind)?;
+        let (grant, values, listing) = self.listing(kind)?;
         refuse(14, values.i >= listing.sent.len() as u64)?;
-        Ok(Picture {
-            rows: rows(&values.cell.layout(), listing),
-            skipped: skipped_after(listing, values.i as usize),
+        let i = values.i as usize;
+        Ok(match grant.slot_use() {
+            Some(slot_use) => picture::slot(&slot_use, listing, grant.slots_in_unit(), i),
+            None => picture::subframe(&values.cell.layout(), listing, i),
         })
+    }
+
+    fn timeline(&mut self, kind: Kind) -> Result<Timeline, Refusal> {
+        let (grant, _, listing) = self.listing(kind)?;
+        Ok(timeline(&grant, listing))
     }
 
     /// One period of a channel in the cell in force.
@@ -218,12 +236,12 @@ impl Answerer {
         broadcast.backward(t, element)
     }
 
-    fn channel_picture(&mut self, channel: Channel) -> Result<Vec<String>, Refusal> {
+    fn channel_picture(&mut self, channel: Channel) -> Result<Picture, Refusal> {
         let Broadcast {
             layout, listing, ..
         } = self.broadcast(channel)?;
         refuse(14, self.values.i >= listing.sent.len() as u64)?;
-        Ok(rows(&layout, &listing))
+        Ok(picture::subframe(&layout, &listing, self.values.i as usize))
     }
 }
 

@@ -13,7 +13,18 @@ pub enum LineError {
     Size,
 }
 
+/// The same with the number of the word at fault, from 1; 0 for the whole line.
+#[derive(Clone, Copy, Debug, PartialEq, Eq)]
+pub struct LineErrorAt {
+    pub error: LineError,
+    pub word: usize,
+}
+
 impl LineError {
+    pub fn at(self, word: usize) -> LineErrorAt {
+        LineErrorAt { error: self, word }
+    }
+
     pub const ALL: [LineError; 8] = [
         LineError::Long,
         LineError::Question,

@@ -1,4 +1,5 @@
-//! The line language: questions are read, asked of the model and answered.
+//! The line language of docs/QUESTIONS.md: questions are read, asked of the
+//! model and answered.
 
 // From a line to a question and its values.
 pub mod line_error;
@@ -9,5 +10,8 @@ pub mod values;
 
 // From the answer to its lines.
 pub mod answer;
+pub mod help;
+pub mod meaning;
 pub mod picture;
+pub mod timeline;
 pub mod write_answer;

@@ -49,10 +49,14 @@ pub enum Question {
     ChannelForward(Channel),
     ChannelBackward(Channel),
     ChannelPicture(Channel),
+    Timeline(Kind),
+    Meaning,
+    /// Of one word, or of all.
+    Help(Option<&'static str>),
 }
 
 impl Question {
-    /// Every question but `set`.
+    /// Every question but `set`; help once.
     pub fn all() -> Vec<Question> {
         let mut list = vec![
             Question::Cell,
@@ -70,7 +74,7 @@ impl Question {
             list.extend(Kind::ALL.map(make));
         }
         list.extend([Question::Fill, Question::Element]);
-        list.extend([Kind::Down, Kind::Control].map(Question::Picture));
+        list.extend(Kind::ALL.map(Question::Picture));
         for make in [
             Question::ChannelForward,
             Question::ChannelBackward,
@@ -78,6 +82,8 @@ impl Question {
         ] {
             list.extend(Channel::ALL.map(make));
         }
+        list.extend(Kind::ALL.map(Question::Timeline));
+        list.extend([Question::Meaning, Question::Help(None)]);
         list
     }
 
@@ -93,7 +99,8 @@ impl Question {
             | Question::Forward(kind)
             | Question::Backward(kind)
             | Question::Step(kind)
-            | Question::Picture(kind) => Some(kind),
+            | Question::Picture(kind)
+            | Question::Timeline(kind) => Some(kind),
             _ => None,
         }
     }
@@ -124,6 +131,10 @@ impl Question {
             Question::Fill => "fill",
             Question::Element => "element",
             Question::Picture(_) | Question::ChannelPicture(_) => "picture",
+            Question::Timeline(_) => "timeline",
+            Question::Meaning => "meaning",
+            Question::Help(Some(of)) => return format!("help {of}"),
+            Question::Help(None) => "help",
         };
         match (self.kind(), self.channel()) {
             (Some(kind), _) => format!("{word} {}", kind.word()),

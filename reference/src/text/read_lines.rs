@@ -2,11 +2,14 @@
 
 use std::io::{self, BufRead};
 
-/// The longest line, the newline aside.
+/// The longest line, without its end: a newline, a carriage return before it.
 pub const LONGEST_LINE: usize = 4096;
 
+/// Of a line that is too long so much is kept that it is so with or without a
+/// carriage return at its end.
+const KEPT: usize = LONGEST_LINE + 2;
+
 /// Reads the next line into `line` without its newline; false at the end.
-/// Of a line that is too long, one byte more than the longest is kept.
 pub fn next_line(input: &mut impl BufRead, line: &mut Vec<u8>) -> io::Result<bool> {
     line.clear();
     let mut any = false;
@@ -18,7 +21,7 @@ pub fn next_line(input: &mut impl BufRead, line: &mut Vec<u8>) -> io::Result<boo
         any = true;
         let newline = chunk.iter().position(|&b| b == b'\n');
         let end = newline.unwrap_or(chunk.len());
-        let wanted = (LONGEST_LINE + 1 - line.len()).min(end);
+        let wanted = (KEPT - line.len()).min(end);
         line.extend_from_slice(&chunk[..wanted]);
         match newline {
             Some(at) => {
@@ -28,4 +31,9 @@ pub fn next_line(input: &mut impl BufRead, line: &mut Vec<u8>) -> io::Result<boo
             None => input.consume(end),
         }
     }
+}
+
+/// The line without the carriage return at its end.
+pub fn without_return(line: &[u8]) -> &[u8] {
+    line.strip_suffix(b"\r").unwrap_or(line)
 }

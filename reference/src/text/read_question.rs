@@ -1,8 +1,9 @@
 //! Reads a line: its question, and the values that it sets.
 
-use super::line_error::LineError;
+use super::help;
+use super::line_error::{LineError, LineErrorAt};
 use super::question::{Kind, Question};
-use super::read_lines::LONGEST_LINE;
+use super::read_lines::{without_return, LONGEST_LINE};
 use super::values::{ValueMut, Values};
 use crate::model::broadcast::Channel;
 use crate::model::random_access_windows::Window;
@@ -162,6 +163,7 @@ fn without_kind(word: &[u8]) -> Option<Question> {
         b"search" => Some(Question::Search),
         b"fill" => Some(Question::Fill),
         b"element" => Some(Question::Element),
+        b"meaning" => Some(Question::Meaning),
         _ => None,
     }
 }
@@ -169,18 +171,19 @@ fn without_kind(word: &[u8]) -> Option<Question> {
 fn wants_kind(word: &[u8]) -> bool {
     matches!(
         word,
-        b"plan" | b"forward" | b"backward" | b"step" | b"picture"
+        b"plan" | b"forward" | b"backward" | b"step" | b"picture" | b"timeline"
     )
 }
 
-/// The question with a kind of grant; a picture has none in the uplink.
+/// The question with a kind of grant.
 fn with_kind(word: &[u8], kind: Kind) -> Option<Question> {
     match word {
         b"plan" => Some(Question::Plan(kind)),
         b"forward" => Some(Question::Forward(kind)),
         b"backward" => Some(Question::Backward(kind)),
         b"step" => Some(Question::Step(kind)),
-        b"picture" if !kind.is_uplink() => Some(Question::Picture(kind)),
+        b"picture" => Some(Question::Picture(kind)),
+        b"timeline" => Some(Question::Timeline(kind)),
         _ => None,
     }
 }
@@ -195,39 +198,56 @@ fn with_channel(word: &[u8], channel: Channel) -> Option<Question> {
     }
 }
 
-/// The question of a line and how many words name it.
-fn read_question(words: &[&[u8]]) -> Result<(Question, usize), LineError> {
+/// The question of a line and how many words name it; `help` is read apart.
+fn read_question(words: &[&[u8]]) -> Result<(Question, usize), LineErrorAt> {
     let named = read_second_word(words.get(1).copied());
     if let Some(question) = without_kind(words[0]) {
         return match named {
-            Some(_) => Err(LineError::Kind),
+            Some(_) => Err(LineError::Kind.at(2)),
             None => Ok((question, 1)),
         };
     }
     if !wants_kind(words[0]) {
-        return Err(LineError::Question);
+        return Err(LineError::Question.at(1));
     }
-    let question = match named.ok_or(LineError::Kind)? {
+    let question = match named.ok_or(LineError::Kind.at(2))? {
         SecondWord::Kind(kind) => with_kind(words[0], kind),
         SecondWord::Channel(channel) => with_channel(words[0], channel),
     };
-    Ok((question.ok_or(LineError::Kind)?, 2))
+    Ok((question.ok_or(LineError::Kind.at(2))?, 2))
+}
+
+/// `help`, alone or with one known word.
+fn read_help(words: &[&[u8]]) -> Result<Question, LineErrorAt> {
+    let Some(&word) = words.get(1) else {
+        return Ok(Question::Help(None));
+    };
+    let known = help::find_word(word).ok_or(LineError::Name.at(2))?;
+    match words.len() {
+        2 => Ok(Question::Help(Some(known))),
+        _ => Err(LineError::Value.at(3)),
+    }
 }
 
 /// Reads a line and keeps its values; None for a line that asks nothing and
 /// sets nothing. A line with an error changes no value.
-pub fn read_line(values: &mut Values, line: &[u8]) -> Result<Option<Question>, LineError> {
+pub fn read_line(values: &mut Values, line: &[u8]) -> Result<Option<Question>, LineErrorAt> {
+    let line = without_return(line);
     if line.is_empty() || line[0] == b'#' {
         return Ok(None);
     }
     if line.len() > LONGEST_LINE {
-        return Err(LineError::Long);
+        return Err(LineError::Long.at(0));
     }
     let words: Vec<&[u8]> = line.split(|&b| b == b' ').collect();
+    if words[0] == b"help" {
+        return read_help(&words).map(Some);
+    }
     let (question, named) = read_question(&words)?;
     let mut read = Vec::new();
-    for word in &words[named..] {
-        read.push(read_word(values, word)?);
+    for (at, word) in words.iter().enumerate().skip(named) {
+        let value = read_word(values, word);
+        read.push(value.map_err(|error| error.at(at + 1))?);
     }
     for (name, value) in read {
         store(values, name, value);

@@ -43,6 +43,8 @@ pub struct Values {
     pub room: u64,
     pub level: u32,
     pub data: Vec<u8>,
+    /// A refusal number, asked for its meaning.
+    pub no: u64,
 }
 
 impl Default for Values {
@@ -75,6 +77,7 @@ impl Default for Values {
             room: 336,
             level: 0,
             data: Vec::new(),
+            no: 0,
         }
     }
 }
@@ -146,6 +149,7 @@ impl Values {
             b"i" => &mut self.i,
             b"engine" => &mut self.engine,
             b"room" => &mut self.room,
+            b"no" => &mut self.no,
             _ => return None,
         })
     }

@@ -1,8 +1,12 @@
-//! The text of the answers, one line each (a picture has several).
+//! The text of the answers, one line each (pictures, timelines and help have
+//! several).
 
 use super::answer::Answer;
+use super::line_error::LineErrorAt;
 use super::picture::Picture;
 use super::question::{Kind, Question};
+use super::timeline::Timeline;
+use super::{help, meaning};
 use crate::model::cell::Cause;
 use crate::model::elements::Element;
 use crate::model::fill::ElementContent;
@@ -34,10 +38,11 @@ pub fn hex_text(bytes: &[u8]) -> String {
 }
 
 impl Answer {
-    /// The question that is answered; none for a line that is no question.
+    /// The question that is answered, `help` without its word; none for a line
+    /// that is no question.
     pub fn question(&self) -> Option<Question> {
         Some(match self {
-            Answer::LineError(_) => return None,
+            Answer::LineError(..) => return None,
             Answer::Cell(_) => Question::Cell,
             Answer::Bitmap(_) => Question::Bitmap,
             Answer::Cause(_) => Question::Cause,
@@ -53,13 +58,16 @@ impl Answer {
             Answer::ChannelForward(channel, _) => Question::ChannelForward(*channel),
             Answer::ChannelBackward(channel, _) => Question::ChannelBackward(*channel),
             Answer::ChannelPicture(channel, _) => Question::ChannelPicture(*channel),
+            Answer::Timeline(kind, _) => Question::Timeline(*kind),
+            Answer::Meaning(_) => Question::Meaning,
+            Answer::Help(_) => Question::Help(None),
         })
     }
 
-    /// The answer's number, 0 if accepted; none for a line that is no question.
+    /// The refusal's number, 0 if accepted; none for a line that is no question.
     pub fn number(&self) -> Option<u64> {
         match self {
-            Answer::LineError(_) => None,
+            Answer::LineError(..) => None,
             Answer::Cell(a) => Some(refusal_or_0(a)),
             Answer::Bitmap(a) => Some(refusal_or_0(a)),
             Answer::Cause(a) => Some(refusal_or_0(a)),
@@ -75,14 +83,18 @@ impl Answer {
             Answer::ChannelForward(_, a) => Some(refusal_or_0(a)),
             Answer::ChannelBackward(_, a) => Some(refusal_or_0(a)),
             Answer::ChannelPicture(_, a) => Some(refusal_or_0(a)),
+            Answer::Timeline(_, a) => Some(refusal_or_0(a)),
+            Answer::Meaning(_) | Answer::Help(_) => Some(0),
         }
     }
 
-    /// Writes the answer's line, or a picture's lines.
+    /// Writes the answer's line or lines.
     pub fn write(&self, out: &mut impl Write) -> io::Result<()> {
         let no = self.number().unwrap_or(0);
         match self {
-            Answer::LineError(error) => writeln!(out, "error={}", error.word()),
+            Answer::LineError(LineErrorAt { error, word }, line) => {
+                writeln!(out, "error={} line={line} word={word}", error.word())
+            }
             Answer::Cell(_) => writeln!(out, "no={no}"),
             Answer::Bitmap(a) => writeln!(out, "no={no} part={}", hex_text(&value_or_zeros(a))),
             Answer::Cause(a) => {
@@ -101,9 +113,15 @@ impl Answer {
             Answer::Step(kind, a, p) => write_step(out, *kind, no, a, *p),
             Answer::Fill(_, numbers) => write_fill(out, no, numbers),
             Answer::Element(a) => write_element(out, no, a),
-            Answer::Picture(_, a) => write_picture(out, no, a),
-            Answer::ChannelPicture(_, Ok(rows)) => write_rows(out, rows),
-            Answer::ChannelPicture(_, Err(_)) => writeln!(out, "no={no}"),
+            Answer::Picture(_, Ok(picture)) | Answer::ChannelPicture(_, Ok(picture)) => {
+                write_picture(out, picture)
+            }
+            Answer::Timeline(_, Ok(timeline)) => write_timeline(out, timeline),
+            Answer::Picture(_, Err(_))
+            | Answer::ChannelPicture(_, Err(_))
+            | Answer::Timeline(_, Err(_)) => writeln!(out, "no={no}"),
+            Answer::Meaning(of) => writeln!(out, "no={of} meaning={}", meaning::words(*of)),
+            Answer::Help(word) => write_help(out, *word),
         }
     }
 }
@@ -215,29 +233,38 @@ fn write_element(
     writeln!(out, "no={no} case={case} re={re:08x} im={im:08x}")
 }
 
-fn write_picture(
-    out: &mut impl Write,
-    no: u64,
-    picture: &Result<Picture, Refusal>,
-) -> io::Result<()> {
-    match picture {
-        Ok(picture) => {
-            write_rows(out, &picture.rows)?;
-            writeln!(out, "skipped: {}", skipped_text(&picture.skipped))
-        }
-        Err(_) => writeln!(out, "no={no}"),
+fn write_picture(out: &mut impl Write, picture: &Picture) -> io::Result<()> {
+    writeln!(out, "no=0")?;
+    writeln!(out, "{}", picture.title)?;
+    writeln!(out, "{}", picture.legend)?;
+    for line in picture.columns.iter().chain(&picture.rows) {
+        writeln!(out, "{line}")?;
+    }
+    match &picture.skipped {
+        Some(skipped) => writeln!(out, "skipped: {}", skipped_text(skipped)),
+        None => Ok(()),
     }
 }
 
-/// An accepted picture: its legend and rows.
-fn write_rows(out: &mut impl Write, rows: &[String]) -> io::Result<()> {
+fn write_timeline(out: &mut impl Write, timeline: &Timeline) -> io::Result<()> {
     writeln!(out, "no=0")?;
-    writeln!(
-        out,
-        "o ours, N narrowband reference, C cell reference, # control region, . anything else"
-    )?;
-    for row in rows {
-        writeln!(out, "{row}")?;
+    writeln!(out, "{}", timeline.columns)?;
+    for row in &timeline.rows {
+        writeln!(out, "{:>10} {:>5} {}", row.first, row.frame, row.signs)?;
+    }
+    if timeline.more > 0 {
+        writeln!(out, "more frames: {}", timeline.more)?;
+    }
+    for line in timeline.legend {
+        writeln!(out, "{line}")?;
+    }
+    Ok(())
+}
+
+fn write_help(out: &mut impl Write, word: Option<&str>) -> io::Result<()> {
+    writeln!(out, "no=0")?;
+    for line in help::lines(word) {
+        writeln!(out, "{line}")?;
     }
     Ok(())
 }

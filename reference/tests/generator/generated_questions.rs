@@ -134,11 +134,18 @@ fn share_of_plain_engine() {
 
 #[test]
 fn questions_of_one_kind() {
-    let only = Question::Forward(Kind::Up);
-    let (_, table) = generated(QuestionFile {
-        only: Some(only),
-        ..QuestionFile::new(1, 1000)
-    });
-    assert_eq!(table.total().asked, 1000);
-    assert_eq!(table.row(only).asked, 1000);
+    for only in [
+        Question::Forward(Kind::Up),
+        Question::Timeline(Kind::Down),
+        Question::Picture(Kind::Ack),
+        Question::Meaning,
+        Question::Help(None),
+    ] {
+        let (_, table) = generated(QuestionFile {
+            only: Some(only),
+            ..QuestionFile::new(1, 500)
+        });
+        assert_eq!(table.total().asked, 500);
+        assert_eq!(table.row(only).asked, 500);
+    }
 }

@@ -303,14 +303,20 @@ fn outside_the_grid() {
 #[test]
 fn pictures() {
     let lines = ask(&format!("{P7}set identity=1\npicture npbch i=63"));
-    assert_eq!(lines.len(), 14, "no line on what is skipped");
+    assert_eq!(lines.len(), 17, "no line on what is skipped");
     assert_eq!(lines[0], "no=0");
-    assert_eq!(lines[2], "###ooooooooooo", "k = 11 has no reference");
-    assert_eq!(lines[3], "CC#oCNNCCooCNN", "k = 10: v + 3 = 4");
+    let title =
+        "subframe 630: frame 63, subframe 0 of it, i=63 of 64 transmitted, codeword subframe 7";
+    assert_eq!(lines[1], title);
+    assert_eq!(lines[5], "k 11 ###oooo ooooooo", "no reference");
+    assert_eq!(lines[6], "k 10 CC#oCNN CCooCNN", "v + 3 = 4");
     assert_eq!(ask(&format!("{P7}picture npbch i=64")), ["no=14"]);
     let in_band = "set mode=1 identity=1 nports=1 cports=2 control=1\n";
     let lines = ask(&format!("{in_band}picture sib1 i=31\npicture sib1 i=32"));
-    assert_eq!(lines[3], "C##oCoNCoooCoN", "k = 10");
-    assert_eq!(lines[13], "###ooooooooooo", "control region 3");
-    assert_eq!(lines[14], "no=14");
+    let title =
+        "subframe 2224: frame 222, subframe 4 of it, i=31 of 32 transmitted, codeword subframe 7";
+    assert_eq!(lines[1], title);
+    assert_eq!(lines[6], "k 10 C##oCoN CoooCoN");
+    assert_eq!(lines[16], "k  0 ###oooo ooooooo", "control region 3");
+    assert_eq!(lines[17], "no=14");
 }

@@ -136,8 +136,8 @@ fn backward_hands_it_on_between_first_and_last() {
 /// The line after the rows of the i-th subframe sent.
 fn skipped(words: &str) -> String {
     let answers = ask(&format!("{P7}picture {words}"));
-    assert_eq!(answers.len(), 15);
-    answers[14].clone()
+    assert_eq!(answers.len(), 18);
+    answers[17].clone()
 }
 
 #[test]

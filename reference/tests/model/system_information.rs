@@ -490,15 +490,15 @@ fn grants_go_around_messages() {
     let picture = ask(&format!("{set}picture down i=5"));
     let skipped = "20 npbch, 21 message, 22 message, 23 message, 24 sib1, 25 npss, \
 26 message, 27 message, 28 message, 29 nsss, 30 npbch, 31 message, 32 message";
-    assert_eq!(picture[14], format!("skipped: {skipped}"));
+    assert_eq!(picture[17], format!("skipped: {skipped}"));
 }
 
 /// The text of a picture that skips so many subframes.
 fn skipped_line(count: u64) -> String {
     let from = 1_954_545_000;
     let picture = Picture {
-        rows: Vec::new(),
-        skipped: (from..from + count).map(|t| (t, Cause::Message)).collect(),
+        skipped: Some((from..from + count).map(|t| (t, Cause::Message)).collect()),
+        ..Picture::default()
     };
     let mut out = Vec::new();
     let answer = Answer::Picture(Kind::Down, Ok(picture));
@@ -525,11 +525,11 @@ fn pictures_list_at_most_200() {
     let answers = ask(&format!(
         "{set}picture control n=640 r=2 i=0\npicture control n=631"
     ));
-    assert!(answers[14].starts_with("skipped: 962 bitmap, "));
-    assert!(answers[14].ends_with(", 970 npbch"));
-    assert!(answers[29].starts_with("skipped: 632 bitmap, "));
+    assert!(answers[17].starts_with("skipped: 962 bitmap, "));
+    assert!(answers[17].ends_with(", 970 npbch"));
+    assert!(answers[35].starts_with("skipped: 632 bitmap, "));
     assert!(
-        answers[29].ends_with(", 831 message and 129 more"),
+        answers[35].ends_with(", 831 message and 129 more"),
         "up to 960"
     );
 }
@@ -539,11 +539,11 @@ fn pictures_list_at_most_200() {
 fn pictures_of_200_and_201() {
     let set = "set mode=3 nports=1 bits=40 messages=2 r=2\n";
     let cell = "anchor=1800200000 sioffset=13 m1=64,8,8 m2=64,16,2";
-    let line = &ask(&format!("{set}picture control n=123 {cell}"))[14];
+    let line = &ask(&format!("{set}picture control n=123 {cell}"))[17];
     assert!(line.starts_with("skipped: 124 sib1, "));
     assert!(line.ends_with(", 323 message"));
     let cell = "anchor=4000000001 m1=64,2,8 m2=64,16,2";
-    let line = &ask(&format!("{set}picture control n=639 {cell}"))[14];
+    let line = &ask(&format!("{set}picture control n=639 {cell}"))[17];
     assert!(line.starts_with("skipped: 640 npbch, 641 message, "));
     assert!(line.ends_with(", 839 message and 1 more"));
 }

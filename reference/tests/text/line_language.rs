@@ -19,10 +19,25 @@ backward down t=21 slot=0 l=5 k=1
     );
 }
 
-/// Asks one line and expects one error word.
-fn assert_error(line: &[u8], word: &str) {
+/// Asks one line and expects one error, at this word; so too in a later line,
+/// with a carriage return at its end.
+fn assert_error_at(line: &[u8], error: &str, word: u64) {
     let shown = String::from_utf8_lossy(line);
-    assert_eq!(ask_bytes(line), [format!("error={word}")], "{shown}");
+    let expected = |line| [format!("error={error} line={line} word={word}")];
+    assert_eq!(ask_bytes(line), expected(1), "{shown}");
+    let later = [b"# 1\n\n\r\nset k=1\r\n", line, b"\r\n"].concat();
+    assert_eq!(ask_bytes(&later), expected(5), "{shown}");
+}
+
+/// As above, where the first word is the question and the second one is at
+/// fault, if the fault isn't that of the question or the line.
+fn assert_error(line: &[u8], error: &str) {
+    let word = match error {
+        "long" => 0,
+        "question" => 1,
+        _ => 2,
+    };
+    assert_error_at(line, error, word);
 }
 
 #[test]
@@ -32,12 +47,49 @@ fn error_long() {
     assert_eq!(ask_bytes(&line), ["no=3"], "4,096 bytes are read");
     line.push(b'0');
     assert_error(&line, "long");
-    line.push(b'\n');
-    assert_error(&line, "long");
-    line.pop();
     line.resize(1_000_000, b'0');
     line.extend_from_slice(b"\ncell\n");
-    assert_eq!(ask_bytes(&line), ["error=long", "no=3"]);
+    let long = "error=long line=1 word=0";
+    assert_eq!(ask_bytes(&line), [long, "no=3"]);
+    assert_error(&[b' '; 4097], "long");
+    assert_error(&[b' '; 4096], "question");
+    assert!(ask_bytes(&[b'#'; 5000]).is_empty(), "a comment");
+}
+
+/// The carriage return at a line's end isn't counted, another one is.
+#[test]
+fn carriage_returns_of_long_lines() {
+    let mut line = b"cell t=".to_vec();
+    line.resize(4096, b'0');
+    for end in [&b""[..], b"\r", b"\r\n", b"\n"] {
+        assert_eq!(ask_bytes(&[&line, end].concat()), ["no=3"], "{end:?}");
+    }
+    let long = "error=long line=1 word=0";
+    for end in [&b"\r\r"[..], b"\r\r\n", b"0", b"0\r", b"0\r\n", b"\r0\n"] {
+        assert_eq!(ask_bytes(&[&line, end].concat()), [long], "{end:?}");
+    }
+    line[4000] = b'\r';
+    let value = "error=value line=1 word=2";
+    assert_eq!(ask_bytes(&[&line[..], b"\r\n"].concat()), [value]);
+    line.extend_from_slice(b"\r0\r\n");
+    assert_eq!(ask_bytes(&line), [long]);
+}
+
+#[test]
+fn carriage_returns_at_line_ends() {
+    let answers = ask("set mode=3 nports=1\r\ncell\r\n\r\n#\r\ncell\r\r\nx\r\ncell\r");
+    let errors = [
+        "error=question line=5 word=1",
+        "error=question line=6 word=1",
+    ];
+    assert_eq!(answers, ["no=0", errors[0], errors[1], "no=0"]);
+    assert!(ask("\r").is_empty() && ask("\r\n").is_empty());
+    assert!(ask("\n\r").is_empty() && ask("").is_empty());
+    assert_eq!(ask("\r\r"), ["error=question line=1 word=1"]);
+    assert_eq!(ask("\rcell"), ["error=question line=1 word=1"]);
+    assert_eq!(ask("help n\r\r"), ["error=name line=1 word=2"]);
+    assert_eq!(ask("meaning no=0\r\r"), ["error=value line=1 word=2"]);
+    assert_eq!(ask("plan up\r\r"), ["error=kind line=1 word=2"]);
 }
 
 #[test]
@@ -46,7 +98,12 @@ fn error_question() {
         &b"plam down"[..],
         b" cell",
         b"Cell",
-        b"cell\r",
+        b"  ",
+        b" ",
+        b"cell\r ",
+        b"cell\t",
+        b"help\t",
+        b"helps",
         b"\xff",
         b"p=1",
     ] {
@@ -61,8 +118,14 @@ fn error_kind() {
         "plan p=1",
         "plan  down",
         "plan Down",
-        "picture up",
-        "picture ack",
+        "picture",
+        "picture ",
+        "picture ups",
+        "timeline",
+        "timeline npbch",
+        "timeline sib1",
+        "timeline n=1",
+        "timeline Up",
     ] {
         assert_error(line.as_bytes(), "kind");
     }
@@ -76,7 +139,9 @@ fn error_kind() {
         "count down",
         "search down",
         "search control n=1",
-        "plan down\r",
+        "meaning up",
+        "meaning sib1 no=1",
+        "plan down\r ",
     ] {
         assert_error(line.as_bytes(), "kind");
     }
@@ -102,12 +167,22 @@ fn error_value() {
         "cell mode",
         "cell  mode=1",
         "cell ",
-        "cell mode=1\r",
+        "cell mode=1\r ",
         "cell t=1\tk=2",
+        "meaning 7",
+        "meaning up=no\t",
+        "set help",
     ] {
         assert_error(line.as_bytes(), "value");
     }
-    assert_error(b"plan down down", "value");
+    assert_error_at(b"plan down down", "value", 3);
+    assert_error_at(b"plan down ", "value", 3);
+    assert_error_at(b"plan down k=1  k=2", "value", 4);
+    assert_error_at(b"cell k=1 k=2 k=3 k=4 k=5 k", "value", 7);
+    assert_error_at(b"help n ", "value", 3);
+    assert_error_at(b"help n p", "value", 3);
+    assert_error_at(b"help n p q", "value", 3);
+    assert_error_at(b"help control control", "value", 3);
 }
 
 #[test]
@@ -124,9 +199,21 @@ fn error_name() {
         "cell message=1",
         "search G=2",
         "search alfa=1",
+        "meaning No=1",
+        "set line=1",
+        "help colour",
+        "help ",
+        "help  n",
+        "help N",
+        "help n=1",
+        "help =",
+        "help Questions:",
+        "help Values",
+        "help colour n",
     ] {
         assert_error(line.as_bytes(), "name");
     }
+    assert_error_at(b"plan up n=1 m=2 k=3", "name", 4);
 }
 
 #[test]
@@ -178,6 +265,9 @@ fn error_number() {
     assert_error(b"cell siwindow=160ms", "number");
     assert_error(b"cell messages=-", "number");
     assert_error(b"set w1=40, 8,172032,0", "number");
+    assert_error(b"meaning no=", "number");
+    assert_error(b"meaning no=18446744073709551616", "number");
+    assert_error_at(b"forward npbch k=1 p=x", "number", 4);
     let largest = "step up p=18446744073709551615";
     let answer = "no=14 finished=0 slot=0 l=0 k=0 symbol=0 p=18446744073709551615";
     assert_eq!(ask(largest), [answer]);
@@ -209,15 +299,19 @@ fn error_size() {
 }
 
 #[test]
-fn first_error_from_the_left() {
+fn first_fault_from_the_left() {
     assert_error(b"cell q=1 mode=x", "name");
     assert_error(b"cell mode=x q=1", "number");
+    assert_error_at(b"cell k=1 level=0 q=1", "hex", 3);
+    assert_error_at(b"cell k=1 k=2 level=00 q=1", "size", 4);
+    assert_error_at(b"cell room=18446744073709551616", "number", 2);
+    assert_error_at(b"timeline control level=zz0", "hex", 3);
     assert_error(b"plam sideways q", "question");
     assert_error(b"plan sideways q", "kind");
 }
 
 #[test]
-fn values_are_kept_and_errors_change_nothing() {
+fn values_are_kept_and_faults_change_nothing() {
     let answers = ask(
         "set mode=3 nports=1\ncell\ncell mode=4 identity=x\ncell\n\n# cell\n\
 cell mode=4\ncell\ncell mode=3 mode=4 mode=3\nstep up p=95\nstep up\nstep up p=97\nforward up p=0",
@@ -227,7 +321,7 @@ cell mode=4\ncell\ncell mode=3 mode=4 mode=3\nstep up p=95\nstep up\nstep up p=9
         answers,
         [
             "no=0",
-            "error=number",
+            "error=number line=3 word=3",
             "no=0",
             "no=1",
             "no=1",
@@ -259,8 +353,8 @@ plan up");
 fn engines_answer_alike() {
     assert_error(b"set engine=2", "size");
     assert_error(b"cell engine=18446744073709551615", "size");
-    assert_error(b"forward up engine=x", "number");
-    assert_error(b"forward up engine=18446744073709551616", "number");
+    assert_error_at(b"forward up engine=x", "number", 3);
+    assert_error_at(b"forward up engine=18446744073709551616", "number", 3);
     let set = "set mode=3 nports=1 n=15 rmax=64 subframes=6 r=4 windows=1 w1=40,8,172032,0\n";
     let mut questions = String::new();
     for kind in ["down", "control", "up", "ack"] {
@@ -308,7 +402,7 @@ cause m2=64,2,8 t=321");
             "no=0 cause=none",
             "no=0 cause=message",
             "no=0 cause=none",
-            "error=number",
+            "error=number line=11 word=2",
             "no=0 cause=message",
             "no=21 cause=none",
             "no=0 cause=message",
@@ -335,7 +429,7 @@ search");
             "no=0 start=26 count=7 26,1,26 26,2,27 26,4,31 27,1,27 28,1,28 28,2,31 31,1,31",
             "no=22 start=0 count=0",
             "no=0 start=21 count=1 21,1,21",
-            "error=number",
+            "error=number line=6 word=3",
             "no=0 start=24 count=1 26,1,26",
             "no=0 first=27 last=27 copies=1 places=160",
             "no=0 start=24 count=1 26,1,26",
@@ -352,13 +446,13 @@ picture control i=1
 picture down i=0",
     );
     assert_eq!(answers[0], "no=0");
-    assert_eq!(answers[2], "##oooooooooooo", "k = 11 has no reference");
-    assert_eq!(answers[3], "CCooCNNCCooCNN", "k = 10: v + 3 = 4");
-    assert_eq!(answers[13], "##............", "k = 0, the other NCCE");
-    assert_eq!(answers[14], "skipped: none", "the last one sent");
-    assert_eq!(answers[15], "no=14");
-    assert_eq!(answers[16], "no=0");
-    assert_eq!(answers[29], "##oooooooooooo");
-    assert_eq!(answers[30], "skipped: none");
-    assert_eq!(answers.len(), 31);
+    assert_eq!(answers[5], "k 11 ##ooooo ooooooo", "no reference");
+    assert_eq!(answers[6], "k 10 CCooCNN CCooCNN", "v + 3 = 4");
+    assert_eq!(answers[16], "k  0 ##..... .......", "the other NCCE");
+    assert_eq!(answers[17], "skipped: none", "the last one sent");
+    assert_eq!(answers[18], "no=14");
+    assert_eq!(answers[19], "no=0");
+    assert_eq!(answers[35], "k  0 ##ooooo ooooooo");
+    assert_eq!(answers[36], "skipped: none");
+    assert_eq!(answers.len(), 37);
 }

@@ -3,4 +3,7 @@
 #[path = "../common/mod.rs"]
 mod common;
 
+mod document;
+mod explained;
+mod failures;
 mod line_language;

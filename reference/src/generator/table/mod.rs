@@ -1,6 +1,7 @@
 //! The table of what a question file asks.
 
 pub mod broadcast;
+pub mod explained;
 pub mod search_spaces;
 pub mod system_information;
 
@@ -13,6 +14,7 @@ use crate::text::question::{Kind, Question};
 use crate::text::read_lines::next_line;
 use crate::text::values::Values;
 use broadcast::BroadcastCounts;
+use explained::ExplainedCounts;
 use search_spaces::SearchCounts;
 use std::io::{self, BufRead, Write};
 use system_information::MessageCounts;
@@ -47,6 +49,7 @@ pub struct Table {
     pub messages: MessageCounts,
     pub searches: SearchCounts,
     pub broadcasts: BroadcastCounts,
+    pub explained: ExplainedCounts,
 }
 
 impl Row {
@@ -126,6 +129,7 @@ impl Default for Table {
             messages: MessageCounts::default(),
             searches: SearchCounts::default(),
             broadcasts: BroadcastCounts::default(),
+            explained: ExplainedCounts::default(),
         }
     }
 }
@@ -133,8 +137,8 @@ impl Default for Table {
 impl Table {
     /// Counts an answer, given with the values in force.
     pub fn count(&mut self, answer: &Answer, values: &Values) {
-        if let Answer::LineError(error) = answer {
-            self.line_errors[*error as usize] += 1;
+        if let Answer::LineError(at, _) = answer {
+            self.line_errors[at.error as usize] += 1;
         }
         let kind = answer.question().and_then(Question::kind);
         if kind.is_some_and(Kind::is_uplink) && values.windows.count > 0 {
@@ -147,6 +151,7 @@ impl Table {
         self.messages.count(answer, values);
         self.searches.count(answer, values);
         self.broadcasts.count(answer, values);
+        self.explained.count(answer);
         for (question, row) in &mut self.rows {
             if answer.question() == Some(*question) {
                 row.count(answer);
@@ -200,6 +205,7 @@ impl Table {
         self.messages.write(out)?;
         self.searches.write(out)?;
         self.broadcasts.write(out)?;
+        self.explained.write(out)?;
         self.write_line_errors(out)
     }
 
@@ -226,6 +232,7 @@ pub fn table_of_questions(input: &mut impl BufRead) -> io::Result<Table> {
     let mut answerer = Answerer::default();
     let mut line = Vec::new();
     while next_line(input, &mut line)? {
+        table.explained.returns += u64::from(line.ends_with(b"\r"));
         if let Some(answer) = answerer.answer_line(&line) {
             table.count(&answer, &answerer.values);
         }

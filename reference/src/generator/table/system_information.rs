@@ -59,7 +59,11 @@ fn accepted_without_messages(cell: &Cell) -> bool {
 
 /// Does it skip more subframes than it lists?
 fn is_long_picture(answer: &Answer) -> bool {
-    matches!(answer, Answer::Picture(_, Ok(picture)) if picture.skipped.len() > LISTED_SKIPPED)
+    let Answer::Picture(_, Ok(picture)) = answer else {
+        return false;
+    };
+    let skipped = picture.skipped.as_ref();
+    skipped.is_some_and(|skipped| skipped.len() > LISTED_SKIPPED)
 }
 
 impl MessageCounts {
