@@ -8,7 +8,7 @@ const FRAMES: u64 = 1024;
 
 // A transmitted subframe or slot: its number, the subframe in which it begins; that it is number i of those sent; the
 // codeword subframe or slot that it carries.
-#[derive(Drop)]
+#[derive(Clone, Copy)]
 pub struct Shown {
     pub unit: u64,
     pub subframe: u64,

@@ -1,6 +1,7 @@
 // A cell: its refusals, its bitmap in force, its free subframes as a pattern of spans, and why another is not usable.
 // What ends in `_lent` has the cell's eight numbers and, as lent numbers `si`, its messages: these are read where they
 // are needed, and a cell without any pays nothing for them. The questions on a `Cell` lend its messages to these.
+#![tactic(auto)]
 ghost use Rattle.std.specs.Prelude.{◌≡◌, true, cond, ◌&&◌, ◌||◌, eqb, leb};
 ghost use Rattle.std.specs.Int.Bits.{bit_and};
 ghost use Rattle.spans.specs.Pattern.{Regular};
@@ -26,7 +27,7 @@ use spans::Pattern;
 // The eight numbers of a cell: mode 0 in_band_lem with the same identity, 1 in_band_lem with another, 2 guard band, 3
 // standalone; carrier 0 anchor, 1 non-anchor; identity; narrowband and cell reference ports; control region; SIB1
 // schedule; length of the bitmap.
-#[derive(Drop)]
+#[derive(Clone, Copy)]
 pub struct CellConfig {
     pub mode: u64,
     pub carrier: u64,
@@ -39,14 +40,14 @@ pub struct CellConfig {
 }
 
 // A cell: its numbers, and its system information messages.
-#[derive(Drop)]
+#[derive(Clone, Copy)]
 pub struct Cell {
     pub config: CellConfig,
     pub messages: Messages,
 }
 
 // Why a subframe is not usable.
-#[derive(Drop)]
+#[derive(Clone, Copy)]
 pub enum Cause {
     None,
     Npbch,
@@ -58,14 +59,14 @@ pub enum Cause {
 }
 
 // The answer on one subframe: the refusal number, and why the subframe is not usable.
-#[derive(Drop)]
+#[derive(Clone, Copy)]
 pub struct CauseAnswer {
     pub no: u64,
     pub cause: Cause,
 }
 
 // The refusal number, and for an accepted cell the pattern of its free subframes and whether messages are laid.
-#[derive(Drop)]
+#[derive(Clone, Copy)]
 pub struct Verdict {
     pub no: u64,
     pub laid: bool,
@@ -493,7 +494,7 @@ pub fn layout(c: CellConfig) -> Layout
 }
 
 // The answer: the refusal number; E.
-#[derive(Drop)]
+#[derive(Clone, Copy)]
 pub struct ElementCount {
     pub no: u64,
     pub e: u64,

@@ -1,6 +1,7 @@
 // Numbers left free by closures, each of which closes some of every period. What four closures leave is counted and
 // found without a search, closure over closure; beside a fifth, whose period fits none of theirs, the search goes by
 // its periods, whole cycles by division.
+#![tactic(auto)]
 ghost use Rattle.std.specs.Prelude.{true, ◌≡◌, ℕ, ◌+◌, ◌-◌, ◌*◌, ◌/◌, ◌%◌, min, max, ◌^◌, ◌<◌, ◌≤◌};
 ghost use Rattle.counting.specs.Counting.{rank, select};
 ghost use Rattle.closures.specs.Closures.{leaves_open, clear, is_free, idle, no_closures};
@@ -10,7 +11,7 @@ ghost use Rattle.closures.specs.Quick.{WellNested, NestedOf, descend_of, ascend_
 ghost use Rattle.closures.specs.Quick.{GapPeriodAt, Repeats, Scanned, FreeIndexAt};
 
 // Number t is closed if (t + phase) mod period is below `closed`.
-#[derive(Drop)]
+#[derive(Clone, Copy)]
 pub struct Closure {
     pub period: u64,
     pub phase: u64,
@@ -18,7 +19,7 @@ pub struct Closure {
 }
 
 // Four closures; a number is clear if none of them closes it.
-#[derive(Drop)]
+#[derive(Clone, Copy)]
 pub struct Closures {
     pub b1: Closure,
     pub b2: Closure,
@@ -28,7 +29,7 @@ pub struct Closures {
 
 // What a closure leaves of what those below it leave: `per` in a period. Those below are counted from `shift` on,
 // where a period begins, and from `least` on, their count where it is open.
-#[derive(Drop)]
+#[derive(Clone, Copy)]
 pub struct PeriodCount {
     pub shift: u64,
     pub per: u64,
@@ -37,7 +38,7 @@ pub struct PeriodCount {
 
 // Closures by their periods, each of which divides the next one's, and their counts; and how many numbers of the
 // longest period are clear.
-#[derive(Drop)]
+#[derive(Clone, Copy)]
 pub struct Nested {
     pub closures: Closures,
     pub c1: PeriodCount,
@@ -48,14 +49,14 @@ pub struct Nested {
 }
 
 // On the way down through the closures, the longest period first: a number, and what was counted.
-#[derive(Drop)]
+#[derive(Clone, Copy)]
 struct Descent {
     at: u64,
     sum: u64,
 }
 
 // The same for a number that is looked for: its count, and what is to be added to it and taken off.
-#[derive(Drop)]
+#[derive(Clone, Copy)]
 struct Ascent {
     n: u64,
     add: u64,
@@ -63,7 +64,7 @@ struct Ascent {
 }
 
 // A period of the fifth closure: the count before it, how many of it are free, and how long it is.
-#[derive(Drop)]
+#[derive(Clone, Copy)]
 struct GapPeriod {
     from: u64,
     here: u64,
@@ -71,7 +72,7 @@ struct GapPeriod {
 }
 
 // The count of the first free number, and the number looked for; or, if there are too few, how many are left to pass.
-#[derive(Drop)]
+#[derive(Clone, Copy)]
 struct SearchResult {
     first: u64,
     at: u64,
@@ -79,21 +80,21 @@ struct SearchResult {
 }
 
 // After so many numbers the same ones are free again, and how many of those are.
-#[derive(Drop)]
+#[derive(Clone, Copy)]
 pub struct Cycle {
     pub length: u64,
     pub free: u64,
 }
 
 // The first and the last of a run of numbers.
-#[derive(Drop)]
+#[derive(Clone, Copy)]
 pub struct Ends {
     pub first: u64,
     pub last: u64,
 }
 
 // Whether a number is free, and how many free ones lie before it.
-#[derive(Drop)]
+#[derive(Clone, Copy)]
 pub struct FreeIndex {
     pub free: bool,
     pub index: u64,

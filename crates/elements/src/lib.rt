@@ -1,4 +1,5 @@
 // Which elements of a downlink subframe carry data, counted row by row.
+#![tactic(auto)]
 ghost use Rattle.std.specs.Prelude.{false, ◌≡◌, ◌+◌, ◌*◌, ◌/◌, ◌^◌, ◌<◌, ◌≤◌};
 ghost use Rattle.grid.specs.Grid.{subcarriers, symbols, slots, elements, element_of};
 ghost use Rattle.counting.specs.Counting.{in_range};
@@ -15,7 +16,7 @@ use references::{Marks, one};
 pub const NCCE_WIDTH: u64 = 6;
 
 // The layout of a subframe, apart from the cell: identity mod 6, narrowband and cell reference ports, control region.
-#[derive(Drop)]
+#[derive(Clone, Copy)]
 pub struct Layout {
     pub v: u64,
     pub nports: u64,
@@ -24,14 +25,14 @@ pub struct Layout {
 }
 
 // What an element of a subframe is: used, by its number among the used ones; or not, by its kind.
-#[derive(Drop)]
+#[derive(Clone, Copy)]
 pub enum ElementUse {
     Used(u64),
     Unused(u64),
 }
 
 // A row: its slot and symbol; and one of its subcarriers, by how many of six before it carry no reference.
-#[derive(Drop)]
+#[derive(Clone, Copy)]
 struct Spot {
     slot: u64,
     l: u64,
@@ -39,7 +40,7 @@ struct Spot {
 }
 
 // Used subcarriers of a row of all twelve: none where the row is shut, else all but the marks.
-#[derive(Drop)]
+#[derive(Clone, Copy)]
 pub struct Row {
     pub shut: bool,
     pub low: u64,

@@ -1,4 +1,5 @@
 // The grids' sizes and element numbers, and the constant tables.
+#![tactic(auto)]
 ghost use Rattle.std.specs.Prelude.{◌≡◌, ◌<◌, ◌≤◌};
 ghost use Rattle.grid.specs.Grid.{subcarriers, symbols, slots, elements, element_of, slot_of, symbol_of};
 ghost use Rattle.grid.specs.Grid.{subcarrier_of, uplink_subcarriers};
@@ -14,7 +15,7 @@ pub use tables::{
 pub const LAST_SUBFRAME: u64 = 0x3fff_ffff;
 
 // The downlink grid of one subframe.
-#[derive(Drop)]
+#[derive(Clone, Copy)]
 pub struct Grid;
 
 impl Grid {
@@ -62,7 +63,7 @@ impl Grid {
 }
 
 // The uplink grid of one slot.
-#[derive(Drop)]
+#[derive(Clone, Copy)]
 pub struct UplinkGrid;
 
 impl UplinkGrid {

@@ -1,4 +1,5 @@
 // Acknowledgements on NPUSCH format 2: the grant's refusals, its shape, and the questions on it.
+#![tactic(auto)]
 ghost use Rattle.std.specs.Prelude.{◌≡◌, ◌≤◌};
 ghost use Rattle.nprach.specs.Windows.{none};
 ghost use Rattle.harq_ack.specs.Fields.{tone_of, delay_of};
@@ -14,7 +15,7 @@ use uplink::{Shape, UplinkPlace, UplinkPlan};
 
 // The NPDSCH that is acknowledged ends in subframe n; the rest are fields, one of them the 4-bit field of tone and
 // delay.
-#[derive(Drop)]
+#[derive(Clone, Copy)]
 pub struct HarqAckGrant {
     pub n: u64,
     pub spacing: u64,

@@ -1,4 +1,5 @@
 // The step of a walk in place: the caller's own record is moved.
+#![tactic(auto)]
 ghost use Rattle.std.specs.Prelude.{◌≡◌};
 ghost use Rattle.walk.specs.Step.{stepped_of};
 

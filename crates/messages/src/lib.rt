@@ -1,4 +1,5 @@
 // System information messages: their numbers, and refusal 21's test of them.
+#![tactic(auto)]
 ghost use Rattle.std.specs.Prelude.{not, ◌||◌, ◌≡◌};
 ghost use Rattle.counting.specs.Listed.{is_one_of};
 ghost use Rattle.messages.specs.Messages.{windows, periods, distances, sizes, is_listed, are_listed};
@@ -6,7 +7,7 @@ ghost use Rattle.messages.specs.Messages.{no_schedule, no_messages};
 ghost use Rattle.messages.specs.Quick.{is_silent};
 
 // A window every `period` frames, in it a copy of `size` subframes at every `every`-th frame.
-#[derive(Drop)]
+#[derive(Clone, Copy)]
 pub struct Schedule {
     pub period: u64,
     pub every: u64,
@@ -14,7 +15,7 @@ pub struct Schedule {
 }
 
 // The window's length in ms, its offset in frames, and up to four schedules; those past the count are not read.
-#[derive(Drop)]
+#[derive(Clone, Copy)]
 pub struct Messages {
     pub window: u64,
     pub offset: u64,

@@ -1,6 +1,7 @@
 // The public questions, and nothing else. Each may be asked with any numbers and any lent buffers: its contract, in
 // the crate named here, has no `requires` and says by a definition what is answered and left. Refused input gets
 // document 01's number and zeros.
+#![tactic(auto)]
 
 // A cell: its refusal number, or 0; the bitmap in force, a part of the carrier's own buffer; why subframe t is not
 // usable; E, the eligible elements of a subframe.

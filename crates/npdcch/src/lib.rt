@@ -1,4 +1,5 @@
 // NPDCCH: plan, forward and backward of control sent in usable subframes.
+#![tactic(auto)]
 ghost use Rattle.std.specs.Prelude.{◌≡◌, ◌≤◌};
 ghost use Rattle.cell.specs.Quick.{lent_cell};
 ghost use Rattle.downlink.specs.Quick.{Judged};
@@ -11,7 +12,7 @@ use downlink::{Burst, DownlinkBack, DownlinkPlace, DownlinkPlan, Ready};
 use grid::Grid;
 
 // r copies from subframe n on; format 0 uses the NCCE, format 1 both.
-#[derive(Drop)]
+#[derive(Clone, Copy)]
 pub struct NpdcchGrant {
     pub n: u64,
     pub r: u64,

@@ -1,4 +1,5 @@
 // NPDSCH: plan, forward and backward of data sent in usable subframes.
+#![tactic(auto)]
 ghost use Rattle.std.specs.Prelude.{◌≡◌};
 ghost use Rattle.cell.specs.Quick.{lent_cell};
 ghost use Rattle.downlink.specs.Quick.{Judged};
@@ -10,7 +11,7 @@ use downlink::{Burst, DownlinkBack, DownlinkPlace, DownlinkPlan, Ready};
 use grid::Grid;
 
 // A grant that ends in subframe n; delay, subframes and copies are fields of its tables, rmax the number itself.
-#[derive(Drop)]
+#[derive(Clone, Copy)]
 pub struct NpdschGrant {
     pub n: u64,
     pub delay: u64,

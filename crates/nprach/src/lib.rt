@@ -1,4 +1,5 @@
 // Random access windows, which postpone uplink slots: their numbers, and the groups of slots that they close.
+#![tactic(auto)]
 ghost use Rattle.std.specs.Prelude.{true, not, ◌&&◌, ◌||◌, ◌≡◌, ◌+◌, ◌/◌, ◌^◌, ◌<◌, ◌≤◌};
 ghost use Rattle.numerology.specs.Numerology.{group_ms};
 ghost use Rattle.nprach.specs.Windows.{is_one_of, periods, starts, repetitions, is_listed, are_listed, shares_tone};
@@ -10,7 +11,7 @@ use closures::{Closure, Closures, Nested};
 
 // Windows begin at every t (in ms) equal to the start modulo the period; the length is in units of 1/30720 ms; twelve
 // tones at 3.75 kHz from `tone` on.
-#[derive(Drop)]
+#[derive(Clone, Copy)]
 pub struct Window {
     pub period: u64,
     pub start: u64,
@@ -19,7 +20,7 @@ pub struct Window {
 }
 
 // How many windows there are, and the windows; those past the count are not read.
-#[derive(Drop)]
+#[derive(Clone, Copy)]
 pub struct Windows {
     pub count: u64,
     pub w1: Window,

@@ -1,4 +1,5 @@
 // NPUSCH format 1: an uplink grant's refusals, its shape, and the questions on it.
+#![tactic(auto)]
 ghost use Rattle.std.specs.Prelude.{◌≡◌};
 ghost use Rattle.nprach.specs.Windows.{none};
 ghost use Rattle.npusch.specs.Quick.{sizes_of};
@@ -14,7 +15,7 @@ use uplink::{Shape, UplinkPlace, UplinkPlan};
 mod fields;
 
 // The grant ends in subframe n; the rest are fields.
-#[derive(Drop)]
+#[derive(Clone, Copy)]
 pub struct NpuschGrant {
     pub n: u64,
     pub spacing: u64,
@@ -87,7 +88,7 @@ pub fn shape(g: NpuschGrant) -> Shape
 }
 
 // The size of the transport block, and the modulation order.
-#[derive(Drop)]
+#[derive(Clone, Copy)]
 struct Sizes {
     size: u64,
     order: u64,

@@ -1,5 +1,6 @@
 // The plain engine's forward, and where its walk ends, of NPDSCH and NPDCCH: one subframe at a time and one element at
 // a time, with running counts and none of the quick search. Its time grows with the way it goes.
+#![tactic(auto)]
 ghost use Rattle.std.specs.Prelude.{Bool, ◌≡◌, ◌+◌, ◌*◌, ◌^◌, ◌≤◌, ◌<◌};
 ghost use Rattle.counting.specs.Counting.{select};
 ghost use Rattle.sending.specs.Answer.{place_at};
@@ -30,7 +31,7 @@ use spans::Pattern;
 const ROWS: u64 = Grid::SLOTS * Grid::SYMBOLS;
 
 // Where a walk ends: the refusal number, and how many places there are.
-#[derive(Drop)]
+#[derive(Clone, Copy)]
 pub struct Places {
     pub no: u64,
     pub places: u64,

@@ -10,14 +10,14 @@ use grid::UplinkGrid;
 use uplink::Shape;
 
 // An element's symbol and subcarrier.
-#[derive(Drop)]
+#[derive(Clone, Copy)]
 pub struct Element {
     pub l: u64,
     pub k: u64,
 }
 
 // A subcarrier, and how many data elements are still to be passed there.
-#[derive(Drop)]
+#[derive(Clone, Copy)]
 pub struct Along {
     k: u64,
     left: u64,

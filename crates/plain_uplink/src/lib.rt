@@ -1,5 +1,6 @@
 // The plain engine's uplink half: forward, and the number of places, of NPUSCH and of acknowledgements. It uses none
 // of the quick search: it goes one slot and one element at a time.
+#![tactic(auto)]
 ghost use Rattle.std.specs.Prelude.{◌≡◌, ℕ};
 ghost use Rattle.uplink.specs.Fits.{Fits, OpenRepeats};
 ghost use Rattle.uplink.specs.Elements.{slot_data};
@@ -23,7 +24,7 @@ mod obstacles;
 mod slots;
 
 // Plan's refusal number, and the number of places.
-#[derive(Drop)]
+#[derive(Clone, Copy)]
 pub struct Places {
     pub no: u64,
     pub places: u64,

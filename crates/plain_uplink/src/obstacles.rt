@@ -12,7 +12,7 @@ use uplink::Shape;
 
 // A window: whether it is read and has one of the grant's tones; its start and period; in units, how long before a
 // group's end it begins at most if it ends past the group's begin.
-#[derive(Drop)]
+#[derive(Clone, Copy)]
 pub struct Obstacle {
     pub stands: bool,
     pub start: u64,
@@ -21,7 +21,7 @@ pub struct Obstacle {
 }
 
 // All four, whether any stands, and the ms that a group lasts.
-#[derive(Drop)]
+#[derive(Clone, Copy)]
 pub struct Obstacles {
     pub ms: u64,
     pub any: bool,

@@ -1,4 +1,5 @@
 // Reads questions on standard input, one a line, and writes an answer line for each on standard output.
+#![tactic(auto)]
 ghost use Rattle.std.specs.Prelude.{◌+◌, ◌≤◌};
 
 use libc::{STDERR_FILENO, STDIN_FILENO, STDOUT_FILENO};
@@ -16,7 +17,7 @@ const FULL: usize = 49_152;
 
 // Where the input stands: the length of the line begun, the lines ended before it, whether input may follow, and
 // whether all went well so far. Nothing is answered once something failed.
-#[derive(Drop)]
+#[derive(Clone, Copy)]
 struct Progress {
     begun: usize,
     lines: u64,

@@ -16,7 +16,7 @@ const NO_FRAME: u64 = 0x1_0000_0000;
 
 // The first and the last that is sent; the place of the first symbol in each; how many symbols each carries, and how
 // many codeword subframes or slots one number stands for; the slot from which an uplink grant's gaps are counted.
-#[derive(Drop)]
+#[derive(Clone, Copy)]
 struct Course {
     first: u64,
     last: u64,

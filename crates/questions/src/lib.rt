@@ -1,4 +1,5 @@
 // The questions of the text program: a line read, and the values kept from line to line.
+#![tactic(auto)]
 mod reading;
 mod values;
 

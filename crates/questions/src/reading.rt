@@ -41,7 +41,7 @@ const KINDS: [[u8; 80]; 1] = [
     *b"up        ack       down      control   npbch     sib1                          ",
 ];
 
-#[derive(Drop)]
+#[derive(Clone, Copy)]
 pub enum Kind {
     Up,
     Ack,
@@ -51,7 +51,7 @@ pub enum Kind {
     Sib1,
 }
 
-#[derive(Drop)]
+#[derive(Clone, Copy)]
 pub enum Question {
     Set,
     Cell,
@@ -70,7 +70,7 @@ pub enum Question {
     Timeline(Kind),
 }
 
-#[derive(Drop)]
+#[derive(Clone, Copy)]
 pub enum Fault {
     Long,
     Question,
@@ -85,7 +85,7 @@ pub enum Fault {
 // What a line says: nothing; nothing that is a question, with the number of the word at fault; a question, with the
 // end of the words that name it; that help is asked of the word that starts at a place, of all where the line ends
 // there.
-#[derive(Drop)]
+#[derive(Clone, Copy)]
 pub enum Line {
     Nothing,
     Wrong(Fault, usize),
@@ -95,7 +95,7 @@ pub enum Line {
 
 // What a value word gives: a number to a name's row; a buffer, by its name's row and the start of its hex digits; a
 // window or a schedule to a name's row; a fault.
-#[derive(Drop)]
+#[derive(Clone, Copy)]
 enum Word {
     Number(usize, u64),
     Buffer(usize, usize),

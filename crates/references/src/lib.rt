@@ -1,10 +1,11 @@
 // Six subcarriers, after which the references repeat: where these lie, and how many elements carry data.
+#![tactic(auto)]
 ghost use Rattle.std.specs.Prelude.{◌≡◌, ◌<◌, ◌≤◌};
 ghost use mir.Val.{bool_byte};
 ghost use Rattle.references.specs.Quick.{taken_at_0, taken_at_1, closed_count, marks_of};
 
 // Where references lie among six subcarriers: one of the first three, one of the last three; 8 more for none.
-#[derive(Drop)]
+#[derive(Clone, Copy)]
 pub struct Marks {
     pub low: u64,
     pub high: u64,

@@ -1,4 +1,5 @@
 // The UE-specific search space of NPDCCH: where it starts, and its candidates from there on.
+#![tactic(auto)]
 ghost use Rattle.std.specs.Prelude.{◌≡◌, true, ℕ, ◌*◌, ◌+◌, ◌≤◌, ◌<◌, ◌^◌, length, get_or};
 ghost use Rattle.counting.specs.Counting.{next, rank, select};
 ghost use Rattle.grid.specs.Grid.{last_subframe};
@@ -30,7 +31,7 @@ const FIRST_BLOCKS: [u64; 4] = [0, 0x100, 0x322_1000, 0x766_5444_3221_0000];
 const LAST_BLOCKS: [u64; 4] = [0, 0x110, 0x332_1310, 0x776_5754_3321_7310];
 
 // Asked from subframe n on: Rmax, and the fields of G and of the offset.
-#[derive(Drop)]
+#[derive(Clone, Copy)]
 pub struct SearchSpace {
     pub n: u64,
     pub rmax: u64,
@@ -39,7 +40,7 @@ pub struct SearchSpace {
 }
 
 // r copies in usable subframes, from the first to the last.
-#[derive(Drop)]
+#[derive(Clone, Copy)]
 pub struct Candidate {
     pub first: u64,
     pub r: u64,
@@ -53,7 +54,7 @@ const BLANK: Candidate = Candidate {
 };
 
 // The answer: the refusal number; the start; how many candidates there are, and these, zeros past the count.
-#[derive(Drop)]
+#[derive(Clone, Copy)]
 pub struct SearchAnswer {
     pub no: u64,
     pub start: u64,
@@ -62,7 +63,7 @@ pub struct SearchAnswer {
 }
 
 // Rmax in blocks of the smallest R: their size, how many, how many candidates, and the row of the tables.
-#[derive(Drop)]
+#[derive(Clone, Copy)]
 struct Cut {
     size: u64,
     many: u64,
@@ -71,7 +72,7 @@ struct Cut {
 }
 
 // The first and the last subframe of each block.
-#[derive(Drop)]
+#[derive(Clone, Copy)]
 struct Blocks {
     first: [u64; 8],
     last: [u64; 8],

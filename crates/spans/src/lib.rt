@@ -1,5 +1,6 @@
 // The quick search among usable subframes: whole periods by division, spans of forty by a count of ones, the last
 // span by its digits.
+#![tactic(auto)]
 ghost use Rattle.std.specs.Prelude.{true, ◌≡◌, ◌+◌, ◌*◌, ◌/◌, ◌%◌, ◌<◌, ◌≤◌, ◌^◌, eqb};
 ghost use Rattle.std.specs.Int.Count.{ones};
 ghost use Rattle.counting.specs.Counting.{rank, select};
@@ -9,7 +10,7 @@ ghost use Rattle.spans.specs.Found.{found_among};
 
 // Spans of forty subframes, the first subframe at the highest of forty digits of a mask. The pattern repeats after
 // 2^log spans; in the four from `first` on SIB1 stands and `sib1` is their mask, `usual` is that of the others.
-#[derive(Drop)]
+#[derive(Clone, Copy)]
 pub struct Pattern {
     pub log: u64,
     pub first: u64,
@@ -18,7 +19,7 @@ pub struct Pattern {
 }
 
 // The first and the last of a run of allowed subframes.
-#[derive(Drop)]
+#[derive(Clone, Copy)]
 pub struct Ends {
     pub first: u64,
     pub last: u64,
@@ -26,7 +27,7 @@ pub struct Ends {
 
 // Where a subframe stands to a run of allowed ones: its index in it, not allowed but between the first and the last,
 // or neither.
-#[derive(Drop)]
+#[derive(Clone, Copy)]
 pub enum Found {
     At(u64),
     Between,

@@ -1,5 +1,6 @@
 // Units passed at once: those in which no window is open, and a window that meets no other; others one by one. And how
 // many subframes of them remain.
+#![tactic(auto)]
 ghost use Rattle.std.specs.Prelude.{true, false, ◌≡◌, ℕ, ◌+◌, ◌^◌, ◌<◌, ◌≤◌};
 ghost use Rattle.counting.specs.Counting.{rank};
 ghost use Rattle.spans.specs.Pattern.{allows};
@@ -12,7 +13,7 @@ use units::{Lane, Sight, Timetable, Wants};
 
 // Units passed at once: the unit that follows them, what is wanted and how many are free before it, and how many
 // subframes of them remain.
-#[derive(Drop)]
+#[derive(Clone, Copy)]
 pub struct Stride {
     pub n: u64,
     pub wants: Wants,
@@ -21,7 +22,7 @@ pub struct Stride {
 }
 
 // One of the four entries.
-#[derive(Drop)]
+#[derive(Clone, Copy)]
 pub enum Whose {
     First,
     Second,
@@ -31,7 +32,7 @@ pub enum Whose {
 
 // What may be passed at once from a unit on: so many units in which no window is open; the window of an entry, which
 // opens there and meets no other; or, unit by unit, so many until a window closes.
-#[derive(Drop)]
+#[derive(Clone, Copy)]
 pub enum Stretch {
     Quiet(u64),
     Alone(Whose),
@@ -39,7 +40,7 @@ pub enum Stretch {
 }
 
 // One more than what a window of each entry leaves that meets no other; 0 if it was not counted yet.
-#[derive(Drop)]
+#[derive(Clone, Copy)]
 pub struct Kept {
     pub k1: u64,
     pub k2: u64,
@@ -49,7 +50,7 @@ pub struct Kept {
 
 // Past a stretch, or to where the k-th is in it, if it was found; whether what remains there remains evenly; and what
 // is kept.
-#[derive(Drop)]
+#[derive(Clone, Copy)]
 pub struct Leap {
     pub sight: Sight,
     pub found: bool,

@@ -1,4 +1,5 @@
 // QPSK symbols from lent bits, and what an element of the grid gets: a symbol, a reference or nothing.
+#![tactic(auto)]
 ghost use Rattle.std.specs.Prelude.{true, cond, ◌≡◌, ◌*◌, ◌<◌, length};
 ghost use Rattle.symbol.specs.Symbol.{signed, level_in_range};
 ghost use Rattle.symbol.specs.Scaffold.{qpsk_of, Within};
@@ -6,14 +7,14 @@ ghost use Rattle.symbol.specs.Outgoing.{answer_of, numbers_of};
 ghost use Rattle.symbol.specs.Quick.{symbols_of, silence, picked_of};
 
 // A real and an imaginary number.
-#[derive(Drop)]
+#[derive(Clone, Copy)]
 pub struct Symbol {
     pub re: f32,
     pub im: f32,
 }
 
 // What goes out at an element: nothing, a reference of a kind, or a symbol of the codeword by its number.
-#[derive(Drop)]
+#[derive(Clone, Copy)]
 pub enum Outgoing {
     Silent,
     Reference(u64),
@@ -21,7 +22,7 @@ pub enum Outgoing {
 }
 
 // The answer for one element; the last case has the symbol's two numbers.
-#[derive(Drop)]
+#[derive(Clone, Copy)]
 pub enum Element {
     Refused(u64),
     Silent,
@@ -31,7 +32,7 @@ pub enum Element {
 
 // An element's answer in numbers: the refusal; 0 silent, 1 or 2 a reference of that kind, 4 a symbol; the symbol's
 // two numbers.
-#[derive(Drop)]
+#[derive(Clone, Copy)]
 pub struct ElementNumbers {
     pub no: u64,
     pub state: u64,

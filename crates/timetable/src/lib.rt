@@ -1,5 +1,6 @@
 // The search among the subframes that messages leave of those that a pattern allows: by strides over units, and whole
 // periods by division.
+#![tactic(auto)]
 ghost use Rattle.std.specs.Prelude.{true, false, ◌≡◌, ℕ, ◌+◌, ◌*◌, ◌%◌, ◌^◌, ◌<◌, ◌≤◌, eqb};
 ghost use Rattle.counting.specs.Counting.{rank, select};
 ghost use Rattle.counting.specs.Scaffold.{Nth};
@@ -17,7 +18,7 @@ use strides::Kept;
 use units::{Sight, Timetable, Wants};
 
 // A sight, and what was counted on the way to it; whether its subframe is at hand.
-#[derive(Drop)]
+#[derive(Clone, Copy)]
 struct Reached {
     sight: Sight,
     kept: Kept,
@@ -25,7 +26,7 @@ struct Reached {
 }
 
 // The same so many subframes later, and what was counted on the way.
-#[derive(Drop)]
+#[derive(Clone, Copy)]
 struct Hit {
     sight: Sight,
     later: u64,
@@ -33,21 +34,21 @@ struct Hit {
 }
 
 // Where a search begins.
-#[derive(Drop)]
+#[derive(Clone, Copy)]
 struct Sought {
     table: Timetable,
     sight: Sight,
 }
 
 // How many remain before a subframe, and whether it remains.
-#[derive(Drop)]
+#[derive(Clone, Copy)]
 struct Count {
     before: u64,
     remains: bool,
 }
 
 // The same of a part of a period; where its unit begins, with what remains before it as k.
-#[derive(Drop)]
+#[derive(Clone, Copy)]
 struct Part {
     before: u64,
     remains: bool,

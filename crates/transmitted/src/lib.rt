@@ -1,4 +1,5 @@
 // A transmitted subframe of an NPDSCH on one port: the call judged, and what goes out at an element.
+#![tactic(auto)]
 ghost use Rattle.std.specs.Prelude.{◌≡◌, ◌%◌, ◌^◌, ◌<◌};
 ghost use Rattle.grid.specs.Grid.{subcarriers, symbols, slots, element_of};
 ghost use Rattle.elements.specs.Elements.{count_of};
@@ -19,7 +20,7 @@ use symbol::{Element, Outgoing};
 
 // A call judged: the refusal number, and for an accepted one the codeword symbol that goes out first in the subframe,
 // and the shift of the references.
-#[derive(Drop)]
+#[derive(Clone, Copy)]
 pub struct Call {
     pub no: u64,
     pub first: u64,

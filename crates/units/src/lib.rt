@@ -1,5 +1,6 @@
 // Messages in units: time counted in stretches in which no window opens or closes and no copy begins but where one
 // begins. What the entries want where a unit begins, and what they need of it.
+#![tactic(auto)]
 ghost use Rattle.std.specs.Prelude.{true, ◌≡◌, ◌+◌, ◌-◌, ◌*◌, ◌^◌, min, max, ◌<◌, ◌≤◌};
 ghost use Rattle.std.specs.Int.Count.{ones};
 ghost use Rattle.counting.specs.Counting.{rank, count};
@@ -42,7 +43,7 @@ pub fn monus(a: u64, b: u64) -> u64
 }
 
 // The shortest distance of copies that is read is 2^shortest frames, the longest period 2^longest.
-#[derive(Drop)]
+#[derive(Clone, Copy)]
 struct Logs {
     shortest: u64,
     longest: u64,
@@ -87,7 +88,7 @@ fn logs_of(ms: Messages) -> Logs
 
 // A schedule in units: its windows last `window` units and repeat after 2^log units, one opens at unit `start`; a
 // copy of `size` subframes begins at every 2^every-th unit of a window. One that is not read has windows of no unit.
-#[derive(Drop)]
+#[derive(Clone, Copy)]
 pub struct Lane {
     pub log: u64,
     pub start: u64,
@@ -122,7 +123,7 @@ fn lane_of(read: bool, s: Schedule, before: u64, window: u64, k: u64) -> Lane
 
 // Units of `unit` subframes from subframe `first` on: no window opens or closes and no copy begins but where one
 // begins. All repeats after `units` units.
-#[derive(Drop)]
+#[derive(Clone, Copy)]
 pub struct Timetable {
     pub first: u64,
     pub unit: u64,
@@ -180,7 +181,7 @@ fn need(l: Lane, n: u64, want: u64) -> u64
 }
 
 // One entry of a unit: what it wants at the next one, and how many subframes are free after it.
-#[derive(Drop)]
+#[derive(Clone, Copy)]
 pub struct LaneStep {
     pub want: u64,
     pub free: u64,
@@ -206,7 +207,7 @@ pub fn lay(l: Lane, n: u64, want: u64, free: u64) -> LaneStep
 }
 
 // What the entries want where a unit begins, before copies begin there.
-#[derive(Drop)]
+#[derive(Clone, Copy)]
 pub struct Wants {
     pub w1: u64,
     pub w2: u64,
@@ -215,7 +216,7 @@ pub struct Wants {
 }
 
 // A unit: what the entries want at the next one, and how many subframes of it remain.
-#[derive(Drop)]
+#[derive(Clone, Copy)]
 pub struct UnitStep {
     pub wants: Wants,
     pub remaining: u64,
@@ -293,7 +294,7 @@ fn opened(l: Lane, n: u64) -> u64
 }
 
 // The k-th remaining subframe from where unit n begins, with what is wanted there and how many are free before it.
-#[derive(Drop)]
+#[derive(Clone, Copy)]
 pub struct Sight {
     pub n: u64,
     pub wants: Wants,
@@ -366,7 +367,7 @@ pub fn sight_at(table: Timetable, p: Pattern, n: u64) -> Sight
 }
 
 // Subframe y of unit n.
-#[derive(Drop)]
+#[derive(Clone, Copy)]
 pub struct Spot {
     pub n: u64,
     pub y: u64,

@@ -1,5 +1,6 @@
 // Uplink questions on a shape: the numbers that place a grant's codeword on uplink slots, whatever kind of grant they
 // are made from.
+#![tactic(auto)]
 ghost use Rattle.std.specs.Prelude.{Bool, ◌≡◌, ℕ, ◌-◌, ◌^◌, ◌<◌};
 ghost use Rattle.sending.specs.CopyOrder.{carried};
 ghost use Rattle.sending.specs.Answer.{extent_of};
@@ -23,7 +24,7 @@ pub use data::{is_granted, is_reference, split as taken_apart};
 // Slots from `first` on, in blocks of sending with a gap after each; `tones` of the grid's `subcarriers` from `tone`
 // on; `codeword` slots, sent `copies` times, each group of `group` slots `consecutive` times in a row; `references`
 // reference symbols from `reference` on.
-#[derive(Drop)]
+#[derive(Clone, Copy)]
 pub struct Shape {
     pub first: u64,
     pub subcarriers: u64,
@@ -41,7 +42,7 @@ pub struct Shape {
 
 // Plan's answer: the refusal number; the first and last slot, the copies, the places, the transport block's size and
 // the modulation order.
-#[derive(Drop)]
+#[derive(Clone, Copy)]
 pub struct UplinkPlan {
     pub no: u64,
     pub first: u64,
@@ -53,7 +54,7 @@ pub struct UplinkPlan {
 }
 
 // Forward's answer: the refusal number; slot, symbol and subcarrier of the place, and the codeword symbol there.
-#[derive(Drop)]
+#[derive(Clone, Copy)]
 pub struct UplinkPlace {
     pub no: u64,
     pub slot: u64,
@@ -63,7 +64,7 @@ pub struct UplinkPlace {
 }
 
 // A position taken apart: the transmitted slot, the data element in it, and that element's symbol and subcarrier.
-#[derive(Drop)]
+#[derive(Clone, Copy)]
 pub struct Split {
     pub i: u64,
     pub e: u64,
@@ -72,7 +73,7 @@ pub struct Split {
 }
 
 // Whether a slot is sent, and if so which transmitted slot it is.
-#[derive(Drop)]
+#[derive(Clone, Copy)]
 pub struct SentIndex {
     pub sent: bool,
     pub i: u64,

@@ -12,7 +12,7 @@ use super::{SentIndex, Shape};
 use closures::{Closure, Cycle, Ends, Nested};
 
 // The first slot's group, the groups of the gaps, and after how many groups all repeats.
-#[derive(Drop)]
+#[derive(Clone, Copy)]
 pub struct GroupSearch {
     from: u64,
     gap: Closure,

@@ -1,5 +1,6 @@
 // The walk: the places of a grant one after the other, by a record of the caller's own. What a step asks; `inplace`
 // moves the record.
+#![tactic(auto)]
 ghost use Rattle.std.specs.Prelude.{◌≡◌};
 ghost use Rattle.walk.specs.Step.{from_uplink, from_downlink, refused_step, finished_step, asked_of};
 ghost use Rattle.walk.specs.Quick.{walk_at, is_end, stopped_at};
@@ -14,14 +15,14 @@ use npusch::NpuschGrant;
 use uplink::UplinkPlace;
 
 // Who answers: the quick engine, or the plain one, which goes one subframe or slot at a time. Their answers are equal.
-#[derive(Drop)]
+#[derive(Clone, Copy)]
 pub enum Engine {
     Quick,
     Plain,
 }
 
 // An uplink grant stands beside the random access windows that it keeps clear of.
-#[derive(Drop)]
+#[derive(Clone, Copy)]
 pub enum Grant {
     Npusch(NpuschGrant, Windows),
     HarqAck(HarqAckGrant, Windows),
@@ -30,7 +31,7 @@ pub enum Grant {
 }
 
 // A grant, its cell, and the position whose turn it is. An uplink grant has no use for the cell.
-#[derive(Drop)]
+#[derive(Clone, Copy)]
 pub struct Walk {
     pub cell: Cell,
     pub grant: Grant,
@@ -39,7 +40,7 @@ pub struct Walk {
 
 // A step's answer: the refusal number; 1 at the end; else the place and the codeword symbol there. In the uplink t is
 // 0.
-#[derive(Drop)]
+#[derive(Clone, Copy)]
 pub struct WalkPlace {
     pub no: u64,
     pub finished: u64,
@@ -51,7 +52,7 @@ pub struct WalkPlace {
 }
 
 // A step's answer, and the record after it.
-#[derive(Drop)]
+#[derive(Clone, Copy)]
 pub struct Stepped {
     pub answer: WalkPlace,
     pub walk: Walk,
@@ -154,7 +155,7 @@ pub fn forward(w: Walk, anchor: &[u8], other: &[u8], engine: Engine) -> WalkPlac
 }
 
 // Plan's refusal number and places.
-#[derive(Drop)]
+#[derive(Clone, Copy)]
 struct Total {
     no: u64,
     places: u64,
