@@ -1,5 +1,6 @@
 // The answers' lines, put into a page of output. Each has at most 320 bytes, but a search's, a fill's and a picture's.
 #![tactic(auto)]
+
 ghost use Rattle.std.specs.Prelude.{◌+◌, ◌≤◌, length};
 
 use cell::{Cause, CauseAnswer, ElementCount};

@@ -34,12 +34,12 @@ control    NPDCCH, by the cell and n r format ncce
 npbch      NPBCH of an anchor, 64 frames from frame 0, by the cell
 sib1       SIB1 of an anchor, 256 frames from frame 0, by the cell
 Values of the cell:
-mode       0 in_band_lem same identity, 1 in_band_lem other identity, 2 guard band, 3 standalone; starts at 0
+mode       0 in-band same identity, 1 in-band other identity, 2 guard band, 3 standalone; starts at 0
 carrier    0 anchor, 1 non-anchor; starts at 0
 identity   of the narrowband cell, 0 to 503; starts at 0
 nports     narrowband reference ports, 1 or 2; starts at 0
-cports     cell reference ports: in_band_lem 1, 2 or 4 (in mode 0 as nports), else 0; starts at 0
-control    control region: in_band_lem 1 to 3 symbols, else 0; starts at 0
+cports     cell reference ports: in-band 1, 2 or 4 (in mode 0 as nports), else 0; starts at 0
+control    control region: in-band 1 to 3 symbols, else 0; starts at 0
 sib1       SIB1 schedule, 0 to 11; starts at 0
 bits       length of the bitmap: 0 (none), 10 or 40 bits; starts at 0
 anchor     bitmap of the anchor, hex, two digits a byte, up to 64 bytes, - for empty; starts empty
@@ -95,8 +95,8 @@ const REFUSALS: [u8; 1418] = *b"0 accepted
 1 mode above 3 or carrier above 1
 2 identity above 503
 3 narrowband ports not 1 or 2
-4 cell ports not 1, 2 or 4 in_band_lem, or not 0 in the other modes
-5 control region not 1 to 3 in_band_lem, or not 0 in the other modes
+4 cell ports not 1, 2 or 4 in-band, or not 0 in the other modes
+5 control region not 1 to 3 in-band, or not 0 in the other modes
 24 mode 0 with cell ports other than the narrowband ports
 6 SIB1 schedule above 11
 7 bitmap length not 0, 10 or 40, its buffer too short, or spare bits set

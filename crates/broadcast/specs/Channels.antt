@@ -36,7 +36,7 @@ npbch_layout c = record { v = c.identity % 6; nports = 2; cports = 4; control = 
 abbrev pub npbch_of : CellConfig → Channel
 npbch_of c = record { is_own = npbch; period = 640; burst = eight_on (npbch_layout c) 8 8 }
 
--- TS 36.213 clause 16.4.1.4: the cell's ports, and a control region of three symbols in_band_lem, of none else
+-- TS 36.213 clause 16.4.1.4: the cell's ports, and a control region of three symbols in-band, of none else
 abbrev pub sib1_layout : CellConfig → Layout
 sib1_layout c = record { v = c.identity % 6; nports = c.nports; cports = c.cports; control = cond (in_band c) 3 0 }
 

@@ -51,7 +51,7 @@ fn npbch_burst(c: CellConfig) -> Burst
     burst(layout, 8, 8)
 }
 
-// The control region of SIB1's subframes: three symbols in_band_lem.
+// The control region of SIB1's subframes: three symbols in-band.
 fn sib1_control(mode: u64) -> u64
     ensures { result ≡ cond (ltb mode 2) 3 0 }
 {

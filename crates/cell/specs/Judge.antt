@@ -12,17 +12,17 @@ use Rattle.cell.specs.declared.CauseAnswer.{CauseAnswer}
 use Rattle.cell.specs.Bitmap.{own_buffer, bitmap_in, bitmap_of}
 use Rattle.cell.specs.Usable.{period, why, usable}
 
--- mode 0 in_band_lem with the cell's own identity, 1 in_band_lem with another; 2 guard band and 3 standalone, which differ in
+-- mode 0 in-band with the cell's own identity, 1 in-band with another; 2 guard band and 3 standalone, which differ in
 -- nothing that is asked here
 abbrev pub in_band : CellConfig → Bool
 in_band c = ltb c.mode 2
 
--- cell reference ports 1, 2 or 4 in_band_lem; 0 in the other modes
+-- cell reference ports 1, 2 or 4 in-band; 0 in the other modes
 abbrev pub cell_ports_listed : CellConfig → Bool
 cell_ports_listed c =
     cond (in_band c) (eqb c.cports 1 || (eqb c.cports 2 || eqb c.cports 4)) (eqb c.cports 0)
 
--- control region 1 to 3 in_band_lem; 0 in the other modes
+-- control region 1 to 3 in-band; 0 in the other modes
 abbrev pub control_listed : CellConfig → Bool
 control_listed c = cond (in_band c) (leb 1 c.control && leb c.control 3) (eqb c.control 0)
 

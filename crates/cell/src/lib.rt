@@ -24,7 +24,7 @@ use grid::Grid;
 use messages::Messages;
 use spans::Pattern;
 
-// The eight numbers of a cell: mode 0 in_band_lem with the same identity, 1 in_band_lem with another, 2 guard band, 3
+// The eight numbers of a cell: mode 0 in-band with the same identity, 1 in-band with another, 2 guard band, 3
 // standalone; carrier 0 anchor, 1 non-anchor; identity; narrowband and cell reference ports; control region; SIB1
 // schedule; length of the bitmap.
 #[derive(Clone, Copy)]

@@ -25,7 +25,7 @@ abbrev standalone : Layout
 standalone = record { v = 0; nports = 1; cports = 0; control = 0 }
 
 pub record Cases : Type 0 where
-  -- P1: standalone; in_band_lem with control region 3
+  -- P1: standalone; in-band with control region 3
   pub standalone_one : (v : ℕ) → v < 6 → eligible_at 1 0 0 v ≡ 160
   pub standalone_two : (v : ℕ) → v < 6 → eligible_at 2 0 0 v ≡ 152
   pub four_ports : (v : ℕ) → v < 6 → eligible_at 2 4 3 v ≡ 100

@@ -341,7 +341,7 @@ pub fn control_region(v: &Values) -> u64 {
     v[CONTROL]
 }
 
-// SIB1's own: three symbols in_band_lem.
+// SIB1's own: three symbols in-band.
 pub fn sib1_control(v: &Values) -> u64 {
     if v[MODE] < 2 {
         return 3;

@@ -1,4 +1,4 @@
--- 4, 5 and 24, in_band_lem and in the other modes: each return has the tests before it false.
+-- 4, 5 and 24, in-band and in the other modes: each return has the tests before it false.
 use mathlib.Core.Path.{◌≡◌}
 use native.Mathlib.Omega.{arith}
 use borrow.Author.Tests.{lt-ltb, le-ltb, eq-eqb, ne_eqb}
