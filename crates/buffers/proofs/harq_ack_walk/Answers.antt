@@ -1,0 +1,11 @@
+use borrow.Author.Rules.{rules}
+use Rattle.buffers.proofs.harq_ack_walk.Goals as goal
+
+pub no_cell-cell-requires : goal.no_cell-cell-requires
+no_cell-cell-requires c = tt
+
+pub windows_of-requires : goal.windows_of-requires
+windows_of-requires c = tt
+
+pub returns : goal.returns
+returns c = let w = c.before in let g = w.before in simp (w.windows_of.ensures, g.harq_ack_at.ensures, g.before.no_cell-cell.ensures)

@@ -1,9 +1,0 @@
-use borrow.Author.Rules.{rules}
-use Rattle.buffers.proofs.npusch_walk.Statement.{statement}
-use Rattle.buffers.proofs.npusch_walk.Tie as tie
-
-pub npusch-walk-spec : {M : Type 1} → statement M
-npusch-walk-spec =
-    tie.close
-    (tie.spec (λ c κs. tt) (λ c κs. search rules) (λ c κs. tt) (λ c. search rules)
-    (λ c. let w = c.before in let g = w.before in simp (w.windows-of.ensures, g.npusch-at.ensures, g.before.no_cell.ensures)))

@@ -1,0 +1,26 @@
+use mathlib.Core.List.{[], ◌∷◌}
+use native.Mathlib.Omega.{arith}
+use lib.ListN.{length-set}
+use Rattle.buffers.proofs.Replies.{put_stored}
+use Rattle.buffers.proofs.put5.Goals as goal
+
+pub bounds-s-0 : goal.bounds-s-0
+bounds-s-0 c = omega arith
+
+pub bounds-s-1 : goal.bounds-s-1
+bounds-s-1 c = simp length-set (omega arith)
+
+pub bounds-s-2 : goal.bounds-s-2
+bounds-s-2 c = simp length-set (omega arith)
+
+pub bounds-s-3 : goal.bounds-s-3
+bounds-s-3 c = simp length-set (omega arith)
+
+pub bounds-s-4 : goal.bounds-s-4
+bounds-s-4 c = simp length-set (omega arith)
+
+pub shape_of-s : goal.shape_of-s
+shape_of-s c = simp length-set
+
+pub returns : goal.returns
+returns c = let x = c.args in put_stored x.a (x.b ∷ x.c ∷ x.d ∷ x.e ∷ []) x.s.now c.requires

@@ -1,0 +1,9 @@
+use mathlib.Core.Path.{◌∙◌}
+use borrow.Author.Rules.{rules}
+use Rattle.buffers.proofs.put_cause.Goals as goal
+
+pub cause_number-requires : goal.cause_number-requires
+cause_number-requires c = tt
+
+pub returns : goal.returns
+returns c = let p = c.before.before in p.put2.ensures ∙ simp p.before.cause_number.ensures

@@ -1,0 +1,9 @@
+use mathlib.Core.Path.{◌∙◌}
+use borrow.Author.Rules.{rules}
+use Rattle.buffers.proofs.put_downlink_back.Goals as goal
+
+pub cause_number-number-requires : goal.cause_number-number-requires
+cause_number-number-requires c = tt
+
+pub returns : goal.returns
+returns c = let p = c.before.before in p.put6.ensures ∙ simp p.before.before.cause_number-number.ensures

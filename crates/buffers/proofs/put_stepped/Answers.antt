@@ -1,0 +1,8 @@
+use mathlib.Core.List.{[], ◌∷◌}
+use borrow.Author.Rules.{rules}
+use Rattle.buffers.proofs.Replies.{stored, put_beside}
+use Rattle.buffers.proofs.put_stepped.Goals as goal
+
+pub returns : goal.returns
+returns c = let p = c.before.before in let x = p.before.before.before.before.before in
+    put_beside p.put7.ensures (stored (x.args.x.walk.p ∷ []) x.args.walk.now x.requires.0)

@@ -1,0 +1,23 @@
+use mathlib.Core.Path.{◌≡◌}
+use borrow.Author.Tests.{eq-eqb, ne_eqb}
+use Rattle.cell.specs.Quick.{ShowsLoaded}
+use Rattle.cell.proofs.Showing.{shows_anchor, shows_other}
+use Rattle.cell.proofs.pattern.Goals as goal
+
+pub returns-then-c-eq0 : goal.returns-then-c-eq0
+returns-then-c-eq0 c =
+    let t = c.before.before in
+    let a = t.before.before.args in
+    rw (c.withheld.ensures, c.before.pattern.ensures)
+    (record { shows = λ own f l. shows_anchor a.c own a.m f l (eq-eqb _ _ t.if-c-eq0.true) })
+
+pub returns : goal.returns
+returns c =
+    let a = c.before.before.args in
+    record { shows = λ own f l. shows_other a.c own a.m f l (ne_eqb _ _ c.if-c-eq0.false) }
+
+pub pattern-requires : goal.pattern-requires
+pattern-requires c = tt
+
+pub withheld-requires : goal.withheld-requires
+withheld-requires c = tt

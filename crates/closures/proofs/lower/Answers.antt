@@ -1,0 +1,12 @@
+use mathlib.Core.Path.{refl}
+use borrow.Author.Tests.{le-leb, lt-leb}
+use Rattle.closures.specs.Quick.{lower_of}
+use Rattle.closures.proofs.lower.Goals as goal
+
+pub returns-then-p-q : goal.returns-then-p-q
+unfolding lower_of
+returns-then-p-q c = rw (le-leb c.before.args.a.period c.before.args.b.period c.if-p-q.true) refl
+
+pub returns : goal.returns
+unfolding lower_of
+returns c = rw (lt-leb c.before.args.a.period c.before.args.b.period c.if-p-q.false) refl

@@ -1,0 +1,99 @@
+use mathlib.Core.Path.{◌≡◌, sym, ap, ap₂, subst, ◌∙◌}
+use Rattle.closures.specs.declared.Closures.{Closures}
+use Rattle.closures.specs.Closures.{clear}
+use Rattle.closures.specs.Quick.{capped_of, lower_of, upper_of, network_of, ordered_of, OneOfTheirs, Sorted}
+use Rattle.closures.proofs.Ordering.{ordered_clear, ordered_sorted, ordered_longest}
+use Rattle.closures.proofs.ordered.Goals.{After-upper-high2, After-upper-high1, After-capped-b4, Start}
+use Rattle.closures.proofs.ordered.Goals as goal
+
+-- the pairs, and what was made of them
+module _ (c : After-upper-high2) where
+  abbrev h1 : After-upper-high1
+  h1 = c.before
+
+  abbrev k : After-capped-b4
+  k = h1.before.before.before
+
+  abbrev given : Start
+  given = k.before.before.before.before
+
+  abbrev b : Closures
+  b = given.args.b
+
+  low_1 : h1.before.before.lower-low1.result ≡ lower_of (capped_of b.b1) (capped_of b.b2)
+  low_1 = h1.before.before.lower-low1.ensures ∙ ap₂ lower_of k.before.before.before.capped-b1.ensures k.before.before.capped-b2.ensures
+
+  low_2 : h1.before.lower-low2.result ≡ lower_of (capped_of b.b3) (capped_of b.b4)
+  low_2 = h1.before.lower-low2.ensures ∙ ap₂ lower_of k.before.capped-b3.ensures k.capped-b4.ensures
+
+  high_1 : h1.upper-high1.result ≡ upper_of (capped_of b.b1) (capped_of b.b2)
+  high_1 = h1.upper-high1.ensures ∙ ap₂ upper_of k.before.before.before.capped-b1.ensures k.before.before.capped-b2.ensures
+
+  high_2 : c.upper-high2.result ≡ upper_of (capped_of b.b3) (capped_of b.b4)
+  high_2 = c.upper-high2.ensures ∙ ap₂ upper_of k.before.capped-b3.ensures k.capped-b4.ensures
+
+longest : (s : Start) (r : Closures) → r ≡ ordered_of s.args.b → OneOfTheirs s.args.b r.b4.period
+longest s r is test p1 p2 p3 p4 = ap (λ (x : Closures). test x.b4.period) is ∙ ordered_longest s.args.b s.requires.0 s.requires.1 test p1 p2 p3 p4
+
+pub returns : goal.returns
+unfolding network_of
+returns c =
+    let c4 = c.before in
+    let c3 = c4.before in
+    let c2 = c3.before in
+    let m2 = c2.before in
+    let m1 = m2.before in
+    let h = m1.before in
+    let s = given h in
+    let mid1 = m1.upper-mid1.ensures ∙ ap₂ upper_of (low_1 h) (low_2 h) in
+    let mid2 = m2.lower-mid2.ensures ∙ ap₂ lower_of (high_1 h) (high_2 h) in
+    let is : record { b1 = c2.lower.result; b2 = c3.lower-2.result; b3 = c4.upper.result; b4 = c.upper-2.result } ≡ ordered_of s.args.b =
+    λ j. record {
+      b1 = (c2.lower.ensures ∙ ap₂ lower_of (low_1 h) (low_2 h)) j;
+      b2 = (c3.lower-2.ensures ∙ ap₂ lower_of mid1 mid2) j;
+      b3 = (c4.upper.ensures ∙ ap₂ upper_of mid1 mid2) j;
+      b4 = (c.upper-2.ensures ∙ ap₂ upper_of (high_1 h) (high_2 h)) j;
+    } in
+    (subst Sorted (sym is) (ordered_sorted s.args.b s.requires.0 s.requires.1), λ t. ap (λ (x : Closures). clear x t) is ∙ ordered_clear s.args.b s.requires.0 s.requires.1 t, longest s _ is)
+
+pub capped-b1-requires : goal.capped-b1-requires
+capped-b1-requires c = tt
+
+pub capped-b2-requires : goal.capped-b2-requires
+capped-b2-requires c = tt
+
+pub capped-b3-requires : goal.capped-b3-requires
+capped-b3-requires c = tt
+
+pub capped-b4-requires : goal.capped-b4-requires
+capped-b4-requires c = tt
+
+pub lower-low1-requires : goal.lower-low1-requires
+lower-low1-requires c = tt
+
+pub lower-low2-requires : goal.lower-low2-requires
+lower-low2-requires c = tt
+
+pub upper-high1-requires : goal.upper-high1-requires
+upper-high1-requires c = tt
+
+pub upper-high2-requires : goal.upper-high2-requires
+upper-high2-requires c = tt
+
+pub upper-mid1-requires : goal.upper-mid1-requires
+upper-mid1-requires c = tt
+
+pub lower-mid2-requires : goal.lower-mid2-requires
+lower-mid2-requires c = tt
+
+pub lower-requires : goal.lower-requires
+lower-requires c = tt
+
+pub lower-requires-2 : goal.lower-requires-2
+lower-requires-2 c = tt
+
+pub upper-requires : goal.upper-requires
+upper-requires c = tt
+
+pub upper-requires-2 : goal.upper-requires-2
+upper-requires-2 c = tt

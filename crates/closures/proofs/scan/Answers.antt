@@ -1,0 +1,125 @@
+use mathlib.Core.Bool.{Bool}
+use mathlib.Core.Path.{◌≡◌, refl, sym, ap, subst}
+use mathlib.Core.Logic.{⊎_elim}
+use Prim.Native.Nat.{ℕ, ◌+◌, ◌-◌, ◌^◌, ◌≤◌, ◌<◌}
+use native.Mathlib.Omega.{arith}
+use Rattle.counting.specs.Counting.{rank}
+use Rattle.counting.specs.Scaffold.{Nth}
+use Rattle.counting.proofs.Rank.{rank_le, rank_strict}
+use Rattle.counting.proofs.Select.{nth_of}
+use Rattle.closures.specs.Closures.{is_free}
+use Rattle.closures.specs.Quick.{Begins, Held}
+use Rattle.closures.proofs.scan.Goals.{Joined-left-j, At-loop-at, Start, Then-left-here}
+use Rattle.closures.proofs.scan.Goals as goal
+
+-- in the period at hand
+module _ (c : Joined-left-j) where
+  abbrev l : At-loop-at
+  l = c.before.before.before
+
+  abbrev s : Start
+  s = l.before
+
+  abbrev free : ℕ → Bool
+  free = is_free s.args.gap s.args.nested.closures
+
+  -- the i-th of it, as one of all n
+  held : (i j m : ℕ) → i < c.before.gap_period_at-gap_period.result.here → rank free l.loop-at.at + i ≡ rank free s.args.t + j → m ≡ c.before.gap_period_at-gap_period.result.from + i
+      → Held s.args.gap s.args.nested s.args.t (s.args.t + s.args.n) j m
+  held i j m h e f =
+      let r = c.before.gap_period_at-gap_period.ensures in
+      let g = r.held i h in
+      record {
+        x = g.x;
+        inside = omega (arith, g.inside, r.within, l.loop-at.invariant.0);
+        passes = g.passes;
+        count = omega (arith, g.count);
+        nth = nth_of free s.args.t j g.x g.nth.passes (omega (arith, g.nth.before));
+      }
+
+  -- the first of all: in this period if all j are left, else in one before
+  first : l.loop-at.left < s.args.j + c.before.gap_period_at-gap_period.result.here
+      → Held s.args.gap s.args.nested s.args.t (s.args.t + s.args.n) 0 c.if-left-j.first
+  first h =
+      ⊎_elim (λ w. held 0 0 c.if-left-j.first (omega (arith, w.0.true)) (omega (arith, w.0.true, l.loop-at.invariant.3)) (omega (arith, w.1)))
+      (λ w.
+      subst (λ (m : ℕ). Held s.args.gap s.args.nested s.args.t (s.args.t + s.args.n) 0 m) (sym w.1)
+      (l.loop-at.invariant.5 (omega (arith, w.0.left, l.loop-at.invariant.2)))) c.if-left-j.branch
+
+-- the number that is found there
+module _ (c : Then-left-here) where
+  abbrev b : Joined-left-j
+  b = c.before
+
+  last : Held (s b).args.gap (s b).args.nested (s b).args.t ((s b).args.t + (s b).args.n) (s b).args.j (b.before.gap_period_at-gap_period.result.from + (l b).loop-at.left)
+  last = held b (l b).loop-at.left (s b).args.j _ c.if-left-here.true (l b).loop-at.invariant.3 refl
+
+  small : last.x < 2 ^ 48
+  small = omega (arith, last.inside, (s b).requires.3, (s b).requires.4)
+
+pub overflow_add-end : goal.overflow_add-end
+overflow_add-end c = omega (arith, c.requires.3, c.requires.4)
+
+pub loop-at-init : goal.loop-at-init
+loop-at-init c = (refl, omega arith, omega arith, refl, λ h. c.requires.1, λ h. absurd (omega arith))
+
+pub gap_period_at-gap_period-requires : goal.gap_period_at-gap_period-requires
+gap_period_at-gap_period-requires c =
+    let s = c.before.before in
+    (s.requires.0, c.before.loop-at.invariant.4 c.loop-at-test.true, s.requires.2, c.loop-at-test.true, omega (arith, s.requires.3, s.requires.4))
+
+pub overflow_add-from : goal.overflow_add-from
+overflow_add-from c =
+    let r = (b c).before.gap_period_at-gap_period in
+    omega (
+      arith,
+      c.if-left-here.true,
+      r.ensures.small,
+      r.ensures.counted,
+      r.ensures.within,
+      rank_le (free (b c)) ((l (b c)).loop-at.at + r.result.length),
+      (s (b c)).requires.3,
+      (s (b c)).requires.4,
+    )
+
+pub find-requires : goal.find-requires
+find-requires c = ((s (b c)).requires.2, record { at = (last c).x; small = small c; passes = (last c).passes; here = (last c).count })
+
+pub returns-then-left-here : goal.returns-then-left-here
+returns-then-left-here c =
+    let a = c.before in
+    let h = last a in
+    let e = c.find.ensures h.x h.passes h.count (small a) in
+    record {
+      first = λ w. first (b a) (omega (arith, a.if-left-here.true));
+      found = λ w. (
+        subst (λ (x : ℕ). Nth (free (b a)) (s (b a)).args.t (s (b a)).args.j x) (sym e) h.nth,
+        omega (arith, e, h.inside),
+      );
+      missed = λ w. absurd (omega (arith, w, h.nth.before, rank_strict (free (b a)) h.x ((s (b a)).args.t + (s (b a)).args.n) h.nth.passes h.inside));
+    }
+
+pub overflow_add-at : goal.overflow_add-at
+overflow_add-at c = let d = c.before in omega (arith, d.before.gap_period_at-gap_period.ensures.within, (s d).requires.3, (s d).requires.4)
+
+pub loop-at-smaller : goal.loop-at-smaller
+loop-at-smaller c = let r = c.before.before.gap_period_at-gap_period.ensures in omega (arith, r.some, r.within)
+
+pub loop-at-preserved : goal.loop-at-preserved
+loop-at-preserved c =
+    let d = c.before in
+    let r = d.before.gap_period_at-gap_period.ensures in
+    let i = (l d).loop-at.invariant in
+    (refl, r.within, omega (arith, i.2), omega (arith, r.counted, i.3, c.if-left-here.false), r.next, λ h. first d (omega (arith, h, c.if-left-here.false)))
+
+pub returns : goal.returns
+returns c =
+    let l = c.before.loop-at in
+    let a = c.before.before.args in
+    let z : l.at ≡ a.t + a.n = omega (arith, l.invariant.1) in
+    let e = ap (rank (is_free a.gap a.nested.closures)) z in
+    record {
+      first = λ w. absurd (omega (arith, w, l.invariant.3, e));
+      found = λ w. absurd (omega (arith, w, l.invariant.3, e));
+      missed = λ w. omega (arith, l.invariant.3, e);
+    }

@@ -1,0 +1,11 @@
+use Prim.Native.Nat.{◌^◌, ◌<◌}
+use mathlib.Core.Path.{◌∙◌}
+use native.Mathlib.Omega.{arith}
+use native.Mathlib.Nat.{one-mul}
+use lib.Dec.{lit<}
+use lib.Pow.{shl_exact}
+use borrow.Author.Rules.{rules}
+use Rattle.counting.proofs.power_of_two.Goals as goal
+
+pub returns : goal.returns
+returns c = shl_exact {a = 1} 1 c.args.i 64 (lit< tt) (omega (arith, c.requires)) ∙ one-mul (2 ^ c.args.i)

@@ -1,0 +1,13 @@
+use native.Mathlib.Omega.{arith}
+use borrow.Author.Rules.{rules}
+use Rattle.elements.proofs.Laws.{count_some, count_le}
+use Rattle.downlink.proofs.used_elements.Goals as goal
+
+pub returns : goal.returns
+returns c =
+    let a = c.before.before in
+    let g = a.args.b in (
+      c.count.ensures,
+      omega (arith, c.count.ensures, count_some g.layout-1 g.low g.width a.requires.part),
+      omega (arith, c.count.ensures, count_le g.layout-1 g.low g.width),
+    )

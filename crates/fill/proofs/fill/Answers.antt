@@ -1,0 +1,12 @@
+use borrow.Author.Rules.{rules}
+use Rattle.subframes.specs.Scaffold.{lent_again}
+use Rattle.fill.proofs.fill.Goals as goal
+
+pub numbers-si-requires : goal.numbers-si-requires
+numbers-si-requires c = tt
+
+pub fill_lent-requires : goal.fill_lent-requires
+fill_lent-requires c = tt
+
+pub returns : goal.returns
+returns c = let f = c.before.before in rw (f.before.before.before.numbers-si.ensures, lent_again _) at f.fill_lent.ensures

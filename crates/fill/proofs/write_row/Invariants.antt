@@ -1,0 +1,28 @@
+use mathlib.Core.List.{List, ◌++◌, append-nil}
+use mathlib.Core.Bool.{Bool, cond}
+use mathlib.Core.Path.{◌≡◌, sym, ap, ap₂, ◌∙◌}
+use Prim.Native.Nat.{ℕ, ◌+◌, ◌-◌, ◌*◌, ◌≤◌, ◌<◌}
+use native.Mathlib.Nat.{add-zero}
+use native.Mathlib.Omega.{arith}
+use borrow.Author.Rules.{rules}
+use lib.Ieee.{Float}
+use lib.ListN.{length, take, length-set}
+use mir.Val.{bool_byte}
+use Rattle.counting.specs.Counting.{rank}
+use Rattle.counting.proofs.Rank.{rank_zero, rank_on, rank_le, rank_strict}
+use Rattle.grid.specs.Grid.{subcarriers}
+use Rattle.grid.specs.Scaffold.{slot_numbers}
+use Rattle.elements.specs.Quick.{has_in}
+use Rattle.symbol.specs.Quick.{silence, picked_of}
+use Rattle.fill.specs.Fill.{laid}
+use Rattle.fill.specs.Quick.{written_in_row}
+use Rattle.fill.proofs.Laid.{laid_none, laid_more}
+use Rattle.fill.proofs.write_row.Given as goal
+
+abbrev pub invariant-loop-k : goal.invariant-loop-k
+invariant-loop-k l =
+    (l.k ≤ subcarriers) × (length l.out ≡ slot_numbers) × (l.n ≡ l.c + rank (has_in l.row) l.k)
+    × (take (2 * (l.start + l.k)) l.out ≡ take (2 * l.start) l.initial.out ++ laid (written_in_row l.row l.c l.bits l.four) l.k)
+
+abbrev pub decreases-loop-k : goal.decreases-loop-k
+decreases-loop-k l = subcarriers - l.k

@@ -1,0 +1,25 @@
+use mathlib.Core.Path.{ap₂, ◌∙◌}
+use Prim.Native.Nat.{ℕ}
+use borrow.Author.Rules.{rules}
+use Rattle.numerology.specs.Numerology.{by_spacing}
+use Rattle.harq_ack.specs.Fields.{delay_of}
+use Rattle.harq_ack.proofs.Accepting.{by_fours_lem}
+use Rattle.harq_ack.proofs.delay.Goals as goal
+
+pub returns : goal.returns
+unfolding delay_of
+returns c =
+    let wide = c.before in
+    let narrow = wide.before in
+    let s = narrow.before in
+    c.by_spacing.ensures
+    ∙ ap₂ (λ (x y : ℕ). by_spacing s.args.spacing x y) (narrow.byte.ensures ∙ by_fours_lem s.args.field s.requires) wide.byte-2.ensures
+
+pub byte-requires : goal.byte-requires
+byte-requires c = tt
+
+pub byte-requires-2 : goal.byte-requires-2
+byte-requires-2 c = tt
+
+pub by_spacing-requires : goal.by_spacing-requires
+by_spacing-requires c = tt

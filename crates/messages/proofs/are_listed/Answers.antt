@@ -1,0 +1,34 @@
+use mathlib.Core.Bool.{Bool, ◌&&◌}
+use mathlib.Core.Path.{ap, ap₂}
+use lib.Dec.{leb}
+use Rattle.messages.specs.Messages.{are_listed}
+use Rattle.messages.proofs.are_listed.Goals as goal
+
+pub is_window-requires : goal.is_window-requires
+unfolding are_listed
+is_window-requires c = tt
+
+pub is_sound-requires : goal.is_sound-requires
+unfolding are_listed
+is_sound-requires c = tt
+
+pub is_sound-requires-2 : goal.is_sound-requires-2
+unfolding are_listed
+is_sound-requires-2 c = tt
+
+pub is_sound-requires-3 : goal.is_sound-requires-3
+unfolding are_listed
+is_sound-requires-3 c = tt
+
+pub is_sound-requires-4 : goal.is_sound-requires-4
+unfolding are_listed
+is_sound-requires-4 c = tt
+
+pub returns : goal.returns
+unfolding are_listed
+returns c =
+    let own = c.before.before.before.before.before in
+    let a = own.before.before.args.ms in
+    ap₂ ◌&&◌ (ap (λ (b : Bool). b && (leb a.offset 15 && leb a.count 4)) own.is_window.ensures)
+    (ap₂ ◌&&◌ (ap₂ ◌&&◌ c.before.before.before.is_sound.ensures c.before.before.is_sound-2.ensures)
+    (ap₂ ◌&&◌ c.before.is_sound-3.ensures c.is_sound-4.ensures))

@@ -1,6 +1,0 @@
-use mathlib.Core.Path.{◌∙◌}
-use Rattle.nbiot_c.proofs.forward_ack_beside.Statement.{statement}
-use Rattle.nbiot_c.proofs.forward_ack_beside.Tie as tie
-
-pub forward-ack-beside-spec : {M : Type 1} → statement M
-forward-ack-beside-spec = tie.close (tie.spec (λ c κs. tt) (λ c κs. tt) (λ c. c.forward-beside.ensures ∙ simp c.before.windows-of.ensures))

@@ -1,0 +1,39 @@
+use mathlib.Core.Path.{◌∙◌}
+use borrow.Author.Rules.{rules}
+use Rattle.buffers.proofs.Replies.{unread, replied}
+use Rattle.nbiot_c.specs.Calls.{backward_up}
+use Rattle.nbiot_c.proofs.nbiot_backward_up_windows.Goals as goal
+
+pub short_beside-requires : goal.short_beside-requires
+unfolding backward_up
+short_beside-requires c = tt
+
+pub returns-then-short_beside : goal.returns-then-short_beside
+unfolding backward_up
+returns-then-short_beside c = unread _ _ c.before.short_beside.ensures.says c.if-short_beside.true
+
+pub npusch_at-requires : goal.npusch_at-requires
+unfolding backward_up
+npusch_at-requires c = c.before.short_beside.ensures.first c.if-short_beside.false
+
+pub windows_of-requires : goal.windows_of-requires
+unfolding backward_up
+windows_of-requires c = tt
+
+pub backward_beside-a-requires : goal.backward_beside-a-requires
+unfolding backward_up
+backward_beside-a-requires c = tt
+
+pub put_back-requires : goal.put_back-requires
+unfolding backward_up
+put_back-requires c = let e = c.before.before.before.before in e.before.short_beside.ensures.last e.if-short_beside.false
+
+pub shape_of-answer : goal.shape_of-answer
+unfolding backward_up
+shape_of-answer c = search rules
+
+pub returns : goal.returns
+unfolding backward_up
+returns c = let p = c.before.before in let a = p.before.before in let e = a.before.before.before in
+    replied _ e.before.short_beside.ensures.says e.if-short_beside.false
+    (p.put_back.ensures ∙ simp (a.backward_beside-a.ensures, a.before.windows_of.ensures, a.before.before.npusch_at.ensures))

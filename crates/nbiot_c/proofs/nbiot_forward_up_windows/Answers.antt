@@ -1,0 +1,34 @@
+use mathlib.Core.Path.{◌∙◌}
+use borrow.Author.Rules.{rules}
+use Rattle.buffers.proofs.Replies.{unread, replied}
+use Rattle.nbiot_c.specs.Calls.{forward_up}
+use Rattle.nbiot_c.proofs.nbiot_forward_up_windows.Goals as goal
+
+pub short_beside-requires : goal.short_beside-requires
+unfolding forward_up
+short_beside-requires c = tt
+
+pub returns-then-short_beside : goal.returns-then-short_beside
+unfolding forward_up
+returns-then-short_beside c = unread _ _ c.before.short_beside.ensures.says c.if-short_beside.true
+
+pub npusch_at-requires : goal.npusch_at-requires
+unfolding forward_up
+npusch_at-requires c = c.before.short_beside.ensures.first c.if-short_beside.false
+
+pub forward_up_beside-a-requires : goal.forward_up_beside-a-requires
+unfolding forward_up
+forward_up_beside-a-requires c = tt
+
+pub put_uplink_place-requires : goal.put_uplink_place-requires
+unfolding forward_up
+put_uplink_place-requires c = let e = c.before.before.before in e.before.short_beside.ensures.last e.if-short_beside.false
+
+pub shape_of-answer : goal.shape_of-answer
+unfolding forward_up
+shape_of-answer c = search rules
+
+pub returns : goal.returns
+unfolding forward_up
+returns c = let p = c.before.before in let a = p.before.before in let e = a.before.before in
+    replied _ e.before.short_beside.ensures.says e.if-short_beside.false (p.put_uplink_place.ensures ∙ simp (a.forward_up_beside-a.ensures, a.before.npusch_at.ensures))

@@ -1,0 +1,34 @@
+use mathlib.Core.Path.{◌∙◌}
+use borrow.Author.Rules.{rules}
+use Rattle.buffers.proofs.Replies.{unread, replied}
+use Rattle.nbiot_c.specs.Calls.{plan_ack}
+use Rattle.nbiot_c.proofs.nbiot_plan_ack_windows.Goals as goal
+
+pub short_beside-requires : goal.short_beside-requires
+unfolding plan_ack
+short_beside-requires c = tt
+
+pub returns-then-short_beside : goal.returns-then-short_beside
+unfolding plan_ack
+returns-then-short_beside c = unread _ _ c.before.short_beside.ensures.says c.if-short_beside.true
+
+pub harq_ack_at-requires : goal.harq_ack_at-requires
+unfolding plan_ack
+harq_ack_at-requires c = c.before.short_beside.ensures.first c.if-short_beside.false
+
+pub plan_ack_beside-a-requires : goal.plan_ack_beside-a-requires
+unfolding plan_ack
+plan_ack_beside-a-requires c = tt
+
+pub put_uplink_plan-requires : goal.put_uplink_plan-requires
+unfolding plan_ack
+put_uplink_plan-requires c = let e = c.before.before.before in e.before.short_beside.ensures.last e.if-short_beside.false
+
+pub shape_of-answer : goal.shape_of-answer
+unfolding plan_ack
+shape_of-answer c = search rules
+
+pub returns : goal.returns
+unfolding plan_ack
+returns c = let p = c.before.before in let a = p.before.before in let e = a.before.before in
+    replied _ e.before.short_beside.ensures.says e.if-short_beside.false (p.put_uplink_plan.ensures ∙ simp (a.plan_ack_beside-a.ensures, a.before.harq_ack_at.ensures))

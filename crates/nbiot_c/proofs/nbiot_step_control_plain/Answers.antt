@@ -1,0 +1,40 @@
+use mathlib.Core.Path.{◌∙◌}
+use native.Mathlib.Omega.{arith}
+use borrow.Author.Rules.{rules}
+use Rattle.buffers.proofs.Replies.{unread, replied}
+use Rattle.nbiot_c.specs.Calls.{step_control}
+use Rattle.nbiot_c.proofs.nbiot_step_control_plain.Goals as goal
+
+pub short2-requires : goal.short2-requires
+unfolding step_control
+short2-requires c = tt
+
+pub returns-then-short2 : goal.returns-then-short2
+unfolding step_control
+returns-then-short2 c = unread _ _ c.before.short2.ensures.says c.if-short2.true
+
+pub npdcch_walk-requires : goal.npdcch_walk-requires
+unfolding step_control
+npdcch_walk-requires c = let e = c.before in e.before.short2.ensures.first e.if-short2.false
+
+pub step_value-s-requires : goal.step_value-s-requires
+unfolding step_control
+step_value-s-requires c = tt
+
+pub put_stepped-requires : goal.put_stepped-requires
+unfolding step_control
+put_stepped-requires c = let v = c.before.before in let e = v.before.before.before in let long = e.before.short2.ensures in
+    (omega (arith, long.first e.if-short2.false), long.last e.if-short2.false)
+
+pub shape_of-walk : goal.shape_of-walk
+unfolding step_control
+shape_of-walk c = search rules
+
+pub shape_of-answer : goal.shape_of-answer
+unfolding step_control
+shape_of-answer c = search rules
+
+pub returns : goal.returns
+unfolding step_control
+returns c = let p = c.before.before.before.before in let v = p.before.before.before in let e = v.before.before.before in
+    replied _ e.before.short2.ensures.says e.if-short2.false (p.put_stepped.ensures ∙ simp (v.step_value-s.ensures, v.before.npdcch_walk.ensures))

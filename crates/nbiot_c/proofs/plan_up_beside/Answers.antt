@@ -1,0 +1,11 @@
+use mathlib.Core.Path.{◌∙◌}
+use Rattle.nbiot_c.proofs.plan_up_beside.Goals as goal
+
+pub windows_of-requires : goal.windows_of-requires
+windows_of-requires c = tt
+
+pub plan_beside-requires : goal.plan_beside-requires
+plan_beside-requires c = tt
+
+pub returns : goal.returns
+returns c = c.plan_beside.ensures ∙ simp c.before.windows_of.ensures

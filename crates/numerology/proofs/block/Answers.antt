@@ -1,0 +1,10 @@
+use mathlib.Core.Path.{◌∙◌}
+use lib.Dec.{eqb}
+use Rattle.numerology.proofs.Spacing.{block_is}
+use Rattle.numerology.proofs.block.Goals as goal
+
+pub by_spacing-requires : goal.by_spacing-requires
+by_spacing-requires c = tt
+
+pub returns : goal.returns
+returns c = c.by_spacing.ensures ∙ block_is (eqb c.before.args.spacing 0)

@@ -1,0 +1,12 @@
+use borrow.Author.Rules.{rules}
+use Rattle.subframes.specs.Scaffold.{lent_again}
+use Rattle.plain_downlink.proofs.forward_npdcch.Goals as goal
+
+pub numbers-si-requires : goal.numbers-si-requires
+numbers-si-requires c = tt
+
+pub npdcch_lent-requires : goal.npdcch_lent-requires
+npdcch_lent-requires c = tt
+
+pub returns : goal.returns
+returns c = rw (c.before.before.numbers-si.ensures, lent_again _) at c.npdcch_lent.ensures

@@ -1,0 +1,19 @@
+use mathlib.Core.Path.{◌≡◌, ap, ◌∙◌}
+use Prim.Native.Nat.{◌+◌, ◌-◌, ◌*◌, ◌≤◌}
+use native.Mathlib.Nat.{add-mul, one-mul, mul-le-mul_right, le_of_lt}
+use native.Mathlib.Omega.{arith}
+use borrow.Author.Rules.{rules}
+use mir.Val.{bool_byte}
+use Rattle.counting.specs.Counting.{rank}
+use Rattle.counting.proofs.Facts.{byte_le}
+use Rattle.counting.proofs.Rank.{rank_on, rank_le}
+use Rattle.grid.specs.Grid.{uplink_element_of}
+use Rattle.uplink.specs.Elements.{carries_data}
+use Rattle.plain_uplink.proofs.elements.symbol_data.Given as goal
+
+abbrev pub invariant-loop-k : goal.invariant-loop-k
+invariant-loop-k l =
+    (l.k ≤ l.s.subcarriers) × (rank (carries_data l.s) (l.l * l.s.subcarriers) + l.found ≡ rank (carries_data l.s) (uplink_element_of l.s.subcarriers l.l l.k))
+
+abbrev pub decreases-loop-k : goal.decreases-loop-k
+decreases-loop-k l = l.s.subcarriers - l.k

@@ -1,0 +1,22 @@
+use mathlib.Core.Path.{◌≡◌, refl, ◌∙◌}
+use Prim.Native.Nat.{ℕ, ◌+◌, ◌-◌, ◌*◌, ◌^◌, ◌≤◌, ◌<◌}
+use native.Mathlib.Nat.{mul-le-mul, add-mul, one-mul, zero-mul}
+use native.Mathlib.Omega.{arith}
+use borrow.Author.Rules.{rules}
+use lib.ListN.{length, get_or, length-set}
+use Rattle.counting.specs.Counting.{rank, select}
+use Rattle.counting.proofs.Rank.{rank_le}
+use Rattle.spans.specs.Pattern.{allows, period_of, OnesOf}
+use Rattle.spans.proofs.Laws.{nth_is}
+use Rattle.search_space.proofs.Listing.{set_more}
+use Rattle.search_space.proofs.blocks_alone.Given as goal
+
+abbrev pub invariant-loop-i : goal.invariant-loop-i
+invariant-loop-i l =
+    (l.i ≤ l.many) × (length l.first ≡ 8) × (length l.last ≡ 8)
+    × ((j : ℕ) → j < l.i → get_or l.first j 0 ≡ select (allows l.p) (period_of l.p) l.start (j * l.size))
+    × ((j : ℕ) → j < l.i → get_or l.last j 0 ≡ select (allows l.p) (period_of l.p) l.start (j * l.size + (l.size - 1)))
+    × (l.k ≡ rank (allows l.p) l.start + l.i * l.size)
+
+abbrev pub decreases-loop-i : goal.decreases-loop-i
+decreases-loop-i l = l.many - l.i

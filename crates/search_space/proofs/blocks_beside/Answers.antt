@@ -1,0 +1,120 @@
+use mathlib.Core.Bool.{Bool}
+use mathlib.Core.Path.{◌≡◌, refl, sym, ap, ◌∙◌}
+use Prim.Native.Nat.{ℕ, ◌+◌, ◌-◌, ◌*◌, ◌^◌, ◌≤◌, ◌<◌}
+use native.Mathlib.Nat.{mul-le-mul, add-zero, add-mul, one-mul, zero-mul}
+use native.Mathlib.Omega.{arith}
+use borrow.Author.Rules.{rules}
+use lib.ListN.{length, get_or, length-set}
+use Rattle.counting.specs.Counting.{rank, select}
+use Rattle.counting.proofs.Period.{select_from, select_below}
+use Rattle.spans.specs.Pattern.{allows}
+use Rattle.messages.specs.Messages.{all_periods, remaining}
+use Rattle.messages.proofs.Repeating.{remaining_again}
+use Rattle.subframes.proofs.Left.{allows_again}
+use Rattle.search_space.proofs.Listing.{set_more}
+use Rattle.search_space.proofs.blocks_beside.Goals.{After-block-ends, Start}
+use Rattle.search_space.proofs.blocks_beside.Goals as goal
+
+-- the search is at block i: what follows `skip` after `from` is what follows i blocks after the start
+abbrev Stands : (ℕ → Bool) → ℕ → ℕ → ℕ → ℕ → ℕ → Type 0
+Stands u start size i from skip = (k : ℕ) → select u all_periods from (skip + k) ≡ select u all_periods start (i * size + k)
+
+
+
+-- one block on
+module _ (c : After-block-ends) where
+  abbrev start : Start
+  start = c.before.before.before
+
+  abbrev u : ℕ → Bool
+  u = remaining start.args.ms (allows start.args.p)
+
+  abbrev at : ℕ → ℕ
+  at = select u all_periods start.args.start
+
+  abbrev size : ℕ
+  size = start.args.x.size
+
+  abbrev i : ℕ
+  i = c.before.before.loop-i.i
+
+  again : (t : ℕ) → u (t + all_periods) ≡ u t
+  again = remaining_again start.args.ms start.requires.0 (allows start.args.p) (allows_again start.args.p start.requires.1)
+
+  first_is : c.block-ends.result.first ≡ at (i * size)
+  first_is =
+      let l = c.before.before.loop-i in
+      c.block-ends.ensures.0 ∙ ap (select u all_periods l.from) (sym (add-zero l.skip)) ∙ l.invariant.6 0 ∙ ap at (add-zero (i * size))
+
+  last_is : c.block-ends.result.last ≡ at (i * size + (size - 1))
+  last_is = c.block-ends.ensures.1 ∙ c.before.before.loop-i.invariant.6 (size - 1)
+
+  last_small : c.block-ends.result.last < 2 ^ 31
+  last_small =
+      omega (
+        arith,
+        last_is,
+        select_below u all_periods again start.requires.2 start.args.start (i * size + (size - 1)),
+        mul-le-mul {n₁ = i} {m₁ = size} {n₂ = 8} {m₂ = 256} (omega (arith, c.before.loop-i-test.true, start.requires.4.many)) start.requires.4.size.1,
+        start.requires.3,
+        start.requires.4.size.1,
+      )
+
+  stands : Stands u start.args.start size (i + 1) c.block-ends.result.last 1
+  stands k =
+      let e : i * size + (size - 1) + (1 + k) ≡ (i + 1) * size + k =
+      omega (arith, add-mul i 1 size, one-mul size, start.requires.4.size.0) in
+      ap (λ (t : ℕ). select u all_periods t (1 + k)) last_is
+      ∙ select_from u all_periods again start.requires.2 start.args.start (i * size + (size - 1)) (1 + k) ∙ ap at e
+
+pub loop-i-preserved : goal.loop-i-preserved
+loop-i-preserved c =
+    let l = c.before.before.loop-i in
+    let within : l.i < 8 = omega (arith, c.before.loop-i-test.true, (start c).requires.4.many) in (
+      omega (arith, c.before.loop-i-test.true),
+      length-set l.first l.i c.block-ends.result.first ∙ l.invariant.1,
+      length-set l.last l.i c.block-ends.result.last ∙ l.invariant.2,
+      set_more 0 _ l.first l.i _ (omega (arith, l.invariant.1)) l.invariant.3 (first_is c),
+      set_more 0 _ l.last l.i _ (omega (arith, l.invariant.2)) l.invariant.4 (last_is c),
+      (last_small c, omega arith),
+      stands c,
+    )
+
+pub loop-i-init : goal.loop-i-init
+loop-i-init c = (
+      omega arith,
+      refl,
+      refl,
+      λ k h. absurd (omega arith),
+      λ k h. absurd (omega arith),
+      (omega (arith, c.requires.3), omega arith),
+      λ k.
+          let e : 0 + k ≡ 0 * c.args.x.size + k = omega (arith, zero-mul c.args.x.size) in
+          ap (select (remaining c.args.ms (allows c.args.p)) all_periods c.args.start) e,
+    )
+
+pub overflow_sub-size : goal.overflow_sub-size
+overflow_sub-size c = omega (arith, c.before.before.requires.4.size.0)
+
+pub block-ends-requires : goal.block-ends-requires
+block-ends-requires c =
+    let s = c.before.before in
+    let l = c.before.loop-i in
+    (s.requires.0, s.requires.1, s.requires.2, l.invariant.5.0, omega (arith, l.invariant.5.1, s.requires.4.size.1))
+
+pub bounds-first-i : goal.bounds-first-i
+bounds-first-i c = omega (arith, c.before.loop-i-test.true, (start c).requires.4.many)
+
+pub bounds-last-i : goal.bounds-last-i
+bounds-last-i c = omega (arith, c.before.loop-i-test.true, (start c).requires.4.many)
+
+pub overflow_add-i : goal.overflow_add-i
+overflow_add-i c = omega (arith, c.before.loop-i-test.true, (start c).requires.4.many)
+
+pub loop-i-smaller : goal.loop-i-smaller
+loop-i-smaller c = omega (arith, c.before.loop-i-test.true)
+
+pub returns : goal.returns
+returns c =
+    let l = c.before.loop-i in
+    record { first = λ k h. l.invariant.3 k (omega (arith, c.loop-i-test.false)); last = λ k h. l.invariant.4 k (omega (arith, c.loop-i-test.false)) }

@@ -1,0 +1,25 @@
+use mathlib.Core.Bool.{Bool}
+use mathlib.Core.Path.{◌≡◌, refl, sym, ap, ◌∙◌}
+use Prim.Native.Nat.{ℕ, ◌+◌, ◌-◌, ◌*◌, ◌^◌, ◌≤◌, ◌<◌}
+use native.Mathlib.Nat.{mul-le-mul, add-zero, add-mul, one-mul, zero-mul}
+use native.Mathlib.Omega.{arith}
+use borrow.Author.Rules.{rules}
+use lib.ListN.{length, get_or, length-set}
+use Rattle.counting.specs.Counting.{rank, select}
+use Rattle.counting.proofs.Period.{select_from, select_below}
+use Rattle.spans.specs.Pattern.{allows}
+use Rattle.messages.specs.Messages.{all_periods, remaining}
+use Rattle.messages.proofs.Repeating.{remaining_again}
+use Rattle.subframes.proofs.Left.{allows_again}
+use Rattle.search_space.proofs.Listing.{set_more}
+use Rattle.search_space.proofs.blocks_beside.Given as goal
+
+abbrev pub invariant-loop-i : goal.invariant-loop-i
+invariant-loop-i l =
+    (l.i ≤ l.many) × (length l.first ≡ 8) × (length l.last ≡ 8)
+    × ((k : ℕ) → k < l.i → get_or l.first k 0 ≡ select (remaining l.ms (allows l.p)) all_periods l.start (k * l.size))
+    × ((k : ℕ) → k < l.i → get_or l.last k 0 ≡ select (remaining l.ms (allows l.p)) all_periods l.start (k * l.size + (l.size - 1)))
+    × ((l.from < 2 ^ 31) × (l.skip ≤ 1)) × Stands (remaining l.ms (allows l.p)) l.start l.size l.i l.from l.skip
+
+abbrev pub decreases-loop-i : goal.decreases-loop-i
+decreases-loop-i l = l.many - l.i

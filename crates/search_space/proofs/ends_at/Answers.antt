@@ -1,0 +1,23 @@
+use mathlib.Core.Path.{◌≡◌, ◌∙◌}
+use Prim.Native.Nat.{◌+◌}
+use native.Mathlib.Omega.{arith}
+use Rattle.search_space.proofs.ends_at.Goals as goal
+
+pub returns-then-more-eq0 : goal.returns-then-more-eq0
+returns-then-more-eq0 c =
+    let s = c.before.before in
+    let r = c.before.at-first.ensures in
+    let e : s.args.k ≡ s.args.k + s.args.more = omega (arith, c.if-more-eq0.true) in
+    (r, (r.0, r.1 ∙ e))
+
+pub at-first-requires : goal.at-first-requires
+at-first-requires c = (c.requires.0, c.requires.1, c.requires.2, omega (arith, c.requires.3))
+
+pub overflow_add-k : goal.overflow_add-k
+overflow_add-k c = omega (arith, c.before.before.requires.3)
+
+pub at-last-requires : goal.at-last-requires
+at-last-requires c = c.before.before.requires
+
+pub returns : goal.returns
+returns c = (c.before.before.at-first.ensures, c.at-last.ensures)

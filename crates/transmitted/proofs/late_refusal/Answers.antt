@@ -1,0 +1,62 @@
+use Prim.Native.Nat.{◌*◌, ◌≤◌, ◌^◌}
+use native.Mathlib.Nat.{mul-le-mul}
+use native.Mathlib.Omega.{arith}
+use borrow.Author.Rules.{rules}
+use borrow.Author.Tests.{eq-eqb, ne_eqb}
+use Rattle.grid.specs.Grid.{elements}
+use Rattle.elements.proofs.Laws.{count_le}
+use Rattle.transmitted.specs.Refusals.{late_refusal}
+use Rattle.transmitted.proofs.late_refusal.Goals.{Start}
+use Rattle.transmitted.proofs.late_refusal.Goals as goal
+
+-- the codeword's symbols fit a word
+symbols : (c : Start) → c.args.b.codeword * c.args.w ≤ 2 ^ 8 * elements
+symbols c =
+    let b = c.args.b in
+    let few : c.args.w ≤ elements = omega (arith, c.requires.1, count_le b.layout b.low b.width) in
+    mul-le-mul c.requires.0.codeword_small few
+
+pub returns-then-i-sent_subframes : goal.returns-then-i-sent_subframes
+unfolding late_refusal
+returns-then-i-sent_subframes c = simp (← c.before.sent_subframes.ensures.0, c.if-i-sent_subframes.true)
+
+pub returns-then-bits-codeword : goal.returns-then-bits-codeword
+unfolding late_refusal
+returns-then-bits-codeword c =
+    let p = c.before in
+    simp (← p.before.sent_subframes.ensures.0, p.if-i-sent_subframes.false, ← p.before.before.before.requires.1, c.if-bits-codeword.true)
+
+pub returns-then-not-in_range : goal.returns-then-not-in_range
+unfolding late_refusal
+returns-then-not-in_range c =
+    let r = c.before in
+    let o = r.before in
+    let p = o.before in
+    simp (← p.before.sent_subframes.ensures.0, p.if-i-sent_subframes.false, ← p.before.before.before.requires.1, o.if-bits-codeword.false, ← r.in_range_lem.ensures, c.if-not-in_range.true)
+
+pub returns-then-b-eq2 : goal.returns-then-b-eq2
+unfolding late_refusal
+returns-then-b-eq2 c =
+    let e = c.before.before in
+    let r = e.before in
+    let o = r.before in
+    let p = o.before in
+    simp (← p.before.sent_subframes.ensures.0, p.if-i-sent_subframes.false, ← p.before.before.before.requires.1, o.if-bits-codeword.false, ← r.in_range_lem.ensures, e.if-not-in_range.false, eq-eqb _ _ c.if-b-eq2.true)
+
+pub returns : goal.returns
+unfolding late_refusal
+returns c =
+    let e = c.before.before in
+    let r = e.before in
+    let o = r.before in
+    let p = o.before in
+    simp (← p.before.sent_subframes.ensures.0, p.if-i-sent_subframes.false, ← p.before.before.before.requires.1, o.if-bits-codeword.false, ← r.in_range_lem.ensures, e.if-not-in_range.false, ne_eqb _ _ c.if-b-eq2.false)
+
+pub overflow_mul-codeword : goal.overflow_mul-codeword
+overflow_mul-codeword c = omega (arith, symbols c.before.before.before)
+
+pub overflow_add-codeword : goal.overflow_add-codeword
+overflow_add-codeword c = omega (arith, symbols c.before.before.before)
+
+pub in_range-requires : goal.in_range-requires
+in_range-requires c = tt

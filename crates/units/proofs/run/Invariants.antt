@@ -1,0 +1,19 @@
+use mathlib.Core.Path.{◌≡◌, sym, ap, ap₂, subst, ◌∙◌}
+use Prim.Native.Nat.{ℕ, suc, ◌+◌, ◌-◌, ◌≤◌}
+use native.Mathlib.Omega.{arith}
+use Rattle.counting.specs.Counting.{rank, count}
+use Rattle.spans.specs.Pattern.{allows}
+use Rattle.units.specs.declared.Wants.{Wants}
+use Rattle.units.specs.declared.UnitStep.{UnitStep}
+use Rattle.units.specs.Quick.{begin_of, unit_step_of, Small, wants_from, rest_from}
+use Rattle.units.proofs.Lanes.{run_none, run_on, unit_free}
+use Rattle.units.proofs.run.Given as goal
+
+abbrev pub invariant-loop-n : goal.invariant-loop-n
+invariant-loop-n l =
+    (l.initial.n ≤ l.n) × (l.n ≤ l.to) × Small l.table l.n (wanted l.w1 l.w2 l.w3 l.w4) × (l.free ≡ rank (allows l.p) (begin_of l.table l.n))
+    × (wanted l.w1 l.w2 l.w3 l.w4 ≡ wants_from l.table (allows l.p) l.initial.n (wanted l.initial.w1 l.initial.w2 l.initial.w3 l.initial.w4) (l.n - l.initial.n))
+    × (l.k + rest_from l.table (allows l.p) l.initial.n (wanted l.initial.w1 l.initial.w2 l.initial.w3 l.initial.w4) (l.n - l.initial.n) ≡ l.initial.k)
+
+abbrev pub decreases-loop-n : goal.decreases-loop-n
+decreases-loop-n l = l.to - l.n

@@ -1,0 +1,6 @@
+use native.Mathlib.Omega.{arith}
+use borrow.Author.Rules.{rules}
+use Rattle.uplink.proofs.carried_by.Goals as goal
+
+pub returns : goal.returns
+returns c = (c.carried.ensures.0, omega (arith, c.carried.ensures.1, c.before.requires.codeword_small))

@@ -1,0 +1,11 @@
+use mathlib.Core.Path.{refl}
+use native.Mathlib.Nat.{mul-pos}
+use native.Mathlib.Omega.{arith}
+use Rattle.uplink.proofs.Joined.{sent_small}
+use Rattle.uplink.proofs.sent_slots.Goals as goal
+
+pub overflow_mul-result : goal.overflow_mul-result
+overflow_mul-result c = omega (arith, sent_small c.args.s c.requires)
+
+pub returns : goal.returns
+returns c = (refl, mul-pos c.requires.copies c.requires.codeword, sent_small c.args.s c.requires)
