@@ -11,4 +11,4 @@ pub same_downlink-requires : goal.same_downlink-requires
 same_downlink-requires c = tt
 
 pub returns : goal.returns
-returns c = let b = c.before in c.same_downlink.ensures.same (b.before.forward-a.ensures ∙ sym b.forward_npdcch-b.ensures)
+returns c = let b = c in c.same_downlink.ensures.same (b.forward-a.ensures ∙ sym b.forward_npdcch-b.ensures)

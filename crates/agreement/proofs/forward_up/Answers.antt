@@ -11,4 +11,4 @@ pub same_uplink-requires : goal.same_uplink-requires
 same_uplink-requires c = tt
 
 pub returns : goal.returns
-returns c = let b = c.before in c.same_uplink.ensures.same (b.before.forward_beside-a.ensures ∙ sym b.forward_npusch-b.ensures)
+returns c = let b = c in c.same_uplink.ensures.same (b.forward_beside-a.ensures ∙ sym b.forward_npusch-b.ensures)

@@ -6,9 +6,9 @@ use Rattle.agreement.proofs.step.Goals as goal
 
 pub returns : goal.returns
 returns c =
-    let s = c.before.before in
-    let b = s.before.before.before in
-    let e = b.before.step_value-a.ensures ∙ sym b.step_value-b.ensures in
+    let s = c in
+    let b = s in
+    let e = b.step_value-a.ensures ∙ sym b.step_value-b.ensures in
     both _ _ (s.same_step.ensures.same (ap (λ (x : Stepped). x.answer) e)) (eq-eqb _ _ (ap (λ (x : Stepped). x.walk.p) e))
 
 pub step_value-a-requires : goal.step_value-a-requires

@@ -17,8 +17,8 @@ returns-then-b-bytes c =
 
 pub bounds-b-1 : goal.bounds-b-1
 bounds-b-1 c =
-    let e2 = c.before.before in
-    omega (arith, e2.if-b-bytes.false, e2.before.bytes.ensures, two_bytes _ c.before.if-bits-eq10.true)
+    let e2 = c in
+    omega (arith, e2.if-b-bytes.false, e2.bytes.ensures, two_bytes _ c.if-bits-eq10.true)
 
 pub returns-then-bits-eq10 : goal.returns-then-bits-eq10
 unfolding bad_bitmap

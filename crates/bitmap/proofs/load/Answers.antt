@@ -10,37 +10,37 @@ use Rattle.bitmap.proofs.load.Goals.{Else-bits-eq0, Else-bits-eq10}
 use Rattle.bitmap.proofs.load.Goals as goal
 
 pub returns-then-bits-eq0 : goal.returns-then-bits-eq0
-returns-then-bits-eq0 c = rw c.if-bits-eq0.true (loaded_none _ (λ q. (c.before.shared_slice_known-1.given q).fits))
+returns-then-bits-eq0 c = rw c.if-bits-eq0.true (loaded_none _ (λ q. (c.shared_slice_known-1.given q).fits))
 
 -- two bytes are there where the bitmap is not empty, and five where it has not ten bits either
 two : (c : Else-bits-eq0) → 2 ≤ length c.before.before.args.b.now
-two c = omega (arith, some_bytes _ c.before.before.requires.listed c.if-bits-eq0.false, c.before.before.requires.long)
+two c = omega (arith, some_bytes _ c.requires.listed c.if-bits-eq0.false, c.requires.long)
 
 is_forty : (c : Else-bits-eq10) → c.before.before.before.before.before.before.before.args.bits ≡ 40
 is_forty c =
-    let e1 = c.before.before.before.before.before in
-    forty_bits _ e1.before.before.requires.listed e1.if-bits-eq0.false c.if-bits-eq10.false
+    let e1 = c in
+    forty_bits _ e1.requires.listed e1.if-bits-eq0.false c.if-bits-eq10.false
 
 five : (c : Else-bits-eq10) → 5 ≤ length c.before.before.before.before.before.before.before.args.b.now
-five c = let a = c.before.before.before.before.before.before.before in omega (arith, five_bytes _ (is_forty c), a.requires.long)
+five c = let a = c in omega (arith, five_bytes _ (is_forty c), a.requires.long)
 
 pub returns-then-bits-eq10 : goal.returns-then-bits-eq10
 returns-then-bits-eq10 c =
-    let r2 = c.before in
-    let r1 = r2.before.before in
-    let e1 = r1.before.before in
-    rw (c.if-bits-eq10.true, r2.wide-b1.ensures.0, r1.wide-b0.ensures.0) (loaded_ten _ (λ q. (e1.before.shared_slice_known-1.given q).fits))
+    let r2 = c in
+    let r1 = r2 in
+    let e1 = r1 in
+    rw (c.if-bits-eq10.true, r2.wide-b1.ensures.0, r1.wide-b0.ensures.0) (loaded_ten _ (λ q. (e1.shared_slice_known-1.given q).fits))
 
 pub returns : goal.returns
 returns c =
-    let r4 = c.before.before in
-    let r3 = r4.before.before in
-    let e2 = r3.before.before in
-    let r2 = e2.before in
-    let r1 = r2.before.before in
-    let e1 = r1.before.before in
-    rw (is_forty e2, c.wide-b4.ensures.0, r4.wide-b3.ensures.0, r3.wide-b2.ensures.0, r2.wide-b1.ensures.0, r1.wide-b0.ensures.0)
-    (loaded_forty _ (λ q. (e1.before.shared_slice_known-1.given q).fits))
+    let r4 = c in
+    let r3 = r4 in
+    let e2 = r3 in
+    let r2 = e2 in
+    let r1 = r2 in
+    let e1 = r1 in
+    rw (is_forty e2.before.before.before.before.before.before, c.wide-b4.ensures.0, r4.wide-b3.ensures.0, r3.wide-b2.ensures.0, r2.wide-b1.ensures.0, r1.wide-b0.ensures.0)
+    (loaded_forty _ (λ q. (e1.shared_slice_known-1.given q).fits))
 
 pub bounds-b-0 : goal.bounds-b-0
 bounds-b-0 c = omega (arith, two c.before)

@@ -18,18 +18,18 @@ abbrev start : After-is_inside → Start
 start c = c.before.before.before.before.before
 
 inside : (c : Else-not-is_inside) → inside_grid (start c.before).args.slot (start c.before).args.l (start c.before).args.k ≡ true
-inside c = sym c.before.is_inside.ensures ∙ not-false _ c.if-not-is_inside.false
+inside c = sym c.is_inside.ensures ∙ not-false _ c.if-not-is_inside.false
 
 fit : (c : After-npbch_burst-b) → Fits c.npbch_burst-b.result
 fit c =
-    let i = c.before.before.before.before in
-    let r = i.before.before in
-    let a = (start i).args in
-    fits a.c _ _ (npbch_of a.c.config) (npbch_sent a.c.config) (sym r.refusal-no.ensures ∙ i.before.if-no-ne0.false) _ c.npbch_burst-b.ensures
+    let i = c in
+    let r = i in
+    let a = (start i.before.before.before.before.before).args in
+    fits a.c _ _ (npbch_of a.c.config) (npbch_sent a.c.config) (sym r.refusal-no.ensures ∙ i.if-no-ne0.false) _ c.npbch_burst-b.ensures
 
 -- the subframe is the channel's
 is_own_lem : (c : Else-not-is_npbch) → npbch ((start c.before.before.before).args.t % 640) ≡ true
-is_own_lem c = sym c.before.is_npbch.ensures ∙ not-false _ c.if-not-is_npbch.false
+is_own_lem c = sym c.is_npbch.ensures ∙ not-false _ c.if-not-is_npbch.false
 
 pub refusal-no-requires : goal.refusal-no-requires
 refusal-no-requires c = tt
@@ -39,10 +39,10 @@ refused-requires c = tt
 
 pub returns-then-no-ne0 : goal.returns-then-no-ne0
 returns-then-no-ne0 c =
-    let r = c.before.before in
-    let a = r.before.before.before.args in
+    let r = c in
+    let a = r.args in
     c.refused.ensures
-    ∙ backward_refused a.c _ _ (npbch_of a.c.config) (npbch_sent a.c.config) _ r.refusal-no.ensures c.before.if-no-ne0.true a.t a.slot a.l a.k
+    ∙ backward_refused a.c _ _ (npbch_of a.c.config) (npbch_sent a.c.config) _ r.refusal-no.ensures c.if-no-ne0.true a.t a.slot a.l a.k
 
 pub is_inside-requires : goal.is_inside-requires
 is_inside-requires c = tt
@@ -52,12 +52,12 @@ refused-requires-then-not-is_inside c = tt
 
 pub returns-then-not-is_inside : goal.returns-then-not-is_inside
 returns-then-not-is_inside c =
-    let i = c.before.before in
-    let r = i.before.before in
-    let a = (start i).args in
+    let i = c in
+    let r = i in
+    let a = (start i.before.before).args in
     c.refused-then-not-is_inside.ensures
-    ∙ backward_outside a.c _ _ (npbch_of a.c.config) (npbch_sent a.c.config) (sym r.refusal-no.ensures ∙ i.before.if-no-ne0.false)
-    (npbch_of a.c.config).burst refl a.t a.slot a.l a.k (sym i.is_inside.ensures ∙ not-true _ c.before.if-not-is_inside.true)
+    ∙ backward_outside a.c _ _ (npbch_of a.c.config) (npbch_sent a.c.config) (sym r.refusal-no.ensures ∙ i.if-no-ne0.false)
+    (npbch_of a.c.config).burst refl a.t a.slot a.l a.k (sym i.is_inside.ensures ∙ not-true _ c.if-not-is_inside.true)
 
 pub is_npbch-requires : goal.is_npbch-requires
 is_npbch-requires c = tt
@@ -67,13 +67,13 @@ not_ours-requires c = tt
 
 pub returns-then-not-is_npbch : goal.returns-then-not-is_npbch
 returns-then-not-is_npbch c =
-    let o = c.before.before in
-    let i = o.before.before in
-    let r = i.before.before in
-    let a = (start i).args in
+    let o = c in
+    let i = o in
+    let r = i in
+    let a = (start i.before.before.before.before).args in
     c.not_ours.ensures
-    ∙ backward_not a.c _ _ (npbch_of a.c.config) (npbch_sent a.c.config) (sym r.refusal-no.ensures ∙ i.before.if-no-ne0.false)
-    (npbch_of a.c.config).burst refl a.t a.slot a.l a.k (inside o.before) (sym o.is_npbch.ensures ∙ not-true _ c.before.if-not-is_npbch.true)
+    ∙ backward_not a.c _ _ (npbch_of a.c.config) (npbch_sent a.c.config) (sym r.refusal-no.ensures ∙ i.if-no-ne0.false)
+    (npbch_of a.c.config).burst refl a.t a.slot a.l a.k (inside o.before.before.before) (sym o.is_npbch.ensures ∙ not-true _ c.if-not-is_npbch.true)
 
 pub npbch_burst-b-requires : goal.npbch_burst-b-requires
 npbch_burst-b-requires c = tt
@@ -81,21 +81,21 @@ npbch_burst-b-requires c = tt
 pub use_at-x-requires : goal.use_at-x-requires
 use_at-x-requires c =
     let d = c in
-    let e = d.before.before.before in
-    let a = (start e.before).args in
-    let g = inside_parts a.slot a.l a.k (inside e) in
-    ((fit d).layout, (fit d).part, g.0, g.1, g.2)
+    let e = d in
+    let a = (start e.before.before.before.before.before.before).args in
+    let g = inside_parts a.slot a.l a.k (inside e.before.before.before.before.before) in
+    ((fit d.before).layout, (fit d.before).part, g.0, g.1, g.2)
 
 pub in_use-requires : goal.in_use-requires
-in_use-requires c = let d = c.before in (fit d, omega arith, use_below d.npbch_burst-b.result _ _ c.use_at-x.ensures)
+in_use-requires c = let d = c in (fit d.before.before, omega arith, use_below d.npbch_burst-b.result _ _ c.use_at-x.ensures)
 
 pub returns : goal.returns
 returns c =
-    let d = c.before.before in
-    let e = d.before.before.before in
-    let i = e.before in
-    let r = i.before.before in
-    let a = (start i).args in
-    backward_at a.c _ _ (npbch_of a.c.config) (npbch_sent a.c.config) (sym r.refusal-no.ensures ∙ i.before.if-no-ne0.false) _ d.npbch_burst-b.ensures
-    a.t a.slot a.l a.k (inside e) (is_own_lem d.before) (omega arith) _ (sym (npbch_before (a.t % 640) (omega arith) (is_own_lem d.before))) _
-    (c.in_use.ensures _ c.before.use_at-x.ensures)
+    let d = c in
+    let e = d in
+    let i = e in
+    let r = i in
+    let a = (start i.before.before.before.before.before.before.before.before).args in
+    backward_at a.c _ _ (npbch_of a.c.config) (npbch_sent a.c.config) (sym r.refusal-no.ensures ∙ i.if-no-ne0.false) _ d.npbch_burst-b.ensures
+    a.t a.slot a.l a.k (inside e.before.before.before.before.before.before.before) (is_own_lem d.before.before.before.before.before) (omega arith) _ (sym (npbch_before (a.t % 640) (omega arith) (is_own_lem d.before.before.before.before.before))) _
+    (c.in_use.ensures _ c.use_at-x.ensures)

@@ -16,15 +16,15 @@ use Rattle.broadcast.proofs.forward_sib1.Goals as goal
 
 fit : (c : After-sib1_burst-b) → Fits c.sib1_burst-b.result
 fit c =
-    let r = c.before.before in
-    let a = r.before.before.before.args in
-    fits a.c _ _ (sib1_of a.c.config) (sib1_sent a.c.config) (sym r.refusal-no.ensures ∙ c.before.if-no-ne0.false) _ c.sib1_burst-b.ensures
+    let r = c in
+    let a = r.args in
+    fits a.c _ _ (sib1_of a.c.config) (sib1_sent a.c.config) (sym r.refusal-no.ensures ∙ c.if-no-ne0.false) _ c.sib1_burst-b.ensures
 
 all : (c : After-sent_subframes) → c.sent_subframes.result * c.before.used_elements-w.result ≡ places c.before.before.sib1_burst-b.result
-all c = ap₂ (λ (x y : ℕ). x * y) c.sent_subframes.ensures.0 c.before.used_elements-w.ensures.0
+all c = ap₂ (λ (x y : ℕ). x * y) c.sent_subframes.ensures.0 c.used_elements-w.ensures.0
 
 own : After-sib1_burst-b → ℕ → Bool
-own c = let a = c.before.before.before.before.before.args.c.config in sib1 a.identity a.sib1
+own c = let a = c.args.c.config in sib1 a.identity a.sib1
 
 -- how many places there are, and that the position is one of them
 module _ (c : Else-p-total) where
@@ -32,10 +32,10 @@ module _ (c : Else-p-total) where
   b = c.before.before.before
 
   abbrev p : ℕ
-  p = b.before.before.before.before.before.args.p
+  p = b.args.p
 
   abbrev w : ℕ
-  w = c.before.before.used_elements-w.result
+  w = c.used_elements-w.result
 
   held : p < places b.sib1_burst-b.result
   held = omega (arith, c.if-p-total.false, all c.before)
@@ -45,14 +45,14 @@ module _ (c : Else-p-total) where
       omega (
         arith,
         c.if-p-total.false,
-        places_small c.before.sent_subframes.result w c.before.sent_subframes.ensures.2 c.before.before.used_elements-w.ensures.2,
+        places_small c.sent_subframes.result w c.sent_subframes.ensures.2 c.used_elements-w.ensures.2,
       )
 
   unit : p / w < sent_subframes b.sib1_burst-b.result
-  unit = unit_below (own b) 2560 b.sib1_burst-b.result p (fit b) w held c.before.before.used_elements-w.ensures.0
+  unit = unit_below (own b) 2560 b.sib1_burst-b.result p (fit b) w held c.used_elements-w.ensures.0
 
   rest : p % w < count_of b.sib1_burst-b.result.layout b.sib1_burst-b.result.low b.sib1_burst-b.result.width
-  rest = rest_below (own b) 2560 b.sib1_burst-b.result p (fit b) w held c.before.before.used_elements-w.ensures.0
+  rest = rest_below (own b) 2560 b.sib1_burst-b.result p (fit b) w held c.used_elements-w.ensures.0
 
 -- unit and element of it
 module _ (c : After-quotient-i) where
@@ -69,8 +69,8 @@ module _ (c : After-quotient-i) where
 
 in_period : (c : After-sib1_frame-frame) → c.sib1_frame-frame.result < 256
 in_period c =
-    let a = (b c.before.before).before.before.before.before.before.args.c.config in
-    omega (arith, c.sib1_frame-frame.ensures, sib1_below a.identity a.sib1 c.before.quotient-i.result (below c.before))
+    let a = (b c.before.before).args.c.config in
+    omega (arith, c.sib1_frame-frame.ensures, sib1_below a.identity a.sib1 c.quotient-i.result (below c.before))
 
 pub refusal-no-requires : goal.refusal-no-requires
 refusal-no-requires c = tt
@@ -80,10 +80,10 @@ refused_place-requires c = tt
 
 pub returns-then-no-ne0 : goal.returns-then-no-ne0
 returns-then-no-ne0 c =
-    let r = c.before.before in
-    let a = r.before.before.before.args in
+    let r = c in
+    let a = r.args in
     c.refused_place.ensures
-    ∙ forward_refused a.c _ _ (sib1_of a.c.config) (sib1_sent a.c.config) _ r.refusal-no.ensures c.before.if-no-ne0.true a.p
+    ∙ forward_refused a.c _ _ (sib1_of a.c.config) (sib1_sent a.c.config) _ r.refusal-no.ensures c.if-no-ne0.true a.p
 
 pub sib1_burst-b-requires : goal.sib1_burst-b-requires
 sib1_burst-b-requires c = tt
@@ -95,23 +95,23 @@ pub sent_subframes-requires : goal.sent_subframes-requires
 sent_subframes-requires c = fit c.before
 
 pub overflow_mul-total : goal.overflow_mul-total
-overflow_mul-total c = omega (arith, places_small c.sent_subframes.result c.before.used_elements-w.result c.sent_subframes.ensures.2 c.before.used_elements-w.ensures.2)
+overflow_mul-total c = omega (arith, places_small c.sent_subframes.result c.used_elements-w.result c.sent_subframes.ensures.2 c.used_elements-w.ensures.2)
 
 pub refused_place-requires-then-p-total : goal.refused_place-requires-then-p-total
 refused_place-requires-then-p-total c = tt
 
 pub returns-then-p-total : goal.returns-then-p-total
 returns-then-p-total c =
-    let t = c.before in
-    let d = t.before.before.before in
-    let r = d.before.before in
-    let a = r.before.before.before.args in
+    let t = c in
+    let d = t in
+    let r = d in
+    let a = r.args in
     c.refused_place-then-p-total.ensures
-    ∙ forward_past a.c _ _ (sib1_of a.c.config) (sib1_sent a.c.config) (sym r.refusal-no.ensures ∙ d.before.if-no-ne0.false) _ d.sib1_burst-b.ensures
-    a.p (omega (arith, all t.before, t.if-p-total.true))
+    ∙ forward_past a.c _ _ (sib1_of a.c.config) (sib1_sent a.c.config) (sym r.refusal-no.ensures ∙ d.if-no-ne0.false) _ d.sib1_burst-b.ensures
+    a.p (omega (arith, all t.before.before, t.if-p-total.true))
 
 pub quotient-i-requires : goal.quotient-i-requires
-quotient-i-requires c = (omega (arith, small c), omega (arith, c.before.before.used_elements-w.ensures.1), omega (arith, c.before.before.used_elements-w.ensures.2))
+quotient-i-requires c = (omega (arith, small c), omega (arith, c.used_elements-w.ensures.1), omega (arith, c.used_elements-w.ensures.2))
 
 pub overflow_mul-e : goal.overflow_mul-e
 overflow_mul-e c = omega (arith, split c, small c.before)
@@ -124,35 +124,35 @@ sib1_frame-frame-requires c = below c
 
 pub element_at-x-requires : goal.element_at-x-requires
 element_at-x-requires c =
-    let f = fit (b c.before.before) in
-    (f.layout, f.part, omega (arith, element c.before, rest c.before.before))
+    let f = fit (b c.before.before.before) in
+    (f.layout, f.part, omega (arith, element c.before.before, rest c.before.before.before))
 
 pub carried_by-unit-requires : goal.carried_by-unit-requires
-carried_by-unit-requires c = fit (b c.before.before.before)
+carried_by-unit-requires c = fit (b c.before.before.before.before)
 
 pub overflow_mul-frame : goal.overflow_mul-frame
-overflow_mul-frame c = omega (arith, in_period c.before.before)
+overflow_mul-frame c = omega (arith, in_period c.before.before.before)
 
 pub overflow_add-frame : goal.overflow_add-frame
-overflow_add-frame c = omega (arith, in_period c.before.before)
+overflow_add-frame c = omega (arith, in_period c.before.before.before)
 
 pub item-requires : goal.item-requires
 item-requires c =
-    let q = c.before.before.before in
-    let u = q.before.before.before.used_elements-w.ensures in
-    (omega (arith, c.carried_by-unit.ensures.1), omega (arith, u.2), omega (arith, element q, rest q.before, u.0))
+    let q = c in
+    let u = q.used_elements-w.ensures in
+    (omega (arith, c.carried_by-unit.ensures.1), omega (arith, u.2), omega (arith, element q.before.before.before.before, rest q.before.before.before.before.before, u.0))
 
 pub place-requires : goal.place-requires
 place-requires c = tt
 
 pub returns : goal.returns
 returns c =
-    let k = c.before.before in
-    let q = k.before.before.before in
-    let d = b q.before in
+    let k = c in
+    let q = k in
+    let d = b q.before.before.before.before.before.before.before in
     let r = d.before.before in
     let a = r.before.before.before.args in
     c.place.ensures
     ∙ forward_at a.c _ _ (sib1_of a.c.config) (sib1_sent a.c.config) (sym r.refusal-no.ensures ∙ d.before.if-no-ne0.left) _ d.sib1_burst-b.ensures
-    a.p _ _ _ _ _ _ _ (held q.before) q.before.before.before.used_elements-w.ensures.0 q.quotient-i.ensures (element q)
-    (ap (λ (f : ℕ). 10 * f + 4) k.before.before.sib1_frame-frame.ensures ∙ sym (sib1_at a.c.config.identity a.c.config.sib1 q.quotient-i.result (below q))) k.before.element_at-x.ensures k.carried_by-unit.ensures.0 c.before.item.ensures
+    a.p _ _ _ _ _ _ _ (held q.before.before.before.before.before.before.before) q.used_elements-w.ensures.0 q.quotient-i.ensures (element q.before.before.before.before.before.before)
+    (ap (λ (f : ℕ). 10 * f + 4) k.sib1_frame-frame.ensures ∙ sym (sib1_at a.c.config.identity a.c.config.sib1 q.quotient-i.result (below q.before.before.before.before.before.before))) k.element_at-x.ensures k.carried_by-unit.ensures.0 c.item.ensures

@@ -10,4 +10,4 @@ pub burst-requires : goal.burst-requires
 burst-requires c = tt
 
 pub returns : goal.returns
-returns c = simp (c.burst.ensures, c.before.before.sib1_copies-copies.ensures, c.before.before.before.sib1_control-control.ensures)
+returns c = simp (c.burst.ensures, c.sib1_copies-copies.ensures, c.sib1_control-control.ensures)

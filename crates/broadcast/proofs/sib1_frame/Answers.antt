@@ -17,7 +17,7 @@ frame s r e = ap (λ (r : ℕ). frame_by r s.args.identity s.args.i) (sym e)
 
 -- neither 0 nor 1
 two : (c : Else-k-eq1) → c.before.before.args.schedule % 3 ≡ 2
-two c = omega (arith, c.before.if-k-eq0.false, c.if-k-eq1.false)
+two c = omega (arith, c.if-k-eq0.false, c.if-k-eq1.false)
 
 pub overflow_mul-result : goal.overflow_mul-result
 overflow_mul-result c = omega arith

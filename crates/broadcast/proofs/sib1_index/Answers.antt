@@ -21,7 +21,7 @@ module _ (s : Start) (r : ℕ) (e : s.args.schedule % 3 ≡ r) where
 
 -- neither 0 nor 1
 two : (c : Else-k-eq1) → c.before.before.args.schedule % 3 ≡ 2
-two c = omega (arith, c.before.if-k-eq0.false, c.if-k-eq1.false)
+two c = omega (arith, c.if-k-eq0.false, c.if-k-eq1.false)
 
 pub overflow_mul-x : goal.overflow_mul-x
 overflow_mul-x c = omega arith
@@ -30,13 +30,13 @@ pub overflow_sub-x : goal.overflow_sub-x
 overflow_sub-x c = late c.before 0 c.if-k-eq0.true
 
 pub overflow_mul-result : goal.overflow_mul-result
-overflow_mul-result c = omega (arith, c.before.requires.0)
+overflow_mul-result c = omega (arith, c.requires.0)
 
 pub overflow_add-result : goal.overflow_add-result
-overflow_add-result c = omega (arith, c.before.requires.0)
+overflow_add-result c = omega (arith, c.requires.0)
 
 pub returns-then-k-eq0 : goal.returns-then-k-eq0
-returns-then-k-eq0 c = (index c.before 0 c.if-k-eq0.true, omega (arith, c.before.requires.0))
+returns-then-k-eq0 c = (index c.before 0 c.if-k-eq0.true, omega (arith, c.requires.0))
 
 pub overflow_mul-x-then-k-eq1 : goal.overflow_mul-x-then-k-eq1
 overflow_mul-x-then-k-eq1 c = omega arith
@@ -45,22 +45,22 @@ pub overflow_sub-x-then-k-eq1 : goal.overflow_sub-x-then-k-eq1
 overflow_sub-x-then-k-eq1 c = late c.before.before 1 c.if-k-eq1.true
 
 pub overflow_mul-result-then-k-eq1 : goal.overflow_mul-result-then-k-eq1
-overflow_mul-result-then-k-eq1 c = omega (arith, c.before.before.requires.0)
+overflow_mul-result-then-k-eq1 c = omega (arith, c.requires.0)
 
 pub overflow_add-result-then-k-eq1 : goal.overflow_add-result-then-k-eq1
-overflow_add-result-then-k-eq1 c = omega (arith, c.before.before.requires.0)
+overflow_add-result-then-k-eq1 c = omega (arith, c.requires.0)
 
 pub returns-then-k-eq1 : goal.returns-then-k-eq1
-returns-then-k-eq1 c = (index c.before.before 1 c.if-k-eq1.true, omega (arith, c.before.before.requires.0))
+returns-then-k-eq1 c = (index c.before.before 1 c.if-k-eq1.true, omega (arith, c.requires.0))
 
 pub overflow_sub-x-2 : goal.overflow_sub-x-2
 overflow_sub-x-2 c = late c.before.before 2 (two c)
 
 pub overflow_mul-result-2 : goal.overflow_mul-result-2
-overflow_mul-result-2 c = omega (arith, c.before.before.requires.0)
+overflow_mul-result-2 c = omega (arith, c.requires.0)
 
 pub overflow_add-result-2 : goal.overflow_add-result-2
-overflow_add-result-2 c = omega (arith, c.before.before.requires.0)
+overflow_add-result-2 c = omega (arith, c.requires.0)
 
 pub returns : goal.returns
-returns c = (index c.before.before 2 (two c), omega (arith, c.before.before.requires.0))
+returns c = (index c.before.before 2 (two c), omega (arith, c.requires.0))

@@ -5,4 +5,4 @@ pub messages_from-messages-requires : goal.messages_from-messages-requires
 messages_from-messages-requires c = tt
 
 pub returns : goal.returns
-returns c = simp (c.messages_from-messages.ensures, c.before.config_at-config.ensures)
+returns c = simp (c.messages_from-messages.ensures, c.config_at-config.ensures)

@@ -2,4 +2,4 @@ use borrow.Author.Rules.{rules}
 use Rattle.buffers.proofs.npdsch_walk.Goals as goal
 
 pub returns : goal.returns
-returns c = let g = c.before in simp (g.npdsch_at.ensures, g.before.cell_in-cell.ensures)
+returns c = let g = c in simp (g.npdsch_at.ensures, g.cell_in-cell.ensures)

@@ -8,4 +8,4 @@ pub windows_of-requires : goal.windows_of-requires
 windows_of-requires c = tt
 
 pub returns : goal.returns
-returns c = let w = c.before in let g = w.before in simp (w.windows_of.ensures, g.npusch_at.ensures, g.before.no_cell-cell.ensures)
+returns c = let w = c in let g = w in simp (w.windows_of.ensures, g.npusch_at.ensures, g.no_cell-cell.ensures)

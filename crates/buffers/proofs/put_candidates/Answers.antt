@@ -11,14 +11,14 @@ use Rattle.buffers.proofs.put_candidates.Goals as goal
 
 -- room for three more
 room : (c : After-x-1) → 3 * c.before.before.loop-k.k + 5 < length c.before.before.loop-k.s
-room c = omega (arith, c.before.loop-k-test.true, c.before.before.loop-k.invariant.1)
+room c = omega (arith, c.loop-k-test.true, c.loop-k.invariant.1)
 
 pub loop-k-preserved : goal.loop-k-preserved
 loop-k-preserved c =
-    let l = c.before.before in (
-      omega (arith, c.before.loop-k-test.true),
+    let l = c in (
+      omega (arith, c.loop-k-test.true),
       simp length-set l.loop-k.invariant.1,
-      laid_next l.before.args.list l.before.args.s.now l.loop-k.s l.loop-k.k l.loop-k.invariant.2,
+      laid_next l.args.list l.args.s.now l.loop-k.s l.loop-k.k l.loop-k.invariant.2,
     )
 
 pub loop-k-init : goal.loop-k-init
@@ -35,11 +35,11 @@ bounds-s-i-in-loop-k-2 c = simp length-set (omega (arith, room c))
 
 pub shape_of-s : goal.shape_of-s
 shape_of-s c =
-    let l = c.before in
-    ap length l.loop-k.invariant.2 ∙ length-sets l.before.args.s.now 3 (candidate_numbers l.before.args.list 0 l.loop-k.k)
+    let l = c in
+    ap length l.loop-k.invariant.2 ∙ length-sets l.args.s.now 3 (candidate_numbers l.args.list 0 l.loop-k.k)
 
 pub returns : goal.returns
 returns c =
-    let l = c.before in
+    let l = c in
     let e : l.loop-k.k ≡ 15 = omega (arith, c.loop-k-test.false, l.loop-k.invariant.0) in
-    l.loop-k.invariant.2 ∙ ap (λ (k : ℕ). sets l.before.args.s.now 3 (candidate_numbers l.before.args.list 0 k)) e
+    l.loop-k.invariant.2 ∙ ap (λ (k : ℕ). sets l.args.s.now 3 (candidate_numbers l.args.list 0 k)) e

@@ -6,4 +6,4 @@ pub cause_number-requires : goal.cause_number-requires
 cause_number-requires c = tt
 
 pub returns : goal.returns
-returns c = let p = c.before.before in p.put2.ensures ∙ simp p.before.cause_number.ensures
+returns c = let p = c in p.put2.ensures ∙ simp p.cause_number.ensures

@@ -6,4 +6,4 @@ pub cause_number-number-requires : goal.cause_number-number-requires
 cause_number-number-requires c = tt
 
 pub returns : goal.returns
-returns c = let p = c.before.before in p.put6.ensures ∙ simp p.before.before.cause_number-number.ensures
+returns c = let p = c in p.put6.ensures ∙ simp p.cause_number-number.ensures

@@ -12,9 +12,9 @@ use Rattle.buffers.proofs.put_element.Goals as goal
 
 pub returns : goal.returns
 returns c =
-    let p = c.before.before in
-    let a = p.before.before in
-    let x = a.before.before.before in
+    let p = c in
+    let a = p in
+    let x = a in
     ap₂ (λ (y : ℕ × List ℕ) (l : List Float). (y.0, y.1, l)) p.put2.ensures
     (stored (a.numbers-a.result.re ∷ a.numbers-a.result.im ∷ []) x.args.amplitudes.now x.requires.1)
     ∙ ap (λ (n : ElementNumbers). put_element n x.args.s.now x.args.amplitudes.now) a.numbers-a.ensures

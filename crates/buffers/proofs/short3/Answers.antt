@@ -8,4 +8,4 @@ pub short2-requires : goal.short2-requires
 short2-requires c = tt
 
 pub returns : goal.returns
-returns c = short3_rest c.before.if-s-m.false c.short2.ensures
+returns c = short3_rest c.if-s-m.false c.short2.ensures

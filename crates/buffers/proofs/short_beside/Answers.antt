@@ -8,4 +8,4 @@ pub short2-requires : goal.short2-requires
 short2-requires c = tt
 
 pub returns : goal.returns
-returns c = beside_rest c.before.if-windows.false c.short2.ensures
+returns c = beside_rest c.if-windows.false c.short2.ensures

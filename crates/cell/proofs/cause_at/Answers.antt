@@ -9,4 +9,4 @@ pub cause_lent-requires : goal.cause_lent-requires
 cause_lent-requires c = tt
 
 pub returns : goal.returns
-returns c = rw (c.before.before.numbers-si.ensures, lent_again _) at c.cause_lent.ensures
+returns c = rw (c.numbers-si.ensures, lent_again _) at c.cause_lent.ensures

@@ -8,7 +8,7 @@ pub cause_alone-requires : goal.cause_alone-requires
 cause_alone-requires c = tt
 
 pub returns-then-is_silent : goal.returns-then-is_silent
-returns-then-is_silent c = let t = c.before in c.cause_alone.ensures _ (sym t.before.is_silent.ensures ∙ t.if-is_silent.true)
+returns-then-is_silent c = let t = c in c.cause_alone.ensures _ (sym t.is_silent.ensures ∙ t.if-is_silent.true)
 
 pub cause_beside-requires : goal.cause_beside-requires
 cause_beside-requires c = tt

@@ -14,10 +14,10 @@ pub config_refusal-no-requires : goal.config_refusal-no-requires
 config_refusal-no-requires c = tt
 
 pub formed_alone-requires : goal.formed_alone-requires
-formed_alone-requires c = sym c.before.config_refusal-no.ensures ∙ c.if-no-ne0.false
+formed_alone-requires c = sym c.config_refusal-no.ensures ∙ c.if-no-ne0.false
 
 pub counted-requires : goal.counted-requires
-counted-requires c = λ z. let e = c.before in config_numbers _ _ (sym e.before.config_refusal-no.ensures ∙ e.if-no-ne0.false)
+counted-requires c = λ z. let e = c in config_numbers _ _ (sym e.config_refusal-no.ensures ∙ e.if-no-ne0.false)
 
 pub returns : goal.returns
-returns c = λ ms silent. rw (c.before.formed_alone.ensures ms silent).number at c.counted.ensures
+returns c = λ ms silent. rw (c.formed_alone.ensures ms silent).number at c.counted.ensures

@@ -16,7 +16,7 @@ unfolding count_after
 returns-then-no-ne0 c = simp (ne_eqb _ _ c.if-no-ne0.true)
 
 valid : (c : After-layout) → Valid c.layout.result
-valid c = let e = c.before in subst Valid (sym c.layout.ensures) (layout_valid _ (e.before.requires e.if-no-ne0.false))
+valid c = let e = c in subst Valid (sym c.layout.ensures) (layout_valid _ (e.requires e.if-no-ne0.false))
 
 pub returns : goal.returns
 unfolding count_after

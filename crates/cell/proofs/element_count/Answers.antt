@@ -9,4 +9,4 @@ pub count_lent-requires : goal.count_lent-requires
 count_lent-requires c = tt
 
 pub returns : goal.returns
-returns c = rw (c.before.before.numbers-si.ensures, lent_again _) at c.count_lent.ensures
+returns c = rw (c.numbers-si.ensures, lent_again _) at c.count_lent.ensures

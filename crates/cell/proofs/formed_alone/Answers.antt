@@ -5,27 +5,27 @@ use Rattle.cell.proofs.formed_alone.Goals as goal
 
 pub returns-then-m-eq0 : goal.returns-then-m-eq0
 returns-then-m-eq0 c =
-    let l = c.before.before in
-    eight_alone _ _ ms silent l.load-m.result l.before.before.requires l.load-m.ensures _ c.before.if-m-eq0.true c.refused.ensures
+    let l = c in
+    eight_alone _ _ ms silent l.load-m.result l.requires l.load-m.ensures _ c.if-m-eq0.true c.refused.ensures
 
 pub returns-then-is_empty : goal.returns-then-is_empty
 returns-then-is_empty c =
-    let i = c.before.before in
-    let p = i.before in
-    let l = p.before.before in
-    eighteen_alone _ _ ms silent l.load-m.result l.before.before.requires l.load-m.ensures p.before.if-m-eq0.false _ p.pattern-p.ensures _
-    (sym i.is_empty.ensures ∙ c.before.if-is_empty.true) c.refused-then-is_empty.ensures
+    let i = c in
+    let p = i in
+    let l = p in
+    eighteen_alone _ _ ms silent l.load-m.result l.requires l.load-m.ensures p.if-m-eq0.false _ p.pattern-p.ensures _
+    (sym i.is_empty.ensures ∙ c.if-is_empty.true) c.refused-then-is_empty.ensures
 
 pub returns : goal.returns
 returns c =
-    let i = c.before in
-    let p = i.before in
-    let l = p.before.before in
-    accepted_alone _ _ ms silent l.load-m.result l.before.before.requires l.load-m.ensures p.before.if-m-eq0.false _ p.pattern-p.ensures
+    let i = c in
+    let p = i in
+    let l = p in
+    accepted_alone _ _ ms silent l.load-m.result l.requires l.load-m.ensures p.if-m-eq0.false _ p.pattern-p.ensures
     (sym i.is_empty.ensures ∙ c.if-is_empty.false)
 
 pub load-m-requires : goal.load-m-requires
-load-m-requires c = config_bitmap _ _ c.before.requires
+load-m-requires c = config_bitmap _ _ c.requires
 
 pub refused-requires : goal.refused-requires
 refused-requires c = tt
@@ -35,8 +35,8 @@ pattern-p-requires c = tt
 
 pub is_empty-requires : goal.is_empty-requires
 is_empty-requires c =
-    let l = c.before.before in
-    (c.pattern-p.ensures.shows _ (config_bitmap _ _ l.before.before.requires) l.load-m.ensures).regular
+    let l = c in
+    (c.pattern-p.ensures.shows _ (config_bitmap _ _ l.requires) l.load-m.ensures).regular
 
 pub refused-requires-then-is_empty : goal.refused-requires-then-is_empty
 refused-requires-then-is_empty c = tt

@@ -9,4 +9,4 @@ pub judge_lent-requires : goal.judge_lent-requires
 judge_lent-requires c = tt
 
 pub returns : goal.returns
-returns c = rw (c.before.before.numbers-si.ensures, lent_again _) at c.judge_lent.ensures
+returns c = rw (c.numbers-si.ensures, lent_again _) at c.judge_lent.ensures

@@ -9,4 +9,4 @@ pub judged_lent-requires : goal.judged_lent-requires
 judged_lent-requires c = tt
 
 pub returns : goal.returns
-returns c = rw (c.before.before.numbers-si.ensures, lent_again _) at c.judged_lent.ensures
+returns c = rw (c.numbers-si.ensures, lent_again _) at c.judged_lent.ensures

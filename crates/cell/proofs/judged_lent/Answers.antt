@@ -8,7 +8,7 @@ pub judged_alone-requires : goal.judged_alone-requires
 judged_alone-requires c = tt
 
 pub returns-then-is_silent : goal.returns-then-is_silent
-returns-then-is_silent c = let t = c.before in c.judged_alone.ensures _ (sym t.before.is_silent.ensures ∙ t.if-is_silent.true)
+returns-then-is_silent c = let t = c in c.judged_alone.ensures _ (sym t.is_silent.ensures ∙ t.if-is_silent.true)
 
 pub judged_beside-requires : goal.judged_beside-requires
 judged_beside-requires c = tt

@@ -4,8 +4,8 @@ use Rattle.cell.proofs.judged_with.Goals as goal
 
 pub returns-then-no-ne0 : goal.returns-then-no-ne0
 returns-then-no-ne0 c =
-    let t = c.before in
-    refused_form _ _ _ (c.refused.ensures ∙ t.before.form_refusal-no.ensures) (λ z. t.if-no-ne0.true (sym c.refused.ensures ∙ z))
+    let t = c in
+    refused_form _ _ _ (c.refused.ensures ∙ t.form_refusal-no.ensures) (λ z. t.if-no-ne0.true (sym c.refused.ensures ∙ z))
 
 pub form_refusal-no-requires : goal.form_refusal-no-requires
 form_refusal-no-requires c = tt
@@ -14,7 +14,7 @@ pub refused-requires : goal.refused-requires
 refused-requires c = tt
 
 pub formed-requires : goal.formed-requires
-formed-requires c = sym c.before.form_refusal-no.ensures ∙ c.if-no-ne0.false
+formed-requires c = sym c.form_refusal-no.ensures ∙ c.if-no-ne0.false
 
 pub returns : goal.returns
 returns c = c.formed.ensures

@@ -34,25 +34,25 @@ module _ (c : After-band_refusal-no) where
   e2 = c.before.before.before.before
 
   abbrev asked : CellConfig
-  asked = e2.before.before.before.before.before.args.c
+  asked = e2.args.c
 
   past_three : numbers_refusal asked ≡ cond (eqb (band_refusal asked) 0) (cond (ltb 11 asked.sib1) 6 0) (band_refusal asked)
   unfolding numbers_refusal band_refusal
   past_three =
-      rw (e2.before.before.if-c.left, le-ltb _ _ e2.if-c-gt503.left, c.before.if-not-c.false)
+      rw (e2.if-c.left, le-ltb _ _ e2.if-c-gt503.left, c.if-not-c.false)
       (parted (not (cell_ports_listed asked)) (not (control_listed asked)) (ports_differ asked) (cond (ltb 11 asked.sib1) 6 0))
 
 pub returns-then-no-ne0 : goal.returns-then-no-ne0
 returns-then-no-ne0 c =
-    let b = c.before in
+    let b = c in
     b.band_refusal-no.ensures
-    ∙ sym (past_three b ∙ simp (ne_eqb (band_refusal (asked b)) 0 (λ (z : band_refusal (asked b) ≡ 0). c.if-no-ne0.true (b.band_refusal-no.ensures ∙ z))))
+    ∙ sym (past_three b.before ∙ simp (ne_eqb (band_refusal (asked b.before)) 0 (λ (z : band_refusal (asked b.before) ≡ 0). c.if-no-ne0.true (b.band_refusal-no.ensures ∙ z))))
 
 -- none of the first six
 past_band : (c : Else-no-ne0) → numbers_refusal (asked c.before) ≡ cond (ltb 11 (asked c.before).sib1) 6 0
 past_band c =
-    let b = c.before in
-    past_three b ∙ simp (eq-eqb (band_refusal (asked b)) 0 (sym b.band_refusal-no.ensures ∙ c.if-no-ne0.false))
+    let b = c in
+    past_three b.before ∙ simp (eq-eqb (band_refusal (asked b.before)) 0 (sym b.band_refusal-no.ensures ∙ c.if-no-ne0.false))
 
 pub returns-then-c : goal.returns-then-c
 unfolding numbers_refusal

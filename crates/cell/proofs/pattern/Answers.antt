@@ -6,14 +6,14 @@ use Rattle.cell.proofs.pattern.Goals as goal
 
 pub returns-then-c-eq0 : goal.returns-then-c-eq0
 returns-then-c-eq0 c =
-    let t = c.before.before in
-    let a = t.before.before.args in
-    rw (c.withheld.ensures, c.before.pattern.ensures)
+    let t = c in
+    let a = t.args in
+    rw (c.withheld.ensures, c.pattern.ensures)
     (record { shows = λ own f l. shows_anchor a.c own a.m f l (eq-eqb _ _ t.if-c-eq0.true) })
 
 pub returns : goal.returns
 returns c =
-    let a = c.before.before.args in
+    let a = c.args in
     record { shows = λ own f l. shows_other a.c own a.m f l (ne_eqb _ _ c.if-c-eq0.false) }
 
 pub pattern-requires : goal.pattern-requires

@@ -12,7 +12,7 @@ pos : (c : Else-closed-eq0) → 0 < c.before.args.b.closed
 pos c = omega arith
 
 fits : (c : Else-closed-eq0) → (c.before.args.g.n - c.before.args.c.least) / c.before.args.c.per * c.before.args.c.per ≤ c.before.args.g.n
-fits c = omega (arith, div-mul-le_self (c.before.args.g.n - c.before.args.c.least) c.before.args.c.per)
+fits c = omega (arith, div-mul-le_self (c.args.g.n - c.args.c.least) c.args.c.per)
 
 pub returns-then-closed-eq0 : goal.returns-then-closed-eq0
 unfolding ascend_of

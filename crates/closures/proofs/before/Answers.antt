@@ -12,10 +12,10 @@ use Rattle.closures.proofs.before.Goals as goal
 -- what was counted on the way down, and what is left to count
 counted : (c : After-descend-m1) → c.descend-m1.result.sum + c.descend-m1.result.at ≡ count_before c.before.before.before.before.args.nested c.before.before.before.before.args.t
 counted c =
-    let c3 = c.before in
-    let c2 = c3.before in
-    let c1 = c2.before in
-    let a = c1.before.args in
+    let c3 = c in
+    let c2 = c3 in
+    let c1 = c2 in
+    let a = c1.args in
     let nested = a.nested in
     ap (λ (m : Descent). m.sum + m.at) c.descend-m1.ensures.0
     ∙ passed nested.closures.b1 nested.c1 (λ t. t) c3.descend-m2.result

@@ -5,7 +5,7 @@ least-requires c = tt
 
 pub returns : goal.returns
 returns c = λ j. record {
-      period = c.before.args.b.period;
-      phase = c.before.args.b.phase;
+      period = c.args.b.period;
+      phase = c.args.b.phase;
       closed = c.least.ensures j;
     }

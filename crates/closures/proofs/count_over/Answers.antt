@@ -13,13 +13,13 @@ pos c = omega arith
 -- from where a period of the closure begins
 module _ (c : Else-closed-eq0) where
   abbrev period : ℕ
-  period = c.before.args.b.period
+  period = c.args.b.period
 
   abbrev phase : ℕ
-  phase = c.before.args.b.phase
+  phase = c.args.b.phase
 
   below : phase % period < period
-  below = mod-lt phase c.before.requires.0.some
+  below = mod-lt phase c.requires.0.some
 
   shifted : (period - phase % period + phase) % period ≡ 0
   shifted =
@@ -32,18 +32,18 @@ module _ (c : After-before-2) where
   s = c.before.before
 
   abbrev closed : ℕ
-  closed = s.before.args.b.closed
+  closed = s.args.b.closed
 
   abbrev shift : ℕ
   shift = period s - phase s % period s
 
   between : (c.before.before-from.result ≤ c.before-2.result) × (c.before-2.result ≤ c.before.before-from.result + period s)
   between =
-      let n : ℕ → ℕ = count_before s.before.args.below in
-      let e : closed + shift + (period s - closed) ≡ period s + shift = omega (arith, s.before.requires.1) in
-      let low = c.before.before-from.ensures.0 in
+      let n : ℕ → ℕ = count_before s.args.below in
+      let e : closed + shift + (period s - closed) ≡ period s + shift = omega (arith, s.requires.1) in
+      let low = c.before-from.ensures.0 in
       let high = c.before-2.ensures.0 ∙ ap n (sym e) in
-      let slow = s.before.requires.3 in (
+      let slow = s.requires.3 in (
         omega (arith, low, high, slow.rises (closed + shift) (period s - closed)),
         omega (arith, low, high, slow.near (closed + shift) (period s - closed)),
       )
@@ -55,12 +55,12 @@ pub returns-then-closed-eq0 : goal.returns-then-closed-eq0
 returns-then-closed-eq0 c =
     let e = c.no_count.ensures in (
       record {
-        usable = c.before.before.requires.0;
-        capped = c.before.before.requires.1;
+        usable = c.requires.0;
+        capped = c.requires.1;
         shift_small = rw e (omega arith);
         per_small = rw e (omega arith);
       },
-      λ p. absurd (omega (arith, c.before.if-closed-eq0.true)),
+      λ p. absurd (omega (arith, c.if-closed-eq0.true)),
     )
 
 pub overflow_sub-shift : goal.overflow_sub-shift
@@ -71,11 +71,11 @@ overflow_sub-result c = (between c).0
 
 pub returns : goal.returns
 returns c =
-    let a = (s c).before in (
+    let a = (s c) in (
       record { usable = a.requires.0; capped = a.requires.1; shift_small = omega (arith, below (s c)); per_small = omega (arith, between c) },
       λ p. record {
         shifted = shifted (s c);
-        least = c.before.before-from.ensures.0;
+        least = c.before-from.ensures.0;
         per = sym c.before-2.ensures.0 ∙ omega (arith, between c);
       },
     )

@@ -13,16 +13,16 @@ fits : (c : Else-closed-eq0)
     → let a = c.before.args in
     (a.m.at + a.b.phase) / a.b.period * a.c.per ≤ a.m.at + a.b.phase
 fits c =
-    let a = c.before.args in
+    let a = c.args in
     omega (
       arith,
       div-mul-le_self (a.m.at + a.b.phase) a.b.period,
-      mul-le-mul_left ((a.m.at + a.b.phase) / a.b.period) c.before.requires.0.per_small,
+      mul-le-mul_left ((a.m.at + a.b.phase) / a.b.period) c.requires.0.per_small,
     )
 
 small : (c : After-most) → c.most.result + c.before.before.args.c.shift < 2 ^ 50
 small c =
-    let s = c.before.before in
+    let s = c in
     omega (
       arith,
       c.most.ensures,

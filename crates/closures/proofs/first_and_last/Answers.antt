@@ -15,11 +15,11 @@ pub scan-found-requires : goal.scan-found-requires
 scan-found-requires c = (c.requires.0, c.requires.1, c.requires.2, c.requires.4, omega (arith, c.requires.3.small))
 
 pub overflow_mul-last : goal.overflow_mul-last
-overflow_mul-last c = let s = c.before in omega (arith, jump_small _ _ s.requires.3 s.args.t s.args.j s.requires.5)
+overflow_mul-last c = let s = c in omega (arith, jump_small _ _ s.requires.3 s.args.t s.args.j s.requires.5)
 
 pub overflow_add-last : goal.overflow_add-last
 overflow_add-last c =
-    let s = c.before in
+    let s = c in
     omega (
       arith,
       jump_small _ _ s.requires.3 s.args.t s.args.j s.requires.5,
@@ -30,17 +30,17 @@ overflow_add-last c =
 
 pub returns-then-rest-eq0 : goal.returns-then-rest-eq0
 returns-then-rest-eq0 c =
-    let r = c.before.scan-found.ensures in
-    let s = c.before.before in
+    let r = c.scan-found.ensures in
+    let s = c in
     (first_found _ _ _ s.requires.3 _ s.args.j _ r c.if-rest-eq0.true, last_is _ _ _ s.requires.3 _ s.args.j _ r)
 
 pub find-requires : goal.find-requires
-find-requires c = let s = c.before.before in (s.requires.2, first_reached _ _ _ s.requires.3 _ s.args.j _ c.before.scan-found.ensures s.requires.4)
+find-requires c = let s = c in (s.requires.2, first_reached _ _ _ s.requires.3 _ s.args.j _ c.scan-found.ensures s.requires.4)
 
 pub returns : goal.returns
 returns c =
-    let r = c.before.before.scan-found.ensures in
-    let s = c.before.before.before in (
+    let r = c.scan-found.ensures in
+    let s = c in (
       first_is _ _ _ s.requires.3 _ s.args.j _ r s.requires.4 _ c.find.ensures,
       last_is _ _ _ s.requires.3 _ s.args.j _ r,
     )

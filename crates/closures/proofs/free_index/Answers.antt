@@ -14,7 +14,7 @@ module _ (c : Start) where
 index : (c : After-is_free)
     → let s = c.before.before in
     s.args.y / s.args.cycle.length * s.args.cycle.free + c.before.count_free-before.result ≤ s.args.y
-index c = let s = c.before.before in index_fits _ _ s.requires.3 s.args.t s.args.y _ c.before.count_free-before.ensures.1
+index c = let s = c in index_fits _ _ s.requires.3 s.args.t s.args.y _ c.count_free-before.ensures.1
 
 pub nonzero_div-whole : goal.nonzero_div-whole
 nonzero_div-whole c = some_length _ _ c.requires.3 c.args.t
@@ -29,18 +29,18 @@ pub count_free-before-requires : goal.count_free-before-requires
 count_free-before-requires c = (c.requires.0, c.requires.1, c.requires.2, omega (arith, c.requires.4), omega (arith, small c))
 
 pub overflow_add-t : goal.overflow_add-t
-overflow_add-t c = let s = c.before in omega (arith, small s, s.requires.4)
+overflow_add-t c = let s = c in omega (arith, small s.before.before, s.requires.4)
 
 pub is_free-requires : goal.is_free-requires
-is_free-requires c = let s = c.before in (s.requires.0, s.requires.2.sorted.usable, omega (arith, small s, s.requires.4))
+is_free-requires c = let s = c in (s.requires.0, s.requires.2.sorted.usable, omega (arith, small s.before.before, s.requires.4))
 
 pub overflow_mul-result : goal.overflow_mul-result
-overflow_mul-result c = omega (arith, index c, c.before.before.ranges.y)
+overflow_mul-result c = omega (arith, index c, c.ranges.y)
 
 pub overflow_add-result : goal.overflow_add-result
-overflow_add-result c = omega (arith, index c, c.before.before.ranges.y)
+overflow_add-result c = omega (arith, index c, c.ranges.y)
 
 pub returns : goal.returns
 returns c =
-    let s = c.before.before in
-    stands _ _ s.requires.3 s.args.t s.args.y _ _ c.is_free.ensures c.before.count_free-before.ensures.0
+    let s = c in
+    stands _ _ s.requires.3 s.args.t s.args.y _ _ c.is_free.ensures c.count_free-before.ensures.0

@@ -13,15 +13,15 @@ by : (c : After-before-3)
     → let nested = c.before.before.args.nested in
     c.before.before-2.result ≡ c.before-3.result + rank (clear nested.closures) nested.closures.b4.period
 by c =
-    let s = c.before.before in
+    let s = c in
     let nested = s.args.nested in
-    omega (arith, c.before.before-2.ensures.0, c.before-3.ensures.0, counted (clear nested.closures) (count_before nested) (before_counts nested s.requires) nested.closures.b4.period)
+    omega (arith, c.before-2.ensures.0, c.before-3.ensures.0, counted (clear nested.closures) (count_before nested) (before_counts nested s.requires) nested.closures.b4.period)
 
 pub before-requires : goal.before-requires
 before-requires c = (c.requires.ranged, omega (arith, c.requires.sorted.usable.u4.period_small))
 
 pub before-requires-2 : goal.before-requires-2
-before-requires-2 c = let s = c.before in (s.requires.ranged, omega arith)
+before-requires-2 c = let s = c in (s.requires.ranged, omega arith)
 
 pub overflow_sub-result : goal.overflow_sub-result
 overflow_sub-result c = omega (arith, by c)

@@ -29,11 +29,11 @@ in_longest-clear-requires c = c.with_counts-nested.ensures.0
 
 pub returns : goal.returns
 returns c =
-    let s = c.before in
+    let s = c in
     record {
       nesting = stacked_with s.with_counts-nested.result c.in_longest-clear.result s.with_counts-nested.ensures.0;
-      same = λ t. ap (λ (x : Closures). clear x t) s.with_counts-nested.ensures.1 ∙ s.before.ordered.ensures.1 t;
+      same = λ t. ap (λ (x : Closures). clear x t) s.with_counts-nested.ensures.1 ∙ s.ordered.ensures.1 t;
       longest = λ test p1 p2 p3 p4.
-          ap (λ (x : Closures). test x.b4.period) s.with_counts-nested.ensures.1 ∙ s.before.ordered.ensures.2 test p1 p2 p3 p4;
+          ap (λ (x : Closures). test x.b4.period) s.with_counts-nested.ensures.1 ∙ s.ordered.ensures.2 test p1 p2 p3 p4;
       counted = c.in_longest-clear.ensures;
     }

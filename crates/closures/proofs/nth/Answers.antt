@@ -15,18 +15,18 @@ pub scan-requires : goal.scan-requires
 scan-requires c = (c.requires.0, c.requires.1, c.requires.2, c.requires.4, omega (arith, c.requires.3.small))
 
 pub overflow_mul-result : goal.overflow_mul-result
-overflow_mul-result c = let s = c.before in omega (arith, jump_small _ _ s.requires.3 s.args.t s.args.j s.requires.5)
+overflow_mul-result c = let s = c in omega (arith, jump_small _ _ s.requires.3 s.args.t s.args.j s.requires.5)
 
 pub overflow_add-result : goal.overflow_add-result
 overflow_add-result c =
-    let s = c.before.before in
+    let s = c in
     omega (
       arith,
       jump_small _ _ s.requires.3 s.args.t s.args.j s.requires.5,
-      last_near _ _ _ s.requires.3 _ s.args.j _ c.before.scan.ensures,
+      last_near _ _ _ s.requires.3 _ s.args.j _ c.scan.ensures,
       s.requires.3.small,
       s.requires.4,
     )
 
 pub returns : goal.returns
-returns c = let s = c.before.before in last_is _ _ _ s.requires.3 _ s.args.j _ c.before.scan.ensures
+returns c = let s = c in last_is _ _ _ s.requires.3 _ s.args.j _ c.scan.ensures

@@ -15,22 +15,22 @@ module _ (c : After-upper-high2) where
   k = h1.before.before.before
 
   abbrev given : Start
-  given = k.before.before.before.before
+  given = k.before.before.before.before.before.before.before.before
 
   abbrev b : Closures
   b = given.args.b
 
   low_1 : h1.before.before.lower-low1.result ≡ lower_of (capped_of b.b1) (capped_of b.b2)
-  low_1 = h1.before.before.lower-low1.ensures ∙ ap₂ lower_of k.before.before.before.capped-b1.ensures k.before.before.capped-b2.ensures
+  low_1 = h1.lower-low1.ensures ∙ ap₂ lower_of k.capped-b1.ensures k.capped-b2.ensures
 
   low_2 : h1.before.lower-low2.result ≡ lower_of (capped_of b.b3) (capped_of b.b4)
-  low_2 = h1.before.lower-low2.ensures ∙ ap₂ lower_of k.before.capped-b3.ensures k.capped-b4.ensures
+  low_2 = h1.lower-low2.ensures ∙ ap₂ lower_of k.capped-b3.ensures k.capped-b4.ensures
 
   high_1 : h1.upper-high1.result ≡ upper_of (capped_of b.b1) (capped_of b.b2)
-  high_1 = h1.upper-high1.ensures ∙ ap₂ upper_of k.before.before.before.capped-b1.ensures k.before.before.capped-b2.ensures
+  high_1 = h1.upper-high1.ensures ∙ ap₂ upper_of k.capped-b1.ensures k.capped-b2.ensures
 
   high_2 : c.upper-high2.result ≡ upper_of (capped_of b.b3) (capped_of b.b4)
-  high_2 = c.upper-high2.ensures ∙ ap₂ upper_of k.before.capped-b3.ensures k.capped-b4.ensures
+  high_2 = c.upper-high2.ensures ∙ ap₂ upper_of k.capped-b3.ensures k.capped-b4.ensures
 
 longest : (s : Start) (r : Closures) → r ≡ ordered_of s.args.b → OneOfTheirs s.args.b r.b4.period
 longest s r is test p1 p2 p3 p4 = ap (λ (x : Closures). test x.b4.period) is ∙ ordered_longest s.args.b s.requires.0 s.requires.1 test p1 p2 p3 p4

@@ -27,7 +27,7 @@ module _ (c : Joined-left-j) where
   held : (i j m : ℕ) → i < c.before.gap_period_at-gap_period.result.here → rank free l.loop-at.at + i ≡ rank free s.args.t + j → m ≡ c.before.gap_period_at-gap_period.result.from + i
       → Held s.args.gap s.args.nested s.args.t (s.args.t + s.args.n) j m
   held i j m h e f =
-      let r = c.before.gap_period_at-gap_period.ensures in
+      let r = c.gap_period_at-gap_period.ensures in
       let g = r.held i h in
       record {
         x = g.x;
@@ -65,12 +65,12 @@ loop-at-init c = (refl, omega arith, omega arith, refl, λ h. c.requires.1, λ h
 
 pub gap_period_at-gap_period-requires : goal.gap_period_at-gap_period-requires
 gap_period_at-gap_period-requires c =
-    let s = c.before.before in
-    (s.requires.0, c.before.loop-at.invariant.4 c.loop-at-test.true, s.requires.2, c.loop-at-test.true, omega (arith, s.requires.3, s.requires.4))
+    let s = c in
+    (s.requires.0, c.loop-at.invariant.4 c.loop-at-test.true, s.requires.2, c.loop-at-test.true, omega (arith, s.requires.3, s.requires.4))
 
 pub overflow_add-from : goal.overflow_add-from
 overflow_add-from c =
-    let r = (b c).before.gap_period_at-gap_period in
+    let r = (b c).gap_period_at-gap_period in
     omega (
       arith,
       c.if-left-here.true,
@@ -87,35 +87,35 @@ find-requires c = ((s (b c)).requires.2, record { at = (last c).x; small = small
 
 pub returns-then-left-here : goal.returns-then-left-here
 returns-then-left-here c =
-    let a = c.before in
-    let h = last a in
-    let e = c.find.ensures h.x h.passes h.count (small a) in
+    let a = c in
+    let h = last a.before in
+    let e = c.find.ensures h.x h.passes h.count (small a.before) in
     record {
-      first = λ w. first (b a) (omega (arith, a.if-left-here.true));
+      first = λ w. first (b a.before) (omega (arith, a.if-left-here.true));
       found = λ w. (
-        subst (λ (x : ℕ). Nth (free (b a)) (s (b a)).args.t (s (b a)).args.j x) (sym e) h.nth,
+        subst (λ (x : ℕ). Nth (free (b a.before)) (s (b a.before)).args.t (s (b a.before)).args.j x) (sym e) h.nth,
         omega (arith, e, h.inside),
       );
-      missed = λ w. absurd (omega (arith, w, h.nth.before, rank_strict (free (b a)) h.x ((s (b a)).args.t + (s (b a)).args.n) h.nth.passes h.inside));
+      missed = λ w. absurd (omega (arith, w, h.nth.before, rank_strict (free (b a.before)) h.x ((s (b a.before)).args.t + (s (b a.before)).args.n) h.nth.passes h.inside));
     }
 
 pub overflow_add-at : goal.overflow_add-at
-overflow_add-at c = let d = c.before in omega (arith, d.before.gap_period_at-gap_period.ensures.within, (s d).requires.3, (s d).requires.4)
+overflow_add-at c = let d = c in omega (arith, d.gap_period_at-gap_period.ensures.within, (s d.before).requires.3, (s d.before).requires.4)
 
 pub loop-at-smaller : goal.loop-at-smaller
-loop-at-smaller c = let r = c.before.before.gap_period_at-gap_period.ensures in omega (arith, r.some, r.within)
+loop-at-smaller c = let r = c.gap_period_at-gap_period.ensures in omega (arith, r.some, r.within)
 
 pub loop-at-preserved : goal.loop-at-preserved
 loop-at-preserved c =
-    let d = c.before in
-    let r = d.before.gap_period_at-gap_period.ensures in
-    let i = (l d).loop-at.invariant in
-    (refl, r.within, omega (arith, i.2), omega (arith, r.counted, i.3, c.if-left-here.false), r.next, λ h. first d (omega (arith, h, c.if-left-here.false)))
+    let d = c in
+    let r = d.gap_period_at-gap_period.ensures in
+    let i = (l d.before).loop-at.invariant in
+    (refl, r.within, omega (arith, i.2), omega (arith, r.counted, i.3, c.if-left-here.false), r.next, λ h. first d.before (omega (arith, h, c.if-left-here.false)))
 
 pub returns : goal.returns
 returns c =
-    let l = c.before.loop-at in
-    let a = c.before.before.args in
+    let l = c.loop-at in
+    let a = c.args in
     let z : l.at ≡ a.t + a.n = omega (arith, l.invariant.1) in
     let e = ap (rank (is_free a.gap a.nested.closures)) z in
     record {

@@ -8,19 +8,19 @@ use Rattle.closures.proofs.with_counts.Goals as goal
 -- what each count-over has over those below it
 over1 : (c : After-count_over-c1) → let b = c.before.before.before.before.before.before.before.args.b in 0 < b.b1.closed → CountsOver b.b1 (λ t. t) c.count_over-c1.result
 unfolding count_over
-over1 c = rw (c.before.none.ensures, c.before.before.no_count-zero.ensures) at c.count_over-c1.ensures.1
+over1 c = rw (c.none.ensures, c.no_count-zero.ensures) at c.count_over-c1.ensures.1
 
 over2 : (c : After-count_over-c2)
     → let b = c.before.before.before.before.before.before.before.before.args.b in
     0 < b.b2.closed → CountsOver b.b2 (count_over b.b1 c.before.count_over-c1.result (λ t. t)) c.count_over-c2.result
 unfolding count_over
-over2 c = rw (c.before.before.before.before.idle-idle.ensures, c.before.before.before.no_count-zero.ensures) at c.count_over-c2.ensures.1
+over2 c = rw (c.idle-idle.ensures, c.no_count-zero.ensures) at c.count_over-c2.ensures.1
 
 over3 : (c : After-count_over-c3)
     → let b = c.before.before.before.before.before.before.before.before.before.args.b in
     0 < b.b3.closed → CountsOver b.b3 (count_over b.b2 c.before.count_over-c2.result (count_over b.b1 c.before.before.count_over-c1.result (λ t. t))) c.count_over-c3.result
 unfolding count_over
-over3 c = rw (c.before.before.before.before.before.idle-idle.ensures, c.before.before.before.before.no_count-zero.ensures) at c.count_over-c3.ensures.1
+over3 c = rw (c.idle-idle.ensures, c.no_count-zero.ensures) at c.count_over-c3.ensures.1
 
 over4 : (c : After-count_over-c4)
     → let b = c.before.before.before.before.before.before.before.before.before.before.args.b in
@@ -29,7 +29,7 @@ over4 : (c : After-count_over-c4)
     (count_over b.b3 c.before.count_over-c3.result (count_over b.b2 c.before.before.count_over-c2.result (count_over b.b1 c.before.before.before.count_over-c1.result (λ t. t))))
     c.count_over-c4.result
 unfolding count_over
-over4 c = rw (c.before.before.before.before.before.before.idle-idle.ensures, c.before.before.before.before.before.no_count-zero.ensures) at c.count_over-c4.ensures.1
+over4 c = rw (c.idle-idle.ensures, c.no_count-zero.ensures) at c.count_over-c4.ensures.1
 
 pub count_over-c1-requires : goal.count_over-c1-requires
 unfolding count_over
@@ -76,13 +76,13 @@ count_over-c4-requires c =
 
 pub returns : goal.returns
 returns c =
-    let s = c.before.before.before.before.before.before.before.before.before.before in (
+    let s = c in (
       record {
         sorted = s.requires;
-        ranged = record { r1 = c.before.before.before.count_over-c1.ensures.0; r2 = c.before.before.count_over-c2.ensures.0; r3 = c.before.count_over-c3.ensures.0; r4 = c.count_over-c4.ensures.0 };
-        o1 = over1 c.before.before.before;
-        o2 = over2 c.before.before;
-        o3 = over3 c.before;
+        ranged = record { r1 = c.count_over-c1.ensures.0; r2 = c.count_over-c2.ensures.0; r3 = c.count_over-c3.ensures.0; r4 = c.count_over-c4.ensures.0 };
+        o1 = over1 c.before.before.before.before;
+        o2 = over2 c.before.before.before;
+        o3 = over3 c.before.before;
         o4 = over4 c;
       },
       refl,

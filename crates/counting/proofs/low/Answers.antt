@@ -8,7 +8,7 @@ pub power_of_two-requires : goal.power_of_two-requires
 power_of_two-requires c = c.requires
 
 pub nonzero_rem-result : goal.nonzero_rem-result
-nonzero_rem-result c = omega (arith, c.power_of_two.ensures, pow_pos c.before.args.i)
+nonzero_rem-result c = omega (arith, c.power_of_two.ensures, pow_pos c.args.i)
 
 pub returns : goal.returns
-returns c = ap (λ (x : ℕ). c.before.args.m % x) c.power_of_two.ensures
+returns c = ap (λ (x : ℕ). c.args.m % x) c.power_of_two.ensures

@@ -11,12 +11,12 @@ use Rattle.counting.proofs.nth_of_four.Goals as goal
 
 pub returns-then-x-lt8 : goal.returns-then-x-lt8
 returns-then-x-lt8 c =
-    let a = c.before in
+    let a = c in
     place_packed true a.args.x a.args.k (sym (lt-ltb a.args.x 8 c.if-x-lt8.true)) a.requires.0 a.requires.1
 
 pub returns : goal.returns
 returns c =
-    let a = c.before in
+    let a = c in
     place_packed false a.args.x a.args.k (sym (le-ltb a.args.x 8 c.if-x-lt8.false)) a.requires.0 a.requires.1
 
 -- fewer than four ones lie before

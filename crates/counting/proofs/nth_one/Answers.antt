@@ -14,29 +14,29 @@ pub loop-i-init : goal.loop-i-init
 loop-i-init c = omega (arith, div-one c.args.m, rank_zero (bit_at c.args.m))
 
 pub nth_of_four-requires : goal.nth_of_four-requires
-nth_of_four-requires c = (omega arith, omega (arith, c.before.ones_of_four-n.ensures.0))
+nth_of_four-requires c = (omega arith, omega (arith, c.ones_of_four-n.ensures.0))
 
 pub returns-then-left-n : goal.returns-then-left-n
 returns-then-left-n c =
-    let l = c.before.before.before.before.loop-i in
-    let s = c.before.before.before.before.before in
+    let l = c.loop-i in
+    let s = c in
     four_found s.args.m l.i l.rest l.invariant.2 s.args.k l.left c.nth_of_four.result l.invariant.3 c.nth_of_four.ensures
 
 pub loop-i-preserved : goal.loop-i-preserved
 loop-i-preserved c =
-    let l = c.before.before.before.loop-i in
-    let m = c.before.before.before.before.args.m in (
+    let l = c.loop-i in
+    let m = c.args.m in (
       omega arith,
       omega arith,
       four_on m l.i l.rest l.invariant.2,
-      omega (arith, four_passed m l.i l.rest l.invariant.2, c.before.ones_of_four-n.ensures.0),
+      omega (arith, four_passed m l.i l.rest l.invariant.2, c.ones_of_four-n.ensures.0),
     )
 
 -- all 64 digits have more than k ones
 pub returns : goal.returns
 returns c =
-    let a = c.before.before in
-    let e : c.before.loop-i.i ≡ 64 = omega arith in
+    let a = c in
+    let e : c.loop-i.i ≡ 64 = omega arith in
     absurd (omega (arith, ones_rank 64 a.args.m a.ranges.m.fits, ap (rank (bit_at a.args.m)) e))
 
 pub overflow_add-result : goal.overflow_add-result

@@ -7,8 +7,8 @@ use Rattle.downlink.proofs.backward.Goals as goal
 
 pub returns-then-q-ne0 : goal.returns-then-q-ne0
 returns-then-q-ne0 c =
-    let f = c.before in
-    c.without_cause.ensures ∙ ap (λ (x : Back). record { back = x; cause = None }) f.refused.ensures ∙ sym (refused refused_why _ _ f.before.if-q-ne0.true)
+    let f = c in
+    c.without_cause.ensures ∙ ap (λ (x : Back). record { back = x; cause = None }) f.refused.ensures ∙ sym (refused refused_why _ _ f.if-q-ne0.true)
 
 pub refused-requires : goal.refused-requires
 refused-requires c = tt
@@ -17,7 +17,7 @@ pub without_cause-requires : goal.without_cause-requires
 without_cause-requires c = tt
 
 pub burst_backward-requires : goal.burst_backward-requires
-burst_backward-requires c = let a = c.before.before.before in (a.requires.searchable c.if-q-ne0.false, a.requires.fits c.if-q-ne0.false)
+burst_backward-requires c = let a = c in (a.requires.searchable c.if-q-ne0.false, a.requires.fits c.if-q-ne0.false)
 
 pub returns : goal.returns
-returns c = c.burst_backward.ensures ∙ sym (accepted refused_why _ _ c.before.if-q-ne0.false)
+returns c = c.burst_backward.ensures ∙ sym (accepted refused_why _ _ c.if-q-ne0.false)

@@ -30,7 +30,7 @@ module _ (c : Else-not-inside) where
   inside = not-false _ c.if-not-inside.false
 
   parts : (c.before.before.args.slot < slots) × (c.before.before.args.l < symbols) × (c.before.before.args.k < subcarriers)
-  parts = inside_parts c.before.before.args.slot c.before.before.args.l c.before.before.args.k inside
+  parts = inside_parts c.args.slot c.args.l c.args.k inside
 
 -- the subframes that are searched
 abbrev left : Start → ℕ → Bool
@@ -46,8 +46,8 @@ found s = found_among (left s) all_periods (first_of (left s) all_periods s.args
 
 searched : (c : After-locate-found) → c.locate-found.result ≡ found c.before.before.before.before
 searched c =
-    let s = c.before.before.before.before in
-    c.locate-found.ensures ∙ ap (λ (n : ℕ). found_among (left s) all_periods (first_of (left s) all_periods s.args.b) n s.args.t) c.before.sent_subframes-sent.ensures.0
+    let s = c in
+    c.locate-found.ensures ∙ ap (λ (n : ℕ). found_among (left s) all_periods (first_of (left s) all_periods s.args.b) n s.args.t) c.sent_subframes-sent.ensures.0
 
 -- at index i
 at : (c : In-At-2) → found c.before.before.before.before.before.before ≡ At c.found-1.given.0.0
@@ -67,21 +67,21 @@ without_cause-requires c = tt
 
 pub returns-then-not-inside : goal.returns-then-not-inside
 returns-then-not-inside c =
-    let f = c.before in
-    let s = f.before.before.before in
+    let f = c in
+    let s = f in
     let a = s.args in
-    let o = not-true _ f.before.if-not-inside.true in
+    let o = not-true _ f.if-not-inside.true in
     c.without_cause.ensures
     ∙ joined (left s) all_periods (saw s) a.b a.t a.slot a.l a.k _ _ (f.refused.ensures ∙ sym (outside_at (sending_of (left s) all_periods a.b) _ a.t _ o))
     (outside_none (left s) all_periods (saw s) a.b a.t a.slot a.l a.k o)
 
 pub in_sent-requires : goal.in_sent-requires
 in_sent-requires c =
-    let f = c.before in
-    let s = f.before.before.before in
-    let a = s.before.before.before in
-    let i = parts s.before in
-    (a.requires.1, omega (arith, at_below _ _ _ _ _ _ (at f), s.sent_subframes-sent.ensures.0, s.sent_subframes-sent.ensures.2), i.0, i.1, i.2)
+    let f = c in
+    let s = f in
+    let a = s in
+    let i = parts s.before.before.before.before.before in
+    (a.requires.1, omega (arith, at_below _ _ _ _ _ _ (at f.before), s.sent_subframes-sent.ensures.0, s.sent_subframes-sent.ensures.2), i.0, i.1, i.2)
 
 pub without_cause-requires-in-At : goal.without_cause-requires-in-At
 without_cause-requires-in-At c = tt
@@ -90,7 +90,7 @@ pub not_ours-requires : goal.not_ours-requires
 not_ours-requires c = tt
 
 pub why_not-requires : goal.why_not-requires
-why_not-requires c = c.before.before.before.before.before.before.before.requires.0.on.regular
+why_not-requires c = c.requires.0.on.regular
 
 pub not_ours-requires-in-Nothing : goal.not_ours-requires-in-Nothing
 not_ours-requires-in-Nothing c = tt
@@ -100,38 +100,38 @@ without_cause-requires-in-Nothing c = tt
 
 pub returns-in-At : goal.returns-in-At
 returns-in-At c =
-    let n = c.before in
-    let f = n.before.before in
-    let e = f.before.before.before.before in
-    let s = e.before.before in
+    let n = c in
+    let f = n in
+    let e = f in
+    let s = e in
     let a = s.args in
-    let i = at_index _ _ _ _ _ _ (at f) in
+    let i = at_index _ _ _ _ _ _ (at f.before.before.before) in
     c.without_cause-in-At.ensures
     ∙ joined (left s) all_periods (saw s) a.b a.t a.slot a.l a.k _ _
-    (n.in_sent.ensures ∙ backward_sent _ _ a.b a.t a.slot a.l a.k (inside e) _ _ i.0 i.1 refl)
-    (sent_none (left s) all_periods (saw s) a.b a.t a.slot a.l a.k _ (by_pattern s) (inside e) i.0)
+    (n.in_sent.ensures ∙ backward_sent _ _ a.b a.t a.slot a.l a.k (inside e.before.before.before.before.before.before.before) _ _ i.0 i.1 refl)
+    (sent_none (left s) all_periods (saw s) a.b a.t a.slot a.l a.k _ (by_pattern s.before.before.before.before.before.before.before.before.before) (inside e.before.before.before.before.before.before.before) i.0)
 
 pub returns-in-Between : goal.returns-in-Between
 returns-in-Between c =
-    let o = c.before in
-    let l = o.before.before.before in
-    let e = l.before.before in
-    let s = e.before.before in
+    let o = c in
+    let l = o in
+    let e = l in
+    let s = e in
     let a = s.args in
-    let m = at_between _ _ _ _ _ (sym (searched l) ∙ o.before.enum_told-1.given.1) in
+    let m = at_between _ _ _ _ _ (sym (searched l.before.before.before.before) ∙ o.enum_told-1.given.1) in
     joined (left s) all_periods (saw s) a.b a.t a.slot a.l a.k _ _
-    (o.not_ours.ensures ∙ backward_unsent _ _ a.b a.t a.slot a.l a.k (inside e) m.0)
-    (c.why_not.ensures ∙ missed_why (left s) all_periods (saw s) a.b a.t a.slot a.l a.k _ (by_pattern s) (inside e) m.1)
+    (o.not_ours.ensures ∙ backward_unsent _ _ a.b a.t a.slot a.l a.k (inside e.before.before.before.before.before.before) m.0)
+    (c.why_not.ensures ∙ missed_why (left s) all_periods (saw s) a.b a.t a.slot a.l a.k _ (by_pattern s.before.before.before.before.before.before.before.before) (inside e.before.before.before.before.before.before) m.1)
 
 pub returns-in-Nothing : goal.returns-in-Nothing
 returns-in-Nothing c =
-    let o = c.before in
-    let l = o.before.before.before in
-    let e = l.before.before in
-    let s = e.before.before in
+    let o = c in
+    let l = o in
+    let e = l in
+    let s = e in
     let a = s.args in
-    let m = at_nothing _ _ _ _ _ (sym (searched l) ∙ o.before.enum_told-in-Nothing-1.given.1) in
+    let m = at_nothing _ _ _ _ _ (sym (searched l.before.before.before.before) ∙ o.enum_told-in-Nothing-1.given.1) in
     c.without_cause-in-Nothing.ensures
     ∙ joined (left s) all_periods (saw s) a.b a.t a.slot a.l a.k _ _
-    (o.not_ours-in-Nothing.ensures ∙ backward_unsent _ _ a.b a.t a.slot a.l a.k (inside e) m.0)
-    (unmissed_none (left s) all_periods (saw s) a.b a.t a.slot a.l a.k _ (by_pattern s) (inside e) m.1)
+    (o.not_ours-in-Nothing.ensures ∙ backward_unsent _ _ a.b a.t a.slot a.l a.k (inside e.before.before.before.before.before.before) m.0)
+    (unmissed_none (left s) all_periods (saw s) a.b a.t a.slot a.l a.k _ (by_pattern s.before.before.before.before.before.before.before.before) (inside e.before.before.before.before.before.before) m.1)

@@ -19,7 +19,7 @@ abbrev left : Start → ℕ → Bool
 left s = left_in s.args.p s.args.laid (messages_in s.args.si.now)
 
 all : (c : After-sent_subframes) → c.sent_subframes.result * c.before.used_elements-w.result ≡ places c.before.before.before.args.b
-all c = ap₂ (λ (x y : ℕ). x * y) c.sent_subframes.ensures.0 c.before.used_elements-w.ensures.0
+all c = ap₂ (λ (x y : ℕ). x * y) c.sent_subframes.ensures.0 c.used_elements-w.ensures.0
 
 -- the position is one of the places, and what is left of it is below the used elements
 module _ (c : Else-position-total) where
@@ -28,27 +28,27 @@ module _ (c : Else-position-total) where
 
   rest : c.before.before.before.before.args.position % c.before.before.used_elements-w.result < count_of c.before.before.before.before.args.b.layout c.before.before.before.before.args.b.low c.before.before.before.before.args.b.width
   rest =
-      let w = c.before.before in
-      let a = w.before.before in
+      let w = c in
+      let a = w in
       rest_below (left a) all_periods a.args.b a.args.position a.requires.1 w.used_elements-w.result held w.used_elements-w.ensures.0
 
 pub overflow_mul-total : goal.overflow_mul-total
-overflow_mul-total c = omega (arith, places_small c.sent_subframes.result c.before.used_elements-w.result c.sent_subframes.ensures.2 c.before.used_elements-w.ensures.2)
+overflow_mul-total c = omega (arith, places_small c.sent_subframes.result c.used_elements-w.result c.sent_subframes.ensures.2 c.used_elements-w.ensures.2)
 
 pub refused_place-requires : goal.refused_place-requires
 refused_place-requires c = tt
 
 pub returns-then-position-total : goal.returns-then-position-total
 returns-then-position-total c =
-    let t = c.before in
-    let s = t.before in
-    let a = s.before.before.before in
-    c.refused_place.ensures ∙ sym (past_at refused_place place_of (sending_of (left a) all_periods a.args.b) a.args.position (omega (arith, all s, t.if-position-total.true)))
+    let t = c in
+    let s = t in
+    let a = s in
+    c.refused_place.ensures ∙ sym (past_at refused_place place_of (sending_of (left a) all_periods a.args.b) a.args.position (omega (arith, all s.before.before, t.if-position-total.true)))
 
 pub subframe_at-t-requires : goal.subframe_at-t-requires
 subframe_at-t-requires c =
-    let w = c.before.before in
-    let a = w.before.before in (
+    let w = c in
+    let a = w in (
       a.requires.0,
       a.requires.1,
       omega (arith, unit_below (left a) all_periods a.args.b a.args.position a.requires.1 w.used_elements-w.result (held c) w.used_elements-w.ensures.0, sent_small a.args.b a.requires.1),
@@ -56,25 +56,25 @@ subframe_at-t-requires c =
 
 pub element_at-x-requires : goal.element_at-x-requires
 element_at-x-requires c =
-    let e = c.before in
-    let a = e.before.before.before.before in
-    (a.requires.1.layout, a.requires.1.part, rest e)
+    let e = c in
+    let a = e in
+    (a.requires.1.layout, a.requires.1.part, rest e.before.before)
 
 pub item-requires : goal.item-requires
 item-requires c =
-    let e = c.before.before.before in
-    let w = e.before.before in
-    (omega (arith, c.carried_by-unit.ensures.1), omega (arith, w.used_elements-w.ensures.2), omega (arith, rest e, w.used_elements-w.ensures.0))
+    let e = c in
+    let w = e in
+    (omega (arith, c.carried_by-unit.ensures.1), omega (arith, w.used_elements-w.ensures.2), omega (arith, rest e.before.before.before.before, w.used_elements-w.ensures.0))
 
 pub place-requires : goal.place-requires
 place-requires c = tt
 
 pub returns : goal.returns
 returns c =
-    let u = c.before.before in
-    let e = u.before.before.before in
-    let w = e.before.before in
-    let a = w.before.before in
+    let u = c in
+    let e = u in
+    let w = e in
+    let a = w in
     c.place.ensures
-    ∙ forward_is _ _ a.args.b a.args.position _ _ _ _ _ (held e) w.used_elements-w.ensures.0 u.before.before.subframe_at-t.ensures
-    u.before.element_at-x.ensures u.carried_by-unit.ensures.0 c.before.item.ensures
+    ∙ forward_is _ _ a.args.b a.args.position _ _ _ _ _ (held e.before.before.before.before.before.before) w.used_elements-w.ensures.0 u.subframe_at-t.ensures
+    u.element_at-x.ensures u.carried_by-unit.ensures.0 c.item.ensures

@@ -27,26 +27,26 @@ module _ (s : Start) where
 first : (c : After-first_and_last-ends) → c.first_and_last-ends.result.first
     ≡ select (left c.before.before.before.before) all_periods (first_of (left c.before.before.before.before) all_periods c.before.before.before.before.args.b) 0
 first c =
-    let s = c.before.before.before.before in
+    let s = c in
     let e : s.args.b.skip ≡ s.args.b.skip + 0 = omega arith in
-    c.first_and_last-ends.ensures.0 ∙ ap (select (left s) all_periods s.args.b.from) e ∙ at s 0
+    c.first_and_last-ends.ensures.0 ∙ ap (select (left s) all_periods s.args.b.from) e ∙ at s.before.before.before.before 0
 
 last : (c : After-first_and_last-ends) → c.first_and_last-ends.result.last
     ≡ select (left c.before.before.before.before) all_periods (first_of (left c.before.before.before.before) all_periods c.before.before.before.before.args.b) (sent_subframes c.before.before.before.before.args.b - 1)
 last c =
-    let s = c.before.before.before.before in
-    c.first_and_last-ends.ensures.1 ∙ at s _ ∙ ap (λ (n : ℕ). select (left s) all_periods (first_of (left s) all_periods s.args.b) (n - 1)) c.before.before.sent_subframes-sent.ensures.0
+    let s = c in
+    c.first_and_last-ends.ensures.1 ∙ at s.before.before.before.before _ ∙ ap (λ (n : ℕ). select (left s) all_periods (first_of (left s) all_periods s.args.b) (n - 1)) c.sent_subframes-sent.ensures.0
 
 pub returns : goal.returns
-returns c = simp (first c, last c, c.before.before.sent_subframes-sent.ensures.0, c.before.used_elements-w.ensures.0)
+returns c = simp (first c, last c, c.sent_subframes-sent.ensures.0, c.used_elements-w.ensures.0)
 
 pub first_and_last-ends-requires : goal.first_and_last-ends-requires
 first_and_last-ends-requires c =
-    let n = c.before in
-    let s = n.before.before in
+    let n = c in
+    let s = n in
     (s.requires.0, omega (arith, s.requires.1.from_small), omega (arith, s.requires.1.skip_small, n.sent_subframes-sent.ensures.2))
 
 pub overflow_mul-result : goal.overflow_mul-result
 overflow_mul-result c =
-    let n = c.before.before in
-    omega (arith, places_small n.sent_subframes-sent.result c.before.used_elements-w.result n.sent_subframes-sent.ensures.2 c.before.used_elements-w.ensures.2)
+    let n = c in
+    omega (arith, places_small n.sent_subframes-sent.result c.used_elements-w.result n.sent_subframes-sent.ensures.2 c.used_elements-w.ensures.2)

@@ -11,43 +11,43 @@ use Rattle.downlink.proofs.in_use.Goals as goal
 -- it is below the used elements
 below : (c : After-used_elements-w) → c.before.before.at-1.given.0.0 < c.used_elements-w.result
 below c =
-    let k = c.before in
-    let s = k.before.before.before in
-    omega (arith, c.used_elements-w.ensures.0, s.requires.2 k.before.at-1.given.0.0 k.before.at-1.given.1)
+    let k = c in
+    let s = k in
+    omega (arith, c.used_elements-w.ensures.0, s.requires.2 k.at-1.given.0.0 k.at-1.given.1)
 
 pub returns-in-Used : goal.returns-in-Used
 returns-in-Used c =
-    let u = c.before.before.before in
-    let w = u.before in
-    let k = w.before in
-    let s = k.before.before.before in
+    let u = c in
+    let w = u in
+    let k = w in
+    let s = k in
     λ x e.
-    let o = use_used s.args.b.layout s.args.b.low s.args.b.width x _ (sym e ∙ k.before.at-1.given.1) in
+    let o = use_used s.args.b.layout s.args.b.low s.args.b.width x _ (sym e ∙ k.at-1.given.1) in
     c.ours.ensures
     ∙ ap back_of (content_ours s.args.b s.args.i x _ _ _ _ _ o.0 w.used_elements-w.ensures.0 (sym o.1) u.carried_by-unit.ensures.0
-    c.before.before.item.ensures c.before.item-in-Used.ensures)
+    c.item.ensures c.item-in-Used.ensures)
 
 pub returns-in-Unused : goal.returns-in-Unused
 returns-in-Unused c =
-    let a = c.before.before in
-    let s = a.before.before in
+    let a = c in
+    let s = a in
     λ x e.
     let o = use_unused s.args.b.layout s.args.b.low s.args.b.width x a.at-in-Unused-1.given.0.0 (sym e ∙ a.at-in-Unused-1.given.1) in
     c.not_ours.ensures ∙ ap back_of (content_unused s.args.b s.args.i x _ o.0 (sym o.1))
 
 pub used_elements-w-requires : goal.used_elements-w-requires
-used_elements-w-requires c = c.before.before.before.requires.0
+used_elements-w-requires c = c.requires.0
 
 pub carried_by-unit-requires : goal.carried_by-unit-requires
-carried_by-unit-requires c = c.before.before.before.before.requires.0
+carried_by-unit-requires c = c.requires.0
 
 pub item-requires : goal.item-requires
-item-requires c = let w = c.before in (omega (arith, c.carried_by-unit.ensures.1), omega (arith, w.used_elements-w.ensures.2), below w)
+item-requires c = let w = c in (omega (arith, c.carried_by-unit.ensures.1), omega (arith, w.used_elements-w.ensures.2), below w.before)
 
 pub item-requires-in-Used : goal.item-requires-in-Used
 item-requires-in-Used c =
-    let w = c.before.before in
-    (omega (arith, w.before.before.before.before.requires.1), omega (arith, w.used_elements-w.ensures.2), below w)
+    let w = c in
+    (omega (arith, w.requires.1), omega (arith, w.used_elements-w.ensures.2), below w.before.before)
 
 pub ours-requires : goal.ours-requires
 ours-requires c = tt

@@ -10,4 +10,4 @@ pub subcarrier-requires : goal.subcarrier-requires
 subcarrier-requires c = tt
 
 pub returns : goal.returns
-returns c = simp (c.subcarrier.ensures, c.before.symbol.ensures, c.before.before.slot.ensures)
+returns c = simp (c.subcarrier.ensures, c.symbol.ensures, c.slot.ensures)

@@ -7,10 +7,10 @@ pub refused_plan-requires : goal.refused_plan-requires
 refused_plan-requires c = tt
 
 pub returns-then-q-ne0 : goal.returns-then-q-ne0
-returns-then-q-ne0 c = c.refused_plan.ensures ∙ sym (refused refused_plan _ _ c.before.if-q-ne0.true)
+returns-then-q-ne0 c = c.refused_plan.ensures ∙ sym (refused refused_plan _ _ c.if-q-ne0.true)
 
 pub burst_plan-requires : goal.burst_plan-requires
-burst_plan-requires c = let a = c.before.before.before in (a.requires.searchable c.if-q-ne0.false, a.requires.fits c.if-q-ne0.false)
+burst_plan-requires c = let a = c in (a.requires.searchable c.if-q-ne0.false, a.requires.fits c.if-q-ne0.false)
 
 pub returns : goal.returns
-returns c = c.burst_plan.ensures ∙ sym (accepted refused_plan _ _ c.before.if-q-ne0.false)
+returns c = c.burst_plan.ensures ∙ sym (accepted refused_plan _ _ c.if-q-ne0.false)

@@ -10,7 +10,7 @@ use Rattle.downlink.proofs.subframe_at.Goals as goal
 
 pub returns : goal.returns
 returns c =
-    let a = c.before.before in
+    let a = c in
     let x = a.args in
     let again = left_again x.p x.laid (messages_in x.si.now) a.requires.0.on in
     c.nth.ensures

@@ -5,7 +5,7 @@ use Rattle.downlink.proofs.used_elements.Goals as goal
 
 pub returns : goal.returns
 returns c =
-    let a = c.before.before in
+    let a = c in
     let g = a.args.b in (
       c.count.ensures,
       omega (arith, c.count.ensures, count_some g.layout-1 g.low g.width a.requires.part),

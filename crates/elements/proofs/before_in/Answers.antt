@@ -21,19 +21,19 @@ two low high i h =
     none low i = ⊎_elim (λ k. omega (arith, byte_le (ltb low i))) (λ k. rw (le-ltb low i k) (omega arith)) (order low i)
 
 product : (c : After-one-past) → c.one-past.result * c.before.args.free ≤ 6
-product c = mul-le-mul c.one-past.ensures.1 c.before.requires.0
+product c = mul-le-mul c.one-past.ensures.1 c.requires.0
 
 marked : (c : After-one-2) → c.before.before.one.result + c.one-2.result ≤ c.before.before.before.before.before.args.six
 marked c =
-    let s = c.before.before.before.before.before in
-    omega (arith, c.one-2.ensures.0, c.before.before.one.ensures.0, two s.args.m.low s.args.m.high s.args.six s.requires.3)
+    let s = c in
+    omega (arith, c.one-2.ensures.0, c.one.ensures.0, two s.args.m.low s.args.m.high s.args.six s.requires.3)
 
 pub returns : goal.returns
 returns c =
-    let o = c.before.before in
-    let p = o.before.before in
-    let s = p.before in
-    (rw (c.one-2.ensures.0, o.one.ensures.0, p.one-past.ensures.0) refl, omega (arith, product p, s.requires.2))
+    let o = c in
+    let p = o in
+    let s = p in
+    (rw (c.one-2.ensures.0, o.one.ensures.0, p.one-past.ensures.0) refl, omega (arith, product p.before.before.before.before, s.requires.2))
 
 pub one-past-requires : goal.one-past-requires
 one-past-requires c = tt
@@ -42,14 +42,14 @@ pub overflow_mul-result : goal.overflow_mul-result
 overflow_mul-result c = omega (arith, product c)
 
 pub overflow_add-result : goal.overflow_add-result
-overflow_add-result c = omega (arith, product c, c.before.requires.2)
+overflow_add-result c = omega (arith, product c, c.requires.2)
 
 pub one-requires : goal.one-requires
 one-requires c = tt
 
 pub overflow_sub-result : goal.overflow_sub-result
 overflow_sub-result c =
-    let s = c.before.before.before in
+    let s = c in
     omega (arith, c.one.ensures.0, two s.args.m.low s.args.m.high s.args.six s.requires.3)
 
 pub one-requires-2 : goal.one-requires-2

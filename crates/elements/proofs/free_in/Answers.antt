@@ -9,16 +9,16 @@ use Rattle.elements.proofs.free_in.Goals.{After-byte-2}
 use Rattle.elements.proofs.free_in.Goals as goal
 
 first : (c : After-byte-2) → c.before.byte.result ≡ six_before c.before.before.args.g.nports c.before.before.args.g.cports (c.before.before.args.l + 1)
-first c = let s = c.before.before in c.before.byte.ensures.0 ∙ six_at _ _ _ (s.args.l + 1) s.requires.1
+first c = let s = c in c.byte.ensures.0 ∙ six_at _ _ _ (s.args.l + 1) s.requires.1
 
 second : (c : After-byte-2) → c.byte-2.result ≡ six_before c.before.before.args.g.nports c.before.before.args.g.cports c.before.before.args.l
-second c = let s = c.before.before in c.byte-2.ensures.0 ∙ six_at _ _ _ s.args.l s.requires.1
+second c = let s = c in c.byte-2.ensures.0 ∙ six_at _ _ _ s.args.l s.requires.1
 
 pub returns : goal.returns
 returns c =
-    let s = c.before.before in
+    let s = c in
     let f = free_some s.args.g s.requires.0 s.args.l s.requires.2 in
     (omega (arith, first c, second c), omega (arith, first c, second c, f.0), omega (arith, first c, second c, f.1))
 
 pub overflow_sub-result : goal.overflow_sub-result
-overflow_sub-result c = let s = c.before.before in omega (arith, first c, second c, (free_some s.args.g s.requires.0 s.args.l s.requires.2).0)
+overflow_sub-result c = let s = c in omega (arith, first c, second c, (free_some s.args.g s.requires.0 s.args.l s.requires.2).0)

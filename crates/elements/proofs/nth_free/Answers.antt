@@ -10,4 +10,4 @@ pub one-requires-2 : goal.one-requires-2
 one-requires-2 c = tt
 
 pub returns : goal.returns
-returns c = (rw (c.one-2.ensures.0, c.before.before.one.ensures.0) refl, omega (arith, c.one-2.ensures.1, c.before.before.one.ensures.1))
+returns c = (rw (c.one-2.ensures.0, c.one.ensures.0) refl, omega (arith, c.one-2.ensures.1, c.one.ensures.1))

@@ -7,22 +7,22 @@ use Rattle.elements.proofs.nth_in.Goals.{After-one-upper}
 use Rattle.elements.proofs.nth_in.Goals as goal
 
 fits : (c : After-one-upper) → c.before.args.free * c.one-upper.result ≤ c.before.args.j
-fits c = rw c.one-upper.ensures.0 (held c.before.args.free c.before.args.j)
+fits c = rw c.one-upper.ensures.0 (held c.args.free c.args.j)
 
 pub one-upper-requires : goal.one-upper-requires
 one-upper-requires c = tt
 
 pub overflow_mul-free : goal.overflow_mul-free
-overflow_mul-free c = omega (arith, fits c, c.before.requires.2)
+overflow_mul-free c = omega (arith, fits c, c.requires.2)
 
 pub overflow_sub-j : goal.overflow_sub-j
 overflow_sub-j c = omega (arith, fits c)
 
 pub nth_free-requires : goal.nth_free-requires
-nth_free-requires c = omega (arith, c.before.requires.2)
+nth_free-requires c = omega (arith, c.requires.2)
 
 pub overflow_add-result-2 : goal.overflow_add-result-2
-overflow_add-result-2 c = omega (arith, c.nth_free.ensures.1, c.before.before.requires.2, c.before.before.requires.1, c.before.one-upper.ensures.1)
+overflow_add-result-2 c = omega (arith, c.nth_free.ensures.1, c.requires.2, c.requires.1, c.one-upper.ensures.1)
 
 pub returns : goal.returns
-returns c = rw (c.nth_free.ensures.0, c.before.one-upper.ensures.0) refl
+returns c = rw (c.nth_free.ensures.0, c.one-upper.ensures.0) refl

@@ -7,12 +7,12 @@ use Rattle.elements.proofs.over_ncces.Goals as goal
 
 pub returns-then-width-eq-NCCE_WIDTH : goal.returns-then-width-eq-NCCE_WIDTH
 returns-then-width-eq-NCCE_WIDTH c =
-    let a = c.before.args in
+    let a = c.args in
     let w : a.width / ncce_width ≡ 1 = omega arith in
     sym (div-one a.e) ∙ ap (λ (x : ℕ). a.e / x) (sym w)
 
 pub returns : goal.returns
 returns c =
-    let a = c.before.args in
-    let w : a.width / ncce_width ≡ 2 = omega (arith, c.before.requires, c.if-width-eq-NCCE_WIDTH.false) in
+    let a = c.args in
+    let w : a.width / ncce_width ≡ 2 = omega (arith, c.requires, c.if-width-eq-NCCE_WIDTH.false) in
     ap (λ (x : ℕ). a.e / x) (sym w)

@@ -21,7 +21,7 @@ start c = c.before.before.before.before
 marks : (c : After-one) → c.before.marks_on-m.result ≡ marks_in (start c).args.g (start c).requires.0 (start c).args.l (start c).requires.3
 marks c =
     let s = start c in
-    c.before.marks_on-m.ensures ∙ ap (λ (f : ℕ). marks_of s.args.g.v s.args.l (6 - f)) c.before.before.Free-in.ensures.0
+    c.marks_on-m.ensures ∙ ap (λ (f : ℕ). marks_of s.args.g.v s.args.l (6 - f)) c.Free-in.ensures.0
 
 six : (c : After-one) → (start c).args.k - 6 * c.one.result ≡ (start c).args.k % 6
 six c = ap (λ (b : ℕ). (start c).args.k - 6 * b) c.one.ensures.0 ∙ six_of (start c).args.k (start c).requires.4
@@ -31,56 +31,56 @@ plain : (c : After-one) (r : Bool)
     → (eqb ((start c).args.k - 6 * c.one.result) c.before.marks_on-m.result.low || eqb ((start c).args.k - 6 * c.one.result) c.before.marks_on-m.result.high) ≡ r
     → is_free (marks_in (start c).args.g (start c).requires.0 (start c).args.l (start c).requires.3) ((start c).args.k % 6) ≡ not r
 plain c r e =
-    sym (ap₂ is_free (marks c) (six c)) ∙ marked_or (eqb ((start c).args.k - 6 * c.one.result) c.before.marks_on-m.result.low) _ r e
+    sym (ap₂ is_free (marks c) (six c)) ∙ marked_or (eqb ((start c).args.k - 6 * c.one.result) c.marks_on-m.result.low) _ r e
 
 pub returns-then-six-m : goal.returns-then-six-m
 returns-then-six-m c =
-    let o = c.before.before.before.before in
-    let s = start o in
+    let o = c in
+    let s = start o.before.before.before.before in
     let a = s.args in
     ap Unused c.reference_kind.ensures
-    ∙ stands_reference a.g s.requires.0 a.from a.width s.requires.1 a.slot a.l a.k s.requires.2 s.requires.3 s.requires.4 (plain o true c.before.if-six-m.true)
+    ∙ stands_reference a.g s.requires.0 a.from a.width s.requires.1 a.slot a.l a.k s.requires.2 s.requires.3 s.requires.4 (plain o.before.before.before.before true c.if-six-m.true)
 
 pub returns-then-in_control-in_part : goal.returns-then-in_control-in_part
 returns-then-in_control-in_part c =
-    let i = c.before in
-    let e = i.before.before in
-    let o = e.before.before.before in
-    let s = start o in
+    let i = c in
+    let e = i in
+    let o = e in
+    let s = start o.before.before.before.before.before.before in
     let a = s.args in
-    stands_plain a.g s.requires.0 a.from a.width s.requires.1 a.slot a.l a.k s.requires.2 s.requires.3 s.requires.4 (plain o false e.if-six-m.false)
-    (sym (ap₂ (λ (x y : Bool). x || not y) i.before.in_control.ensures i.in_part.ensures) ∙ c.if-in_control-in_part.true)
+    stands_plain a.g s.requires.0 a.from a.width s.requires.1 a.slot a.l a.k s.requires.2 s.requires.3 s.requires.4 (plain o.before.before.before.before.before.before false e.if-six-m.false)
+    (sym (ap₂ (λ (x y : Bool). x || not y) i.in_control.ensures i.in_part.ensures) ∙ c.if-in_control-in_part.true)
 
 -- outside the control region and in the part
 apart : (c : Else-in_control-in_part) → (c.before.before.in_control.result ≡ false) × (not c.before.in_part.result ≡ false)
-apart c = either_parts c.before.before.in_control.result (not c.before.in_part.result) c.if-in_control-in_part.false
+apart c = either_parts c.in_control.result (not c.in_part.result) c.if-in_control-in_part.false
 
 pub returns : goal.returns
 returns c =
-    let r = c.before in
-    let f = r.before in
-    let i = f.before in
-    let e = i.before.before in
-    let o = e.before.before.before in
-    let s = start o in
+    let r = c in
+    let f = r in
+    let i = f in
+    let e = i in
+    let o = e in
+    let s = start o.before.before.before.before.before.before.before.before in
     let a = s.args in
-    stands_used a.g s.requires.0 a.from a.width s.requires.1 a.slot a.l a.k s.requires.2 s.requires.3 s.requires.4 (plain o false e.if-six-m.false)
-    (sym i.before.in_control.ensures ∙ (apart f).0) (sym i.in_part.ensures ∙ not-false i.in_part.result (apart f).1) _ _ r.row_start-start.ensures.0
+    stands_used a.g s.requires.0 a.from a.width s.requires.1 a.slot a.l a.k s.requires.2 s.requires.3 s.requires.4 (plain o.before.before.before.before.before.before.before.before false e.if-six-m.false)
+    (sym i.in_control.ensures ∙ (apart f.before.before).0) (sym i.in_part.ensures ∙ not-false i.in_part.result (apart f.before.before).1) _ _ r.row_start-start.ensures.0
     (c.before_in.ensures.0
-    ∙ ap (λ (m : Marks). place_in m o.before.before.Free-in.result a.from a.k (a.k - 6 * o.one.result)) (marks o)
-    ∙ ap₂ (λ (f x : ℕ). place_in (marks_in a.g s.requires.0 a.l s.requires.3) f a.from a.k x) o.before.before.Free-in.ensures.0 (six o))
+    ∙ ap (λ (m : Marks). place_in m o.Free-in.result a.from a.k (a.k - 6 * o.one.result)) (marks o.before.before.before.before.before.before.before.before)
+    ∙ ap₂ (λ (f x : ℕ). place_in (marks_in a.g s.requires.0 a.l s.requires.3) f a.from a.k x) o.Free-in.ensures.0 (six o.before.before.before.before.before.before.before.before))
 
 pub sums-s-requires : goal.sums-s-requires
 sums-s-requires c = c.requires.0
 
 pub free_in-free-requires : goal.free_in-free-requires
-free_in-free-requires c = let s = c.before in (s.requires.0, c.sums-s.ensures, s.requires.3)
+free_in-free-requires c = let s = c in (s.requires.0, c.sums-s.ensures, s.requires.3)
 
 pub overflow_sub-free : goal.overflow_sub-free
 overflow_sub-free c = omega (arith, c.Free-in.ensures.2)
 
 pub marks_on-m-requires : goal.marks_on-m-requires
-marks_on-m-requires c = let s = c.before.before in (s.requires.0.shift, omega (arith, c.Free-in.ensures.1))
+marks_on-m-requires c = let s = c in (s.requires.0.shift, omega (arith, c.Free-in.ensures.1))
 
 pub one-requires : goal.one-requires
 one-requires c = tt
@@ -102,21 +102,21 @@ in_part-requires c = (start c.before.before.before.before).requires.1
 
 pub row_start-start-requires : goal.row_start-start-requires
 row_start-start-requires c =
-    let e = c.before.before.before in
-    let o = e.before.before.before in
-    let s = start o in
-    (s.requires.0, o.before.before.before.sums-s.ensures, s.requires.1, s.requires.2, s.requires.3, sym c.before.before.in_control.ensures ∙ (apart c).0)
+    let e = c in
+    let o = e in
+    let s = start o.before.before.before.before.before.before in
+    (s.requires.0, o.sums-s.ensures, s.requires.1, s.requires.2, s.requires.3, sym c.in_control.ensures ∙ (apart c).0)
 
 pub before_in-requires : goal.before_in-requires
 before_in-requires c =
-    let o = c.before.before.before.before.before.before.before in
-    let s = start o in
+    let o = c in
+    let s = start o.before.before.before.before.before.before.before in
     let p = s.requires.1 in (
-      o.before.before.Free-in.ensures.2,
+      o.Free-in.ensures.2,
       omega (arith, p.inside, p.some, p.whole),
-      omega (arith, six o),
-      omega (arith, ap (λ (m : Marks). m.high) o.before.marks_on-m.ensures),
+      omega (arith, six o.before.before.before.before.before.before.before),
+      omega (arith, ap (λ (m : Marks). m.high) o.marks_on-m.ensures),
     )
 
 pub overflow_add-result : goal.overflow_add-result
-overflow_add-result c = omega (arith, c.before_in.ensures.1, c.before.row_start-start.ensures.1)
+overflow_add-result c = omega (arith, c.before_in.ensures.1, c.row_start-start.ensures.1)

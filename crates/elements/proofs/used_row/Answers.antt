@@ -10,28 +10,28 @@ use Rattle.elements.proofs.used_row.Goals as goal
 
 marks : (c : After-marks_on-m) → c.marks_on-m.result ≡ marks_in c.before.before.before.args.g c.before.before.before.requires.0 c.before.before.before.args.l c.before.before.before.requires.2
 marks c =
-    let s = c.before.before.before in
-    c.marks_on-m.ensures ∙ ap (λ (f : ℕ). marks_of s.args.g.v s.args.l (6 - f)) c.before.Free-in.ensures.0
+    let s = c in
+    c.marks_on-m.ensures ∙ ap (λ (f : ℕ). marks_of s.args.g.v s.args.l (6 - f)) c.Free-in.ensures.0
 
 pub returns : goal.returns
 returns c =
-    let m = c.before in
-    let s = m.before.before.before in
+    let m = c in
+    let s = m in
     subst (RowOf s.args.g s.args.slot s.args.l)
-    (sym (λ i. record { shut = c.in_control.ensures i; low = (marks m i).low; high = (marks m i).high }))
+    (sym (λ i. record { shut = c.in_control.ensures i; low = (marks m.before i).low; high = (marks m.before i).high }))
     (row_is s.args.g s.requires.0 s.args.slot s.args.l s.requires.1 s.requires.2)
 
 pub sums-requires : goal.sums-requires
 sums-requires c = c.requires.0
 
 pub free_in-free-requires : goal.free_in-free-requires
-free_in-free-requires c = let s = c.before in (s.requires.0, c.sums.ensures, s.requires.2)
+free_in-free-requires c = let s = c in (s.requires.0, c.sums.ensures, s.requires.2)
 
 pub overflow_sub-free : goal.overflow_sub-free
 overflow_sub-free c = omega (arith, c.Free-in.ensures.2)
 
 pub marks_on-m-requires : goal.marks_on-m-requires
-marks_on-m-requires c = let s = c.before.before in (s.requires.0.shift, omega (arith, c.Free-in.ensures.1))
+marks_on-m-requires c = let s = c in (s.requires.0.shift, omega (arith, c.Free-in.ensures.1))
 
 pub in_control-requires : goal.in_control-requires
 in_control-requires c = tt

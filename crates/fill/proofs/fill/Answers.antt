@@ -9,4 +9,4 @@ pub fill_lent-requires : goal.fill_lent-requires
 fill_lent-requires c = tt
 
 pub returns : goal.returns
-returns c = let f = c.before.before in rw (f.before.before.before.numbers-si.ensures, lent_again _) at f.fill_lent.ensures
+returns c = let f = c in rw (f.numbers-si.ensures, lent_again _) at f.fill_lent.ensures

@@ -28,21 +28,21 @@ given c = (start c).args.out.now
 
 sized : (c : Else-call-ne0) → length (given c) ≡ numbers
 sized c =
-    let j = c.before.before in
+    let j = c in
     let a = (start c).args in
     output_size (lent_cell a.c a.si.now) a.anchor.now a.other.now a.g a.i a.bits.now a.level (given c) j.judged-call.result j.judged-call.ensures c.if-call-ne0.false
 
 prepared : (c : After-layout-layout) → Prepared c.layout-layout.result c.before.before.before.judged-call.result.first (start c.before).args.bits.now
 prepared c =
-    let j = c.before.before.before in
+    let j = c in
     subst (λ (g : Layout). Prepared g j.judged-call.result.first (start c.before).args.bits.now) (sym c.layout-layout.ensures)
-    (j.judged-call.ensures.prepared c.before.if-call-ne0.false)
+    (j.judged-call.ensures.prepared c.if-call-ne0.false)
 
 -- both slots' symbols have their bits
 room : (c : After-layout-layout) → let first = c.before.before.before.judged-call.result.first in
     let u = used c.layout-layout.result 0 subcarriers in
     first + count u (0 * slot_elements) slot_elements + count u (1 * slot_elements) slot_elements ≤ 4 * length (start c.before).args.bits.now
-room c = slots_room c.layout-layout.result c.before.before.before.judged-call.result.first _ (prepared c).room
+room c = slots_room c.layout-layout.result c.judged-call.result.first _ (prepared c).room
 
 -- ---- the front half written over
 
@@ -62,23 +62,23 @@ half_sized c = joined_size slot_numbers c.write_slot-next.new.0 (given (accepted
 
 pub returns-then-call-ne0 : goal.returns-then-call-ne0
 returns-then-call-ne0 c =
-    let j = c.before.before in
-    let a = j.before.before.before.before.before.before.args in (
+    let j = c in
+    let a = j.args in (
       j.judged-call.ensures.number,
       output_refused (lent_cell a.c a.si.now) a.anchor.now a.other.now a.g a.i a.bits.now a.level a.out-1.now j.judged-call.result j.judged-call.ensures c.if-call-ne0.true,
     )
 
 pub returns : goal.returns
 returns c =
-    let b = c.before.before in
-    let w = b.before.before.before.before in
-    let y = accepted w in
-    let f = w.before.before in
+    let b = c in
+    let w = b in
+    let y = accepted w.before.before.before.before.before.before in
+    let f = w in
     let e = y.before in
     let j = e.before.before in
     let a = (start e).args in (
       sym e.if-call-ne0.left ∙ j.judged-call.ensures.number,
-      halves w.write_slot-next.new.0 (drop slot_numbers (given e)) b.write_slot.new.0 slot_numbers (front w)
+      halves w.write_slot-next.new.0 (drop slot_numbers (given e)) b.write_slot.new.0 slot_numbers (front w.before.before.before.before.before.before)
           ∙ ap₂ ◌++◌ w.write_slot-next.ensures.1 b.write_slot.ensures.1
           ∙ both_slots (lent_cell a.c a.si.now) a.anchor.now a.other.now a.g a.i a.bits.now a.level (given e) j.judged-call.result j.judged-call.ensures
           y.layout-layout.result f.symbols-four.result w.write_slot-next.result y.layout-layout.ensures f.symbols-four.ensures w.write_slot-next.ensures.0 e.if-call-ne0.left
@@ -89,7 +89,7 @@ pub judged-call-requires : goal.judged-call-requires
 judged-call-requires c = tt
 
 pub layout-layout-requires : goal.layout-layout-requires
-layout-layout-requires c = c.before.before.judged-call.ensures.shift c.if-call-ne0.false
+layout-layout-requires c = c.judged-call.ensures.shift c.if-call-ne0.false
 
 pub symbols-four-requires : goal.symbols-four-requires
 symbols-four-requires c = tt
@@ -99,9 +99,9 @@ slice_bounds-write_slot-end c = omega (arith, sized c.before.before)
 
 pub write_slot-next-requires : goal.write_slot-next-requires
 write_slot-next-requires c =
-    let y = c.before.before in
-    let p = prepared y in
-    (front_size slot_numbers (given y.before) (sized y.before), omega arith, p.valid, omega (arith, p.small), omega (arith, room y))
+    let y = c in
+    let p = prepared y.before.before in
+    (front_size slot_numbers (given y.before) (sized y.before.before.before), omega arith, p.valid, omega (arith, p.small), omega (arith, room y.before.before))
 
 pub slice_bounds-write_slot-count-2 : goal.slice_bounds-write_slot-count-2
 slice_bounds-write_slot-count-2 c = omega (arith, half_sized c.before.before)
@@ -111,11 +111,11 @@ slice_bounds-write_slot-start-2 c = omega (arith, half_sized c.before.before)
 
 pub write_slot-requires : goal.write_slot-requires
 write_slot-requires c =
-    let w = c.before.before.before in
-    let y = accepted w in
+    let w = c in
+    let y = accepted w.before.before.before in
     let p = prepared y in
     let r = w.write_slot-next.ensures.0 in (
-      back_size slot_numbers (half w) (half_sized w),
+      back_size slot_numbers (half w) (half_sized w.before.before.before),
       omega arith,
       p.valid,
       omega (arith, p.small, r, few y.layout-layout.result (0 * slot_elements) slot_elements),

@@ -20,15 +20,15 @@ start c = c.before.before.before
 
 pub loop-l-init : goal.loop-l-init
 loop-l-init c =
-    let s = c.before.before in
+    let s = c in
     (omega arith, s.requires.0, none_yet s.args.layout (s.args.slot * slot_elements) s.args.c, laid_none _)
 
 pub write_row-n-requires : goal.write_row-n-requires
 write_row-n-requires c =
-    let r = c.before in
-    let t = r.before in
-    let l = t.before in
-    let s = start l in
+    let r = c in
+    let t = r in
+    let l = t in
+    let s = start l.before.before.before in
     let a = s.args in (
       omega (arith, t.loop-l-test.true, l.loop-l.invariant.1),
       l.loop-l.invariant.1,
@@ -38,11 +38,11 @@ write_row-n-requires c =
 
 pub loop-l-preserved : goal.loop-l-preserved
 loop-l-preserved c =
-    let w = c.before.before in
-    let r = w.before.before in
-    let t = r.before in
-    let l = t.before in
-    let a = (start l).args in
+    let w = c in
+    let r = w in
+    let t = r in
+    let l = t in
+    let a = (start l.before.before.before.before.before.before).args in
     let on : subcarriers * l.loop-l.l + subcarriers ≡ subcarriers * (l.loop-l.l + 1) = omega arith in (
       omega (arith, t.loop-l-test.true),
       w.write_row-n.ensures.1,
@@ -54,8 +54,8 @@ loop-l-preserved c =
 
 pub returns : goal.returns
 returns c =
-    let l = c.before in
-    let a = (start l).args in
+    let l = c in
+    let a = (start l.before).args in
     let e : subcarriers * l.loop-l.l ≡ slot_elements = omega (arith, l.loop-l.invariant.0, c.loop-l-test.false) in
     (l.loop-l.invariant.2 ∙ ap (λ (n : ℕ). a.c + count (used a.layout 0 subcarriers) (a.slot * slot_elements) n) e, laid_all _ _ (subcarriers * l.loop-l.l) slot_elements l.loop-l.invariant.1 e l.loop-l.invariant.3)
 
@@ -63,13 +63,13 @@ pub used_row-row-requires : goal.used_row-row-requires
 used_row-row-requires c = let s = start c.before in (s.requires.2, s.requires.1, c.loop-l-test.true)
 
 pub overflow_mul-l : goal.overflow_mul-l
-overflow_mul-l c = omega (arith, c.before.before.loop-l-test.true)
+overflow_mul-l c = omega (arith, c.loop-l-test.true)
 
 pub overflow_add-l : goal.overflow_add-l
-overflow_add-l c = omega (arith, c.before.before.before.before.before.loop-l-test.true)
+overflow_add-l c = omega (arith, c.loop-l-test.true)
 
 pub loop-l-smaller : goal.loop-l-smaller
-loop-l-smaller c = omega (arith, c.before.before.before.before.before.loop-l-test.true)
+loop-l-smaller c = omega (arith, c.loop-l-test.true)
 
 pub shape_of-out : goal.shape_of-out
-shape_of-out c = c.before.loop-l.invariant.1 ∙ sym (start c.before).requires.0
+shape_of-out c = c.loop-l.invariant.1 ∙ sym (start c.before).requires.0

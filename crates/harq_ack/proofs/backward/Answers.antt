@@ -15,7 +15,7 @@ use Rattle.harq_ack.proofs.backward.Goals.{After-shape-s}
 use Rattle.harq_ack.proofs.backward.Goals as goal
 
 fitting : (c : After-shape-s) → Fits c.shape-s.result
-fitting c = (ready _ _ c.before.before.judge-no.ensures c.before.if-no-ne0.false _ c.shape-s.ensures).0
+fitting c = (ready _ _ c.judge-no.ensures c.if-no-ne0.false _ c.shape-s.ensures).0
 
 pub returns-then-no-ne0 : goal.returns-then-no-ne0
 unfolding backward_of refusal shape_of
@@ -41,7 +41,7 @@ pub refused-requires : goal.refused-requires
 refused-requires c = tt
 
 pub shape-s-requires : goal.shape-s-requires
-shape-s-requires c = sym c.before.judge-no.ensures ∙ c.if-no-ne0.false
+shape-s-requires c = sym c.judge-no.ensures ∙ c.if-no-ne0.false
 
 pub locate-requires : goal.locate-requires
 locate-requires c = fitting c

@@ -36,7 +36,7 @@ pub refused-requires : goal.refused-requires
 refused-requires c = tt
 
 pub shape-requires : goal.shape-requires
-shape-requires c = sym c.before.judge-no.ensures ∙ c.if-no-ne0.false
+shape-requires c = sym c.judge-no.ensures ∙ c.if-no-ne0.false
 
 pub backward-requires : goal.backward-requires
-backward-requires c = ready _ _ c.before.before.judge-no.ensures c.before.if-no-ne0.false _ c.shape.ensures
+backward-requires c = ready _ _ c.judge-no.ensures c.if-no-ne0.false _ c.shape.ensures

@@ -12,8 +12,8 @@ use Rattle.harq_ack.proofs.plan.Goals as goal
 
 pub returns-then-no-ne0 : goal.returns-then-no-ne0
 returns-then-no-ne0 c =
-    let j = c.before.before in
-    c.refused_plan.ensures ∙ plan_refused j.before.args.g none _ j.judge-no.ensures c.before.if-no-ne0.true
+    let j = c in
+    c.refused_plan.ensures ∙ plan_refused j.args.g none _ j.judge-no.ensures c.if-no-ne0.true
 
 pub returns : goal.returns
 unfolding plan_of refusal shape_of
@@ -31,7 +31,7 @@ pub refused_plan-requires : goal.refused_plan-requires
 refused_plan-requires c = tt
 
 pub shape-requires : goal.shape-requires
-shape-requires c = sym c.before.judge-no.ensures ∙ c.if-no-ne0.false
+shape-requires c = sym c.judge-no.ensures ∙ c.if-no-ne0.false
 
 pub plan-requires : goal.plan-requires
-plan-requires c = let e = c.before in (ready _ _ e.before.judge-no.ensures e.if-no-ne0.false _ c.shape.ensures).0
+plan-requires c = let e = c in (ready _ _ e.judge-no.ensures e.if-no-ne0.false _ c.shape.ensures).0

@@ -40,7 +40,7 @@ tone-requires c = tt
 
 pub uplink_copies-requires : goal.uplink_copies-requires
 uplink_copies-requires c =
-    let s = c.before.before.before.before.before in
+    let s = c in
     omega (arith, (ranged s.args.g s.requires).copies)
 
 pub group-requires : goal.group-requires

@@ -26,5 +26,5 @@ first_after-requires c = omega (arith, c.delay.ensures, (in_range_lem c.before).
 
 pub returns : goal.returns
 returns c =
-    let f = c.before.before.args.g in
-    c.first_after.ensures ∙ ap (λ (d : ℕ). first_after f.spacing (f.n + d - 1)) c.before.delay.ensures
+    let f = c.args.g in
+    c.first_after.ensures ∙ ap (λ (d : ℕ). first_after f.spacing (f.n + d - 1)) c.delay.ensures

@@ -8,4 +8,4 @@ pub forward_beside-requires : goal.forward_beside-requires
 forward_beside-requires c = tt
 
 pub returns : goal.returns
-returns c = c.forward_beside.ensures ∙ simp c.before.windows_of.ensures
+returns c = c.forward_beside.ensures ∙ simp c.windows_of.ensures

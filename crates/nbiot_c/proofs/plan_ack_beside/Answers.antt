@@ -8,4 +8,4 @@ pub plan_beside-requires : goal.plan_beside-requires
 plan_beside-requires c = tt
 
 pub returns : goal.returns
-returns c = c.plan_beside.ensures ∙ simp c.before.windows_of.ensures
+returns c = c.plan_beside.ensures ∙ simp c.windows_of.ensures

@@ -9,4 +9,4 @@ pub forward_lent-requires : goal.forward_lent-requires
 forward_lent-requires c = tt
 
 pub returns : goal.returns
-returns c = rw (c.before.before.numbers-si.ensures, lent_again _) at c.forward_lent.ensures
+returns c = rw (c.numbers-si.ensures, lent_again _) at c.forward_lent.ensures

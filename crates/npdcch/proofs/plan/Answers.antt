@@ -9,4 +9,4 @@ pub plan_lent-requires : goal.plan_lent-requires
 plan_lent-requires c = tt
 
 pub returns : goal.returns
-returns c = rw (c.before.before.numbers-si.ensures, lent_again _) at c.plan_lent.ensures
+returns c = rw (c.numbers-si.ensures, lent_again _) at c.plan_lent.ensures

@@ -9,4 +9,4 @@ pub backward_lent-requires : goal.backward_lent-requires
 backward_lent-requires c = tt
 
 pub returns : goal.returns
-returns c = rw (c.before.before.numbers-si.ensures, lent_again _) at c.backward_lent.ensures
+returns c = rw (c.numbers-si.ensures, lent_again _) at c.backward_lent.ensures

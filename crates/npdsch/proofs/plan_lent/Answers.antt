@@ -17,4 +17,4 @@ pub ready-requires : goal.ready-requires
 ready-requires c = tt
 
 pub plan-requires : goal.plan-requires
-plan-requires c = (question _ _ _ _ c.before.judged_lent-v.result c.before.judged_lent-v.ensures c.ready.result c.ready.ensures).answerable
+plan-requires c = (question _ _ _ _ c.judged_lent-v.result c.judged_lent-v.ensures c.ready.result c.ready.ensures).answerable

@@ -10,21 +10,21 @@ use Rattle.npdsch.proofs.ready.Goals as goal
 refusal : (c : After-fields_refusal-no) → c.fields_refusal-no.result ≡ grant_refusal c.before.before.before.args.g
 unfolding grant_refusal
 refusal c =
-    let g = c.before.before.before.args.g in
-    c.fields_refusal-no.ensures ∙ ap (λ (b : Bool). fields_refusal g.n b g.rmax) c.before.above_largest.ensures
+    let g = c.args.g in
+    c.fields_refusal-no.ensures ∙ ap (λ (b : Bool). fields_refusal g.n b g.rmax) c.above_largest.ensures
 
 pub returns-then-cell-ne0 : goal.returns-then-cell-ne0
-returns-then-cell-ne0 c = by_cell _ _ _ c.not_ready.result c.not_ready.ensures c.before.if-cell-ne0.true
+returns-then-cell-ne0 c = by_cell _ _ _ c.not_ready.result c.not_ready.ensures c.if-cell-ne0.true
 
 pub returns-then-no-ne0 : goal.returns-then-no-ne0
 returns-then-no-ne0 c =
-    let j = c.before.before in
-    by_grant _ _ _ c.not_ready-then-no-ne0.result _ (refusal j) c.not_ready-then-no-ne0.ensures j.before.before.if-cell-ne0.false c.before.if-no-ne0.true
+    let j = c in
+    by_grant _ _ _ c.not_ready-then-no-ne0.result _ (refusal j.before.before) c.not_ready-then-no-ne0.ensures j.if-cell-ne0.false c.if-no-ne0.true
 
 pub returns : goal.returns
 returns c =
-    let j = c.before.before in
-    by_none _ _ _ _ c.burst.result (refusal j) j.before.before.if-cell-ne0.false c.before.if-no-ne0.false c.burst.ensures
+    let j = c in
+    by_none _ _ _ _ c.burst.result (refusal j.before.before) j.if-cell-ne0.false c.if-no-ne0.false c.burst.ensures
 
 pub not_ready-requires : goal.not_ready-requires
 not_ready-requires c = tt

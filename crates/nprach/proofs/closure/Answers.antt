@@ -15,11 +15,11 @@ use Rattle.nprach.proofs.closure.Goals as goal
 -- the window concerns the tones, so it is listed
 module _ (c : Else-not-concerns) where
   concerned : (c.before.before.args.read && shares_tone c.before.before.args.tone c.before.before.args.tones c.before.before.args.w) ≡ true
-  concerned = sym c.before.concerns.ensures ∙ not-false _ c.if-not-concerns.false
+  concerned = sym c.concerns.ensures ∙ not-false _ c.if-not-concerns.false
 
   numbered : Numbers c.before.before.args.w
   numbered =
-      let a = c.before.before in
+      let a = c in
       numbers a.args.w (a.requires.4 (both_parts a.args.read (shares_tone a.args.tone a.args.tones a.args.w) concerned).0)
 
 pub concerns-requires : goal.concerns-requires

@@ -9,8 +9,8 @@ within : (c : After-group_ms-ms)
     → let a = c.before.before.args in
     (1 ≤ c.group_ms-ms.result) × (c.group_ms-ms.result ≤ 2) × (c.before.narrow_tones-scale.result * a.tone ≤ 48) × (c.before.narrow_tones-scale.result * a.tones ≤ 48)
 within c =
-    let a = c.before.before in
-    scaled a.args.spacing _ _ _ _ c.before.narrow_tones-scale.ensures c.group_ms-ms.ensures a.requires.0
+    let a = c in
+    scaled a.args.spacing _ _ _ _ c.narrow_tones-scale.ensures c.group_ms-ms.ensures a.requires.0
 
 pub narrow_tones-scale-requires : goal.narrow_tones-scale-requires
 narrow_tones-scale-requires c = tt
@@ -25,22 +25,22 @@ pub overflow_mul-scale-2 : goal.overflow_mul-scale-2
 overflow_mul-scale-2 c = omega (arith, (within c).3)
 
 pub closures_by-requires : goal.closures_by-requires
-closures_by-requires c = ((within c).0, (within c).1, (within c).2, (within c).3, c.before.before.requires.1)
+closures_by-requires c = ((within c).0, (within c).1, (within c).2, (within c).3, c.requires.1)
 
 pub nest-requires : goal.nest-requires
 nest-requires c =
-    let m = c.before in
-    let ws = m.before.before.args.ws in
-    let l = m.before.before.requires.1 in
+    let m = c in
+    let ws = m.args.ws in
+    let l = m.requires.1 in
     rw c.closures_by.ensures (
-      closures_usable m.group_ms-ms.result (within m).0 (within m).1 _ _ ws l,
-      closures_chained m.group_ms-ms.result (within m).0 (within m).1 _ _ ws l,
+      closures_usable m.group_ms-ms.result (within m.before).0 (within m.before).1 _ _ ws l,
+      closures_chained m.group_ms-ms.result (within m.before).0 (within m.before).1 _ _ ws l,
     )
 
 pub returns : goal.returns
 returns c =
-    let m = c.before.before in
-    let a = m.before.before in
-    nested_on a.args.spacing _ _ _ _ a.args.ws _ m.before.narrow_tones-scale.ensures m.group_ms-ms.ensures
-    (leveled m.group_ms-ms.result (within m).0 (within m).1 _ _ a.args.ws a.requires.1 _
-    (rw (← c.before.closures_by.ensures) c.nest.ensures))
+    let m = c in
+    let a = m in
+    nested_on a.args.spacing _ _ _ _ a.args.ws _ m.narrow_tones-scale.ensures m.group_ms-ms.ensures
+    (leveled m.group_ms-ms.result (within m.before.before).0 (within m.before.before).1 _ _ a.args.ws a.requires.1 _
+    (rw (← c.closures_by.ensures) c.nest.ensures))

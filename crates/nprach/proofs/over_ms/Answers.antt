@@ -9,7 +9,7 @@ two : (c : Else-ms-eq1) → 2 ≡ c.before.args.ms
 two c = omega arith
 
 pub returns-then-ms-eq1 : goal.returns-then-ms-eq1
-returns-then-ms-eq1 c = sym (ap (λ (n : ℕ). c.before.args.x / n) c.if-ms-eq1.true ∙ div-one c.before.args.x)
+returns-then-ms-eq1 c = sym (ap (λ (n : ℕ). c.args.x / n) c.if-ms-eq1.true ∙ div-one c.args.x)
 
 pub returns : goal.returns
-returns c = ap (λ (n : ℕ). c.before.args.x / n) (two c)
+returns c = ap (λ (n : ℕ). c.args.x / n) (two c)

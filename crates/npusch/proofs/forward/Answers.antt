@@ -16,13 +16,13 @@ use Rattle.npusch.proofs.forward.Goals.{After-shape-s}
 use Rattle.npusch.proofs.forward.Goals as goal
 
 fitting : (c : After-shape-s) → Fits c.shape-s.result
-fitting c = (ready _ _ c.before.before.judge-no.ensures c.before.if-no-ne0.false _ c.shape-s.ensures).0
+fitting c = (ready _ _ c.judge-no.ensures c.if-no-ne0.false _ c.shape-s.ensures).0
 
 pub returns-then-no-ne0 : goal.returns-then-no-ne0
 returns-then-no-ne0 c =
-    let j = c.before.before in
-    let a = j.before.args in
-    c.refused_place.ensures ∙ forward_refused a.g none _ j.judge-no.ensures a.p c.before.if-no-ne0.true
+    let j = c in
+    let a = j.args in
+    c.refused_place.ensures ∙ forward_refused a.g none _ j.judge-no.ensures a.p c.if-no-ne0.true
 
 pub returns : goal.returns
 unfolding forward_of refusal shape_of
@@ -41,7 +41,7 @@ pub refused_place-requires : goal.refused_place-requires
 refused_place-requires c = tt
 
 pub shape-s-requires : goal.shape-s-requires
-shape-s-requires c = sym c.before.judge-no.ensures ∙ c.if-no-ne0.false
+shape-s-requires c = sym c.judge-no.ensures ∙ c.if-no-ne0.false
 
 pub split-at-requires : goal.split-at-requires
 split-at-requires c = fitting c
@@ -50,4 +50,4 @@ pub slot_at-requires : goal.slot_at-requires
 slot_at-requires c = fitting c.before
 
 pub forward-requires : goal.forward-requires
-forward-requires c = (fitting c.before.before, c.before.split-at.ensures)
+forward-requires c = (fitting c.before.before, c.split-at.ensures)

@@ -15,8 +15,8 @@ use Rattle.npusch.proofs.plan.Goals as goal
 
 pub returns-then-no-ne0 : goal.returns-then-no-ne0
 returns-then-no-ne0 c =
-    let j = c.before.before in
-    c.refused_plan.ensures ∙ plan_refused j.before.args.g none _ j.judge-no.ensures c.before.if-no-ne0.true
+    let j = c in
+    c.refused_plan.ensures ∙ plan_refused j.args.g none _ j.judge-no.ensures c.if-no-ne0.true
 
 pub returns : goal.returns
 unfolding plan_of refusal shape_of
@@ -34,10 +34,10 @@ pub refused_plan-requires : goal.refused_plan-requires
 refused_plan-requires c = tt
 
 pub sizes_of-own-requires : goal.sizes_of-own-requires
-sizes_of-own-requires c = sym c.before.judge-no.ensures ∙ c.if-no-ne0.false
+sizes_of-own-requires c = sym c.judge-no.ensures ∙ c.if-no-ne0.false
 
 pub shape-requires : goal.shape-requires
-shape-requires c = let e = c.before in sym e.before.judge-no.ensures ∙ e.if-no-ne0.false
+shape-requires c = let e = c in sym e.judge-no.ensures ∙ e.if-no-ne0.false
 
 pub plan-requires : goal.plan-requires
-plan-requires c = let e = c.before.before in (ready _ _ e.before.judge-no.ensures e.if-no-ne0.false _ c.shape.ensures).0
+plan-requires c = let e = c in (ready _ _ e.judge-no.ensures e.if-no-ne0.false _ c.shape.ensures).0

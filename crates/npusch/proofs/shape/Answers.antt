@@ -36,11 +36,11 @@ codeword-requires c = omega (arith, (in_range_lem c.before.before.before.before.
 
 pub consecutive-requires : goal.consecutive-requires
 consecutive-requires c =
-    let n = c.before.before.before.before.before.before in
+    let n = c in
     omega (
       arith,
       n.uplink_copies-copies.ensures,
-      (uplink_copies_bounds n.before.before.args.g.copies (omega (arith, (in_range_lem n.before.before).copies))).1,
+      (uplink_copies_bounds n.args.g.copies (omega (arith, (in_range_lem n.before.before.before.before.before.before.before.before).copies))).1,
     )
 
 pub group-requires : goal.group-requires
@@ -51,8 +51,8 @@ reference-requires c = tt
 
 pub returns : goal.returns
 returns c =
-    let k = c.before.before.before.before in
-    let n = k.before.before.before.before.before in
-    shape_is n.before.before.args.g _ _ _ _ _ _ _ _ _ _ _ n.before.tones-tones.ensures n.uplink_copies-copies.ensures
-    k.before.before.before.before.start.ensures k.before.before.before.subcarriers.ensures.0 k.before.before.block.ensures k.before.gap.ensures k.first_tone.ensures
-    c.before.before.before.codeword.ensures c.before.before.consecutive.ensures c.before.group.ensures c.reference.ensures
+    let k = c in
+    let n = k in
+    shape_is n.args.g _ _ _ _ _ _ _ _ _ _ _ n.tones-tones.ensures n.uplink_copies-copies.ensures
+    k.start.ensures k.subcarriers.ensures.0 k.block.ensures k.gap.ensures k.first_tone.ensures
+    c.codeword.ensures c.consecutive.ensures c.group.ensures c.reference.ensures

@@ -20,9 +20,9 @@ order-order-requires c = omega (arith, (in_range_lem c.before.before).mcs)
 
 pub returns : goal.returns
 returns c =
-    let t = c.before.before in
-    let g = t.before.args.g in
+    let t = c in
+    let g = t.args.g in
     λ j. record {
-      size = (c.before.block_size-size.ensures ∙ ap (λ (n : ℕ). block_size n g.mcs g.units) t.tones-tones.ensures) j;
+      size = (c.block_size-size.ensures ∙ ap (λ (n : ℕ). block_size n g.mcs g.units) t.tones-tones.ensures) j;
       order = (c.order-order.ensures ∙ ap (λ (n : ℕ). order_of n g.mcs) t.tones-tones.ensures) j;
     }

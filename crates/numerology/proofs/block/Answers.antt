@@ -7,4 +7,4 @@ pub by_spacing-requires : goal.by_spacing-requires
 by_spacing-requires c = tt
 
 pub returns : goal.returns
-returns c = c.by_spacing.ensures ∙ block_is (eqb c.before.args.spacing 0)
+returns c = c.by_spacing.ensures ∙ block_is (eqb c.args.spacing 0)

@@ -20,7 +20,7 @@ abbrev u : Start → ℕ → Bool
 u s = left_in s.args.p s.args.laid (messages_in s.args.si.now)
 
 all : (c : After-sent_subframes) → c.sent_subframes.result * c.before.count_used-w.result ≡ places c.before.before.before.args.b
-all c = ap₂ (λ (x y : ℕ). x * y) c.sent_subframes.ensures.0 c.before.count_used-w.ensures.0
+all c = ap₂ (λ (x y : ℕ). x * y) c.sent_subframes.ensures.0 c.count_used-w.ensures.0
 
 -- the position is one of the places: its subframe is sent, and its element is used
 module _ (c : Else-position-total) where
@@ -28,7 +28,7 @@ module _ (c : Else-position-total) where
   w = c.before.before
 
   abbrev s : Start
-  s = w.before.before
+  s = w.before.before.before
 
   held : s.args.position < places s.args.b
   held = omega (arith, c.if-position-total.false, all c.before)
@@ -47,35 +47,35 @@ module _ (c : Else-position-total) where
 
 pub returns : goal.returns
 returns c =
-    let k = c.before.before in
-    let t = k.before.before in
-    let e = t.before.before in
-    let a = s e in
+    let k = c in
+    let t = k in
+    let e = t in
+    let a = s e.before.before.before.before.before.before.before in
     let b = a.args.b in
     c.place.ensures
-    ∙ forward_is (u a) all_periods b a.args.position _ _ _ _ _ (held e) (w e).count_used-w.ensures.0
+    ∙ forward_is (u a) all_periods b a.args.position _ _ _ _ _ (held e.before.before.before.before.before.before.before) (w e.before.before.before.before.before.before.before).count_used-w.ensures.0
     (t.Usable-at.ensures
     ∙ sym (select_from (u a) all_periods (left_again a.args.p a.args.laid (messages_in a.args.si.now) a.requires.0.on) a.requires.0.some b.from b.skip _))
-    k.before.used_at-x.ensures k.carried_by-unit.ensures.0 c.before.item.ensures
+    k.used_at-x.ensures k.carried_by-unit.ensures.0 c.item.ensures
 
 pub count_used-w-requires : goal.count_used-w-requires
-count_used-w-requires c = (c.before.requires.1.layout, c.before.requires.1.part)
+count_used-w-requires c = (c.requires.1.layout, c.requires.1.part)
 
 pub sent_subframes-requires : goal.sent_subframes-requires
-sent_subframes-requires c = c.before.before.requires.1
+sent_subframes-requires c = c.requires.1
 
 pub overflow_mul-total : goal.overflow_mul-total
-overflow_mul-total c = omega (arith, places_small c.sent_subframes.result c.before.count_used-w.result c.sent_subframes.ensures.2 c.before.count_used-w.ensures.2)
+overflow_mul-total c = omega (arith, places_small c.sent_subframes.result c.count_used-w.result c.sent_subframes.ensures.2 c.count_used-w.ensures.2)
 
 pub refused_place-requires : goal.refused_place-requires
 refused_place-requires c = tt
 
 pub returns-then-position-total : goal.returns-then-position-total
 returns-then-position-total c =
-    let t = c.before in
-    let n = t.before in
-    let a = n.before.before.before in
-    c.refused_place.ensures ∙ sym (past_at refused_place place_of (sending_of (u a) all_periods a.args.b) a.args.position (omega (arith, all n, t.if-position-total.true)))
+    let t = c in
+    let n = t in
+    let a = n in
+    c.refused_place.ensures ∙ sym (past_at refused_place place_of (sending_of (u a) all_periods a.args.b) a.args.position (omega (arith, all n.before.before, t.if-position-total.true)))
 
 pub overflow_add-b : goal.overflow_add-b
 overflow_add-b c = omega (arith, few c.before)
@@ -84,16 +84,16 @@ pub usable_at-t-requires : goal.usable_at-t-requires
 usable_at-t-requires c = let a = s c.before in (a.requires.0, a.requires.1.from_small, few c.before)
 
 pub used_at-x-requires : goal.used_at-x-requires
-used_at-x-requires c = let e = c.before.before in let f = (s e).requires.1 in (f.layout, f.part, rest e)
+used_at-x-requires c = let e = c in let f = (s e.before.before.before).requires.1 in (f.layout, f.part, rest e.before.before.before)
 
 pub carried_by-unit-requires : goal.carried_by-unit-requires
-carried_by-unit-requires c = (s c.before.before.before).requires.1
+carried_by-unit-requires c = (s c.before.before.before.before).requires.1
 
 pub item-requires : goal.item-requires
 item-requires c =
-    let e = c.before.before.before.before in
-    let n = (w e).count_used-w.ensures in
-    (omega (arith, c.carried_by-unit.ensures.1), omega (arith, n.2), omega (arith, rest e, n.0))
+    let e = c in
+    let n = (w e.before.before.before.before.before).count_used-w.ensures in
+    (omega (arith, c.carried_by-unit.ensures.1), omega (arith, n.2), omega (arith, rest e.before.before.before.before.before, n.0))
 
 pub place-requires : goal.place-requires
 place-requires c = tt

@@ -9,4 +9,4 @@ pub npdcch_lent-requires : goal.npdcch_lent-requires
 npdcch_lent-requires c = tt
 
 pub returns : goal.returns
-returns c = rw (c.before.before.numbers-si.ensures, lent_again _) at c.npdcch_lent.ensures
+returns c = rw (c.numbers-si.ensures, lent_again _) at c.npdcch_lent.ensures

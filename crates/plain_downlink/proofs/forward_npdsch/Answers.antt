@@ -9,4 +9,4 @@ pub npdsch_lent-requires : goal.npdsch_lent-requires
 npdsch_lent-requires c = tt
 
 pub returns : goal.returns
-returns c = rw (c.before.before.numbers-si.ensures, lent_again _) at c.npdsch_lent.ensures
+returns c = rw (c.numbers-si.ensures, lent_again _) at c.npdsch_lent.ensures

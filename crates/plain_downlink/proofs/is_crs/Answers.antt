@@ -16,13 +16,13 @@ module _ (near far first second both : Bool) where
   at_1 = simp and-false
 
 pub returns-then-l-eq0 : goal.returns-then-l-eq0
-returns-then-l-eq0 c = let a = c.before.before.before.args in rw c.if-l-eq0.true (at_0 a.near a.far (leb 1 a.g.cports) (leb 2 a.g.cports) (leb 4 a.g.cports))
+returns-then-l-eq0 c = let a = c.args in rw c.if-l-eq0.true (at_0 a.near a.far (leb 1 a.g.cports) (leb 2 a.g.cports) (leb 4 a.g.cports))
 
 pub returns-then-l-eq4 : goal.returns-then-l-eq4
-returns-then-l-eq4 c = let a = c.before.before.before.before.args in rw c.if-l-eq4.true (at_4 a.near a.far (leb 1 a.g.cports) (leb 2 a.g.cports) (leb 4 a.g.cports))
+returns-then-l-eq4 c = let a = c.args in rw c.if-l-eq4.true (at_4 a.near a.far (leb 1 a.g.cports) (leb 2 a.g.cports) (leb 4 a.g.cports))
 
 pub returns-then-l-eq1 : goal.returns-then-l-eq1
-returns-then-l-eq1 c = let a = c.before.before.before.before.before.before.args in rw c.before.if-l-eq1.true (at_1 a.near a.far (leb 1 a.g.cports) (leb 2 a.g.cports) (leb 4 a.g.cports))
+returns-then-l-eq1 c = let a = c.args in rw c.if-l-eq1.true (at_1 a.near a.far (leb 1 a.g.cports) (leb 2 a.g.cports) (leb 4 a.g.cports))
 
 pub returns : goal.returns
-returns c = simp (ne_eqb _ _ c.if-l-eq1.false, ne_eqb _ _ c.before.if-l-eq4.false, ne_eqb _ _ c.before.before.if-l-eq0.false, and-false)
+returns c = simp (ne_eqb _ _ c.if-l-eq1.false, ne_eqb _ _ c.if-l-eq4.false, ne_eqb _ _ c.if-l-eq0.false, and-false)

@@ -9,10 +9,10 @@ at_5 : (near far second : Bool) → (near || (second && far)) ≡ ((near || fals
 at_5 near far second = simp or-false
 
 pub returns-then-l-eq5 : goal.returns-then-l-eq5
-returns-then-l-eq5 c = let a = c.before.before.args in rw c.if-l-eq5.true (at_5 a.near a.far (leb 2 a.g.nports))
+returns-then-l-eq5 c = let a = c.args in rw c.if-l-eq5.true (at_5 a.near a.far (leb 2 a.g.nports))
 
 pub returns-then-l-eq6 : goal.returns-then-l-eq6
 returns-then-l-eq6 c = rw c.if-l-eq6.true
 
 pub returns : goal.returns
-returns c = simp (ne_eqb _ _ c.if-l-eq6.false, ne_eqb _ _ c.before.if-l-eq5.false, and-false)
+returns c = simp (ne_eqb _ _ c.if-l-eq6.false, ne_eqb _ _ c.if-l-eq5.false, and-false)

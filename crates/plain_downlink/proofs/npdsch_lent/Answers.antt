@@ -17,4 +17,4 @@ pub ready-requires : goal.ready-requires
 ready-requires c = tt
 
 pub forward-requires : goal.forward-requires
-forward-requires c = (question _ _ _ _ c.before.judged_lent-v.result c.before.judged_lent-v.ensures c.ready.result c.ready.ensures).answerable
+forward-requires c = (question _ _ _ _ c.judged_lent-v.result c.judged_lent-v.ensures c.ready.result c.ready.ensures).answerable

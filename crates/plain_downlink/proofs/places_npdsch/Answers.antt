@@ -19,4 +19,4 @@ pub ready-requires : goal.ready-requires
 ready-requires c = tt
 
 pub total-requires : goal.total-requires
-total-requires c = (question _ _ _ _ c.before.judged-v.result c.before.judged-v.ensures c.ready.result c.ready.ensures).answerable.fits
+total-requires c = (question _ _ _ _ c.judged-v.result c.judged-v.ensures c.ready.result c.ready.ensures).answerable.fits

@@ -34,20 +34,20 @@ module _ (c : Else-ahead-d) where
   short : l.loop-ahead.t < select (u a) all_periods a.args.from a.args.k
   short =
       beyond (u a) all_periods (again a) a.requires.0.some a.args.from a.args.k l.loop-ahead.t l.loop-ahead.ahead l.loop-ahead.invariant.0 l.loop-ahead.invariant.1
-      (λ y z. omega (arith, ap bool_byte (c.before.is_usable-d.ensures ∙ y), c.if-ahead-d.false))
+      (λ y z. omega (arith, ap bool_byte (c.is_usable-d.ensures ∙ y), c.if-ahead-d.false))
 
 pub returns-then-ahead-d : goal.returns-then-ahead-d
 returns-then-ahead-d c =
-    let l = c.before.before in
-    let a = l.before.before in
-    let w = byte_some c.before.is_usable-d.result l.loop-ahead.ahead c.if-ahead-d.true in
-    here (u a) all_periods (again a) a.requires.0.some a.args.from a.args.k l.loop-ahead.t l.loop-ahead.ahead l.loop-ahead.invariant.1 (sym c.before.is_usable-d.ensures ∙ w.0) w.1
+    let l = c in
+    let a = l in
+    let w = byte_some c.is_usable-d.result l.loop-ahead.ahead c.if-ahead-d.true in
+    here (u a.before.before.before.before) all_periods (again a.before.before.before.before) a.requires.0.some a.args.from a.args.k l.loop-ahead.t l.loop-ahead.ahead l.loop-ahead.invariant.1 (sym c.is_usable-d.ensures ∙ w.0) w.1
 
 pub loop-ahead-init : goal.loop-ahead-init
-loop-ahead-init c = let s = c.before in ((select_is (u s) all_periods (again s) s.requires.0.some s.args.from s.args.k).late, omega arith)
+loop-ahead-init c = let s = c in ((select_is (u s.before) all_periods (again s.before) s.requires.0.some s.args.from s.args.k).late, omega arith)
 
 pub is_usable-d-requires : goal.is_usable-d-requires
-is_usable-d-requires c = c.before.before.requires.0.on
+is_usable-d-requires c = c.requires.0.on
 
 pub overflow_cast-d : goal.overflow_cast-d
 overflow_cast-d c = omega (arith, byte_le c.is_usable-d.result)
@@ -61,4 +61,4 @@ pub loop-ahead-smaller : goal.loop-ahead-smaller
 loop-ahead-smaller c = omega (arith, short c)
 
 pub loop-ahead-preserved : goal.loop-ahead-preserved
-loop-ahead-preserved c = (omega (arith, short c), omega (arith, (l c).loop-ahead.invariant.1, c.if-ahead-d.false, rank_on (u (a c)) (l c).loop-ahead.t, ap bool_byte c.before.is_usable-d.ensures))
+loop-ahead-preserved c = (omega (arith, short c), omega (arith, (l c).loop-ahead.invariant.1, c.if-ahead-d.false, rank_on (u (a c)) (l c).loop-ahead.t, ap bool_byte c.is_usable-d.ensures))

@@ -37,15 +37,15 @@ pub overflow_cast-d : goal.overflow_cast-d
 overflow_cast-d c = omega (arith, byte_le c.is_used-d.result)
 
 pub element-requires : goal.element-requires
-element-requires c = let l = c.before.before in let p = (s l).requires in (p.2, p.3, inside l)
+element-requires c = let l = c in let p = (s l.before.before).requires in (p.2, p.3, inside l.before.before)
 
 pub returns-then-left-d : goal.returns-then-left-d
 returns-then-left-d c =
-    let i = c.before.before in
-    let l = i.before in
-    let a = (s l).args in
+    let i = c in
+    let l = i in
+    let a = (s l.before.before.before).args in
     c.element.ensures.0
-    ∙ scan_found (used a.g a.low a.width) (element_of a.slot a.l l.loop-left.k) _ (ap bool_byte i.is_used-d.ensures) elements _ l.loop-left.left (listed l) l.loop-left.invariant c.before.if-left-d.true
+    ∙ scan_found (used a.g a.low a.width) (element_of a.slot a.l l.loop-left.k) _ (ap bool_byte i.is_used-d.ensures) elements _ l.loop-left.left (listed l.before.before.before) l.loop-left.invariant c.if-left-d.true
 
 pub overflow_add-k : goal.overflow_add-k
 overflow_add-k c = omega (arith, inside c.before.before)
@@ -55,6 +55,6 @@ loop-left-smaller c = omega (arith, inside c.before.before)
 
 pub loop-left-preserved : goal.loop-left-preserved
 loop-left-preserved c =
-    let l = c.before.before in
-    let a = (s l).args in
-    omega (arith, l.loop-left.invariant, c.if-left-d.false, ap bool_byte c.before.is_used-d.ensures, row_on (used a.g a.low a.width) a.slot a.l l.loop-left.k)
+    let l = c in
+    let a = (s l.before.before).args in
+    omega (arith, l.loop-left.invariant, c.if-left-d.false, ap bool_byte c.is_used-d.ensures, row_on (used a.g a.low a.width) a.slot a.l l.loop-left.k)

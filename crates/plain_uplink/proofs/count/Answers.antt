@@ -13,21 +13,21 @@ refusal-no-requires c = c.requires
 pub returns-then-no-ne0 : goal.returns-then-no-ne0
 returns-then-no-ne0 c =
     λ size order.
-    let r = c.before in
-    let a = r.before.args in
+    let r = c in
+    let a = r.args in
     ap of_plan (refused_as refused_plan (λ S. plan_shown size order (extent_of S)) (question_beside a.spacing a.s a.ws) r.refusal-no.result r.refusal-no.ensures c.if-no-ne0.true)
 
 pub slot_data-requires : goal.slot_data-requires
-slot_data-requires c = c.before.before.requires.0
+slot_data-requires c = c.requires.0
 
 pub total-requires : goal.total-requires
-total-requires c = (c.before.before.before.requires.0, c.slot_data_lem.ensures.0)
+total-requires c = (c.requires.0, c.slot_data_lem.ensures.0)
 
 pub returns : goal.returns
 returns c =
     λ size order.
-    let e = c.before.before in
-    let a = e.before.before.args in
+    let e = c in
+    let a = e.args in
     (λ j. record { no = 0; places = c.total.ensures j })
     ∙ ap of_plan (accepted_as refused_plan (λ S. plan_shown size order (extent_of S)) (question_beside a.spacing a.s a.ws) (sending_of a.s (open_beside a.spacing a.s a.ws))
-    (sym e.before.refusal-no.ensures ∙ e.if-no-ne0.false) refl)
+    (sym e.refusal-no.ensures ∙ e.if-no-ne0.false) refl)

@@ -9,7 +9,7 @@ use Rattle.plain_uplink.proofs.forward.Goals.{Else-no-ne0}
 use Rattle.plain_uplink.proofs.forward.Goals as goal
 
 accepted : (c : Else-no-ne0) → let a = c.before.before.args in refusal_beside a.spacing a.s a.ws ≡ 0
-accepted c = sym c.before.refusal-no.ensures ∙ c.if-no-ne0.false
+accepted c = sym c.refusal-no.ensures ∙ c.if-no-ne0.false
 
 pub refusal-no-requires : goal.refusal-no-requires
 refusal-no-requires c = c.requires
@@ -19,23 +19,23 @@ refused_place-requires c = tt
 
 pub returns-then-no-ne0 : goal.returns-then-no-ne0
 returns-then-no-ne0 c =
-    let r = c.before.before in
-    let a = r.before.args in
+    let r = c in
+    let a = r.args in
     c.refused_place.ensures
-    ∙ refused_as refused_place (λ S. place_in a.s.subcarriers S a.p) (question_beside a.spacing a.s a.ws) _ r.refusal-no.ensures c.before.if-no-ne0.true
+    ∙ refused_as refused_place (λ S. place_in a.s.subcarriers S a.p) (question_beside a.spacing a.s a.ws) _ r.refusal-no.ensures c.if-no-ne0.true
 
 pub beside-requires : goal.beside-requires
-beside-requires c = let s = c.before.before in (s.requires.0, s.requires.1, all_listed s.args.spacing s.args.s s.args.ws (accepted c))
+beside-requires c = let s = c in (s.requires.0, s.requires.1, all_listed s.args.spacing s.args.s s.args.ws (accepted c))
 
 pub place-requires : goal.place-requires
 place-requires c =
-    let s = c.before.before.before in
+    let s = c in
     (s.requires.0, c.beside.ensures.1, leaves s.args.spacing s.args.s s.args.ws _ c.beside.ensures.0 s.requires.1 (accepted c.before))
 
 pub returns : goal.returns
 returns c =
-    let b = c.before in
-    let a = b.before.before.before.args in
+    let b = c in
+    let a = b.args in
     c.place.ensures
-    ∙ accepted_as refused_place (λ S. place_in a.s.subcarriers S a.p) (question_beside a.spacing a.s a.ws) _ (accepted b.before)
+    ∙ accepted_as refused_place (λ S. place_in a.s.subcarriers S a.p) (question_beside a.spacing a.s a.ws) _ (accepted b.before.before)
     (ap (sending_of a.s) (clear_beside a.spacing a.s a.ws b.beside.result b.beside.ensures.0))

@@ -11,19 +11,19 @@ refused_place-requires c = tt
 
 pub returns-then-no-ne0 : goal.returns-then-no-ne0
 returns-then-no-ne0 c =
-    let j = c.before.before in
-    let a = j.before.args in
-    c.refused_place.ensures ∙ forward_refused a.g a.ws _ j.judge-no.ensures a.p c.before.if-no-ne0.true
+    let j = c in
+    let a = j.args in
+    c.refused_place.ensures ∙ forward_refused a.g a.ws _ j.judge-no.ensures a.p c.if-no-ne0.true
 
 pub shape-requires : goal.shape-requires
-shape-requires c = sym c.before.judge-no.ensures ∙ c.if-no-ne0.false
+shape-requires c = sym c.judge-no.ensures ∙ c.if-no-ne0.false
 
 pub forward-requires : goal.forward-requires
-forward-requires c = ready _ _ c.before.before.judge-no.ensures c.before.if-no-ne0.false _ c.shape.ensures
+forward-requires c = ready _ _ c.judge-no.ensures c.if-no-ne0.false _ c.shape.ensures
 
 pub returns : goal.returns
 returns c =
-    let s = c.before in
-    let e = s.before in
-    let a = e.before.before.args in
-    c.forward.ensures ∙ forward_asked a.g a.ws _ e.before.judge-no.ensures e.if-no-ne0.false _ s.shape.ensures a.p
+    let s = c in
+    let e = s in
+    let a = e.args in
+    c.forward.ensures ∙ forward_asked a.g a.ws _ e.judge-no.ensures e.if-no-ne0.false _ s.shape.ensures a.p

@@ -24,42 +24,42 @@ module _ (c : Else-p-total) where
   p = start.args.p
 
   abbrev w : ℕ
-  w = c.before.before.slot_data_lem.result
+  w = c.slot_data_lem.result
 
   counted : w ≡ slot_data start.args.s
-  counted = c.before.before.slot_data_lem.ensures.0
+  counted = c.slot_data_lem.ensures.0
 
   held : p < places start.args.s
-  held = omega (arith, c.if-p-total.false, c.before.total.ensures)
+  held = omega (arith, c.if-p-total.false, c.total.ensures)
 
   unit : p / w < sent_slots start.args.s
-  unit = (div-lt_iff_lt-mul c.before.before.slot_data_lem.ensures.1).1 (omega (arith, held, ap (λ (n : ℕ). sent_slots start.args.s * n) counted))
+  unit = (div-lt_iff_lt-mul c.slot_data_lem.ensures.1).1 (omega (arith, held, ap (λ (n : ℕ). sent_slots start.args.s * n) counted))
 
   rest : p % w < w
-  rest = mod-lt p c.before.before.slot_data_lem.ensures.1
+  rest = mod-lt p c.slot_data_lem.ensures.1
 
 pub slot_data-w-requires : goal.slot_data-w-requires
 slot_data-w-requires c = c.requires.0
 
 pub total-requires : goal.total-requires
-total-requires c = (c.before.requires.0, c.slot_data_lem.ensures.0)
+total-requires c = (c.requires.0, c.slot_data_lem.ensures.0)
 
 pub refused_place-requires : goal.refused_place-requires
 refused_place-requires c = tt
 
 pub returns-then-p-total : goal.returns-then-p-total
 returns-then-p-total c =
-    let t = c.before in
-    let a = t.before.before.before in
+    let t = c in
+    let a = t in
     c.refused_place.ensures
     ∙ sym (past_at refused_place (place_of a.args.s.subcarriers) (sending_of a.args.s (clear_of a.args.os)) a.args.p
-    (omega (arith, t.if-p-total.true, t.before.total.ensures)))
+    (omega (arith, t.if-p-total.true, t.total.ensures)))
 
 pub nonzero_div-i : goal.nonzero_div-i
-nonzero_div-i c = omega (arith, c.before.before.slot_data_lem.ensures.1)
+nonzero_div-i c = omega (arith, c.slot_data_lem.ensures.1)
 
 pub nonzero_rem-e : goal.nonzero_rem-e
-nonzero_rem-e c = omega (arith, c.before.before.slot_data_lem.ensures.1)
+nonzero_rem-e c = omega (arith, c.slot_data_lem.ensures.1)
 
 pub nth-at-requires : goal.nth-at-requires
 nth-at-requires c = ((start c).requires.0, omega (arith, rest c, counted c))
@@ -79,27 +79,27 @@ carried-unit-requires c =
 
 pub nth-requires : goal.nth-requires
 nth-requires c =
-    let e = c.before.before in
-    let a = start e in
-    (a.requires.0, a.requires.1, a.requires.2, omega (arith, unit e, sent_small a.args.s a.requires.0))
+    let e = c in
+    let a = start e.before.before in
+    (a.requires.0, a.requires.1, a.requires.2, omega (arith, unit e.before.before, sent_small a.args.s a.requires.0))
 
 pub item-requires : goal.item-requires
 item-requires c =
-    let e = c.before.before.before in
-    (omega (arith, c.before.carried-unit.ensures.1, (start e).requires.0.codeword_small), e.before.before.slot_data_lem.ensures.2, rest e)
+    let e = c in
+    (omega (arith, c.carried-unit.ensures.1, (start e.before.before.before).requires.0.codeword_small), e.slot_data_lem.ensures.2, rest e.before.before.before)
 
 pub returns : goal.returns
 returns c =
-    let n = c.before.before.before in
-    let e = n.before in
-    let a = (start e).args in
+    let n = c in
+    let e = n in
+    let a = (start e.before.before.before.before).args in
     let T = a.s.subcarriers in
-    let at : Split = record { i = p e / w e; e = p e % w e; l = n.nth-at.result.l; k = n.nth-at.result.k } in
-    forward_is a.s (clear_of a.os) (p e) at (w e) _ _ _ (held e) (counted e)
+    let at : Split = record { i = p e.before.before.before.before / w e.before.before.before.before; e = p e.before.before.before.before % w e.before.before.before.before; l = n.nth-at.result.l; k = n.nth-at.result.k } in
+    forward_is a.s (clear_of a.os) (p e.before.before.before.before) at (w e.before.before.before.before) _ _ _ (held e.before.before.before.before) (counted e.before.before.before.before)
     (λ j. record {
-      i = p e / counted e j;
-      e = p e % counted e j;
-      l = (n.nth-at.ensures.0 ∙ ap (λ (x : ℕ). uplink_symbol_of T (element_at a.s (p e % x))) (counted e)) j;
-      k = (n.nth-at.ensures.1 ∙ ap (λ (x : ℕ). uplink_subcarrier_of T (element_at a.s (p e % x))) (counted e)) j;
+      i = p e.before.before.before.before / counted e.before.before.before.before j;
+      e = p e.before.before.before.before % counted e.before.before.before.before j;
+      l = (n.nth-at.ensures.0 ∙ ap (λ (x : ℕ). uplink_symbol_of T (element_at a.s (p e.before.before.before.before % x))) (counted e.before.before.before.before)) j;
+      k = (n.nth-at.ensures.1 ∙ ap (λ (x : ℕ). uplink_subcarrier_of T (element_at a.s (p e.before.before.before.before % x))) (counted e.before.before.before.before)) j;
     })
-    c.before.nth.ensures c.before.before.carried-unit.ensures.0 c.item.ensures
+    c.nth.ensures c.carried-unit.ensures.0 c.item.ensures

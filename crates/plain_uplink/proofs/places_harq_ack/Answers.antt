@@ -11,26 +11,26 @@ use Rattle.plain_uplink.proofs.places_harq_ack.Goals as goal
 
 counted : (c : After-count) → let a = c.before.before.before.before.args in c.count.result ≡ of_plan (plan_of a.g a.ws)
 counted c =
-    let s = c.before in
-    let e = s.before in
-    let a = e.before.before.args in
-    c.count.ensures grant_size grant_order ∙ ap of_plan (plan_asked a.g a.ws _ e.before.judge-no.ensures e.if-no-ne0.false _ s.shape.ensures)
+    let s = c in
+    let e = s in
+    let a = e.args in
+    c.count.ensures grant_size grant_order ∙ ap of_plan (plan_asked a.g a.ws _ e.judge-no.ensures e.if-no-ne0.false _ s.shape.ensures)
 
 pub judge-no-requires : goal.judge-no-requires
 judge-no-requires c = tt
 
 pub returns-then-no-ne0 : goal.returns-then-no-ne0
 returns-then-no-ne0 c =
-    let j = c.before in
-    let a = j.before.args in
+    let j = c in
+    let a = j.args in
     let r = plan_refused a.g a.ws _ j.judge-no.ensures c.if-no-ne0.true in
     (ap (λ (x : UplinkPlan). x.no) r, ap (λ (x : UplinkPlan). x.places) r)
 
 pub shape-requires : goal.shape-requires
-shape-requires c = sym c.before.judge-no.ensures ∙ c.if-no-ne0.false
+shape-requires c = sym c.judge-no.ensures ∙ c.if-no-ne0.false
 
 pub count-requires : goal.count-requires
-count-requires c = ready _ _ c.before.before.judge-no.ensures c.before.if-no-ne0.false _ c.shape.ensures
+count-requires c = ready _ _ c.judge-no.ensures c.if-no-ne0.false _ c.shape.ensures
 
 pub returns : goal.returns
 returns c = (ap (λ (x : Places). x.no) (counted c), ap (λ (x : Places). x.places) (counted c))

@@ -15,46 +15,46 @@ module _ (c : Else-not-are_listed) where
   start = c.before.before.before.before
 
   listed : are_listed start.args.ws ≡ true
-  listed = sym c.before.are_listed.ensures ∙ not-false _ c.if-not-are_listed.false
+  listed = sym c.are_listed.ensures ∙ not-false _ c.if-not-are_listed.false
 
 pub returns-then-ws-eq0 : goal.returns-then-ws-eq0
 returns-then-ws-eq0 c =
-    let t = c.before.before in
-    let s = t.before.before in
+    let t = c in
+    let s = t in
     let a = s.args in
-    c.backward.ensures _ c.before.locate.ensures
+    c.backward.ensures _ c.locate.ensures
     ∙ none_asked refused_back (λ S. back_in a.s.subcarriers S a.slot a.l a.k) a.spacing a.s s.requires.1 a.ws t.if-ws-eq0.true
 
 pub returns-then-not-are_listed : goal.returns-then-not-are_listed
 returns-then-not-are_listed c =
-    let l = c.before.before in
-    let s = l.before.before.before in
+    let l = c in
+    let s = l in
     let a = s.args in
     c.refused.ensures
-    ∙ unlisted_asked refused_back (λ S. back_in a.s.subcarriers S a.slot a.l a.k) a.spacing a.s s.requires.1 a.ws (sym l.are_listed.ensures ∙ not-true _ c.before.if-not-are_listed.true)
+    ∙ unlisted_asked refused_back (λ S. back_in a.s.subcarriers S a.slot a.l a.k) a.spacing a.s s.requires.1 a.ws (sym l.are_listed.ensures ∙ not-true _ c.if-not-are_listed.true)
 
 pub returns-then-nested-eq0 : goal.returns-then-nested-eq0
 returns-then-nested-eq0 c =
-    let l = c.before.before.before in
-    let s = start l.before in
+    let l = c in
+    let s = start l.before.before.before.before in
     let a = s.args in
     c.refused-then-nested-eq0.ensures
-    ∙ never_asked refused_back (λ S. back_in a.s.subcarriers S a.slot a.l a.k) a.spacing a.s s.requires.1 a.ws (listed l.before) l.nested_closures-nested.result l.nested_closures-nested.ensures c.before.if-nested-eq0.true
+    ∙ never_asked refused_back (λ S. back_in a.s.subcarriers S a.slot a.l a.k) a.spacing a.s s.requires.1 a.ws (listed l.before.before.before.before) l.nested_closures-nested.result l.nested_closures-nested.ensures c.if-nested-eq0.true
 
 pub returns : goal.returns
 returns c =
-    let e = c.before.before in
-    let l = e.before.before in
-    let s = start l.before in
+    let e = c in
+    let l = e in
+    let s = start l.before.before.before.before.before in
     let a = s.args in
-    c.backward-2.ensures _ c.before.locate_beside.ensures
-    ∙ nested_asked refused_back (λ S. back_in a.s.subcarriers S a.slot a.l a.k) a.spacing a.s s.requires.1 a.ws (listed l.before) l.nested_closures-nested.result l.nested_closures-nested.ensures e.if-nested-eq0.false
+    c.backward-2.ensures _ c.locate_beside.ensures
+    ∙ nested_asked refused_back (λ S. back_in a.s.subcarriers S a.slot a.l a.k) a.spacing a.s s.requires.1 a.ws (listed l.before.before.before.before.before) l.nested_closures-nested.result l.nested_closures-nested.ensures e.if-nested-eq0.false
 
 pub locate-requires : goal.locate-requires
-locate-requires c = c.before.before.requires.0
+locate-requires c = c.requires.0
 
 pub backward-requires : goal.backward-requires
-backward-requires c = (c.before.before.before.requires.0, c.locate.ensures.counted)
+backward-requires c = (c.requires.0, c.locate.ensures.counted)
 
 pub are_listed-requires : goal.are_listed-requires
 are_listed-requires c = tt
@@ -70,9 +70,9 @@ refused-requires-then-nested-eq0 c = tt
 
 pub locate_beside-requires : goal.locate_beside-requires
 locate_beside-requires c =
-    let l = c.before.before in
-    let s = start l.before in
-    ready s.args.spacing s.args.s s.requires.1 s.args.ws (listed l.before) l.nested_closures-nested.result l.nested_closures-nested.ensures c.if-nested-eq0.false s.requires.0
+    let l = c in
+    let s = start l.before.before.before in
+    ready s.args.spacing s.args.s s.requires.1 s.args.ws (listed l.before.before.before) l.nested_closures-nested.result l.nested_closures-nested.ensures c.if-nested-eq0.false s.requires.0
 
 pub backward-requires-2 : goal.backward-requires-2
 backward-requires-2 c = ((start c.before.before.before.before).requires.0, c.locate_beside.ensures.counted)

@@ -15,49 +15,49 @@ module _ (c : Else-not-are_listed) where
   start = c.before.before.before.before
 
   listed : are_listed start.args.ws ≡ true
-  listed = sym c.before.are_listed.ensures ∙ not-false _ c.if-not-are_listed.false
+  listed = sym c.are_listed.ensures ∙ not-false _ c.if-not-are_listed.false
 
 pub returns-then-ws-eq0 : goal.returns-then-ws-eq0
 returns-then-ws-eq0 c =
-    let t = c.before.before.before in
-    let s = t.before.before in
+    let t = c in
+    let s = t in
     let a = s.args in
-    c.forward.ensures _ c.before.slot_at.ensures
+    c.forward.ensures _ c.slot_at.ensures
     ∙ none_asked refused_place (λ S. place_in a.s.subcarriers S a.p) a.spacing a.s s.requires.1 a.ws t.if-ws-eq0.true
 
 pub returns-then-not-are_listed : goal.returns-then-not-are_listed
 returns-then-not-are_listed c =
-    let l = c.before.before in
-    let s = l.before.before.before in
+    let l = c in
+    let s = l in
     let a = s.args in
     c.refused_place.ensures
-    ∙ unlisted_asked refused_place (λ S. place_in a.s.subcarriers S a.p) a.spacing a.s s.requires.1 a.ws (sym l.are_listed.ensures ∙ not-true _ c.before.if-not-are_listed.true)
+    ∙ unlisted_asked refused_place (λ S. place_in a.s.subcarriers S a.p) a.spacing a.s s.requires.1 a.ws (sym l.are_listed.ensures ∙ not-true _ c.if-not-are_listed.true)
 
 pub returns-then-nested-eq0 : goal.returns-then-nested-eq0
 returns-then-nested-eq0 c =
-    let l = c.before.before.before in
-    let s = start l.before in
+    let l = c in
+    let s = start l.before.before.before.before in
     let a = s.args in
     c.refused_place-then-nested-eq0.ensures
-    ∙ never_asked refused_place (λ S. place_in a.s.subcarriers S a.p) a.spacing a.s s.requires.1 a.ws (listed l.before) l.nested_closures-nested.result l.nested_closures-nested.ensures c.before.if-nested-eq0.true
+    ∙ never_asked refused_place (λ S. place_in a.s.subcarriers S a.p) a.spacing a.s s.requires.1 a.ws (listed l.before.before.before.before) l.nested_closures-nested.result l.nested_closures-nested.ensures c.if-nested-eq0.true
 
 pub returns : goal.returns
 returns c =
-    let e = c.before.before.before in
-    let l = e.before.before in
-    let s = start l.before in
+    let e = c in
+    let l = e in
+    let s = start l.before.before.before.before.before.before in
     let a = s.args in
-    c.forward-2.ensures _ c.before.slot_at_beside.ensures
-    ∙ nested_asked refused_place (λ S. place_in a.s.subcarriers S a.p) a.spacing a.s s.requires.1 a.ws (listed l.before) l.nested_closures-nested.result l.nested_closures-nested.ensures e.if-nested-eq0.false
+    c.forward-2.ensures _ c.slot_at_beside.ensures
+    ∙ nested_asked refused_place (λ S. place_in a.s.subcarriers S a.p) a.spacing a.s s.requires.1 a.ws (listed l.before.before.before.before.before.before) l.nested_closures-nested.result l.nested_closures-nested.ensures e.if-nested-eq0.false
 
 pub split-at-requires : goal.split-at-requires
-split-at-requires c = c.before.before.requires.0
+split-at-requires c = c.requires.0
 
 pub slot_at-requires : goal.slot_at-requires
-slot_at-requires c = c.before.before.before.requires.0
+slot_at-requires c = c.requires.0
 
 pub forward-requires : goal.forward-requires
-forward-requires c = (c.before.before.before.before.requires.0, c.before.split-at.ensures)
+forward-requires c = (c.requires.0, c.split-at.ensures)
 
 pub are_listed-requires : goal.are_listed-requires
 are_listed-requires c = tt
@@ -76,10 +76,10 @@ split-at-requires-2 c = (start c.before.before.before).requires.0
 
 pub slot_at_beside-requires : goal.slot_at_beside-requires
 slot_at_beside-requires c =
-    let e = c.before in
-    let l = e.before.before in
-    let s = start l.before in
-    ready s.args.spacing s.args.s s.requires.1 s.args.ws (listed l.before) l.nested_closures-nested.result l.nested_closures-nested.ensures e.if-nested-eq0.false s.requires.0
+    let e = c in
+    let l = e in
+    let s = start l.before.before.before.before in
+    ready s.args.spacing s.args.s s.requires.1 s.args.ws (listed l.before.before.before.before) l.nested_closures-nested.result l.nested_closures-nested.ensures e.if-nested-eq0.false s.requires.0
 
 pub forward-requires-2 : goal.forward-requires-2
-forward-requires-2 c = ((start c.before.before.before.before.before).requires.0, c.before.split-at-2.ensures)
+forward-requires-2 c = ((start c.before.before.before.before.before).requires.0, c.split-at-2.ensures)

@@ -16,9 +16,9 @@ at_1 c = few 2 _ _ (omega arith) c.taken_at_1.ensures.1
 
 pub returns : goal.returns
 returns c =
-    let o = c.before in
-    let t = o.before in
-    simp (← t.before.one.ensures.0, ← t.taken_at_0.ensures.0, ← o.one-2.ensures.0, ← c.taken_at_1.ensures.0)
+    let o = c in
+    let t = o in
+    simp (← t.one.ensures.0, ← t.taken_at_0.ensures.0, ← o.one-2.ensures.0, ← c.taken_at_1.ensures.0)
 
 pub one-requires : goal.one-requires
 one-requires c = tt
@@ -45,19 +45,19 @@ pub overflow_mul-at_1 : goal.overflow_mul-at_1
 overflow_mul-at_1 c = omega (arith, at_1 c)
 
 pub overflow_mul-result : goal.overflow_mul-result
-overflow_mul-result c = omega (arith, c.before.before.before.before.requires.1)
+overflow_mul-result c = omega (arith, c.requires.1)
 
 pub overflow_sub-result : goal.overflow_sub-result
-overflow_sub-result c = omega (arith, c.before.before.before.before.requires.1)
+overflow_sub-result c = omega (arith, c.requires.1)
 
 pub overflow_mul-result-2 : goal.overflow_mul-result-2
-overflow_mul-result-2 c = omega (arith, c.before.before.before.before.requires.0)
+overflow_mul-result-2 c = omega (arith, c.requires.0)
 
 pub overflow_add-result : goal.overflow_add-result
-overflow_add-result c = omega (arith, at_0 c.before.before, c.before.before.before.before.requires.0)
+overflow_add-result c = omega (arith, at_0 c.before.before, c.requires.0)
 
 pub overflow_add-result-2 : goal.overflow_add-result-2
-overflow_add-result-2 c = omega (arith, at_0 c.before.before, at_1 c, c.before.before.before.before.requires.0)
+overflow_add-result-2 c = omega (arith, at_0 c.before.before, at_1 c, c.requires.0)
 
 pub overflow_sub-result-2 : goal.overflow_sub-result-2
-overflow_sub-result-2 c = omega (arith, at_0 c.before.before, at_1 c, c.before.before.before.before.requires.0, c.before.before.before.before.requires.1)
+overflow_sub-result-2 c = omega (arith, at_0 c.before.before, at_1 c, c.requires.0, c.requires.1)

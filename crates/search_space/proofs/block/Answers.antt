@@ -8,15 +8,15 @@ use Rattle.search_space.proofs.block.Goals as goal
 
 pub returns-then-more-eq0 : goal.returns-then-more-eq0
 returns-then-more-eq0 c =
-    let a = c.before.before.args in
-    let e : a.j ≡ a.j + a.more = omega (arith, c.before.if-more-eq0.true) in
+    let a = c.args in
+    let e : a.j ≡ a.j + a.more = omega (arith, c.if-more-eq0.true) in
     (c.nth-t.ensures, c.nth-t.ensures ∙ ap (select (remaining a.ms (allows a.p)) all_periods a.from) e)
 
 pub nth-t-requires : goal.nth-t-requires
-nth-t-requires c = let s = c.before in (s.requires.0, s.requires.1, s.requires.2, s.requires.3, omega (arith, s.requires.4))
+nth-t-requires c = let s = c in (s.requires.0, s.requires.1, s.requires.2, s.requires.3, omega (arith, s.requires.4))
 
 pub first_and_last-requires : goal.first_and_last-requires
-first_and_last-requires c = c.before.requires
+first_and_last-requires c = c.requires
 
 pub returns : goal.returns
 returns c = c.first_and_last.ensures

@@ -36,18 +36,18 @@ module _ (c : After-block-ends) where
   size = start.args.x.size
 
   abbrev i : ℕ
-  i = c.before.before.loop-i.i
+  i = c.loop-i.i
 
   again : (t : ℕ) → u (t + all_periods) ≡ u t
   again = remaining_again start.args.ms start.requires.0 (allows start.args.p) (allows_again start.args.p start.requires.1)
 
   first_is : c.block-ends.result.first ≡ at (i * size)
   first_is =
-      let l = c.before.before.loop-i in
+      let l = c.loop-i in
       c.block-ends.ensures.0 ∙ ap (select u all_periods l.from) (sym (add-zero l.skip)) ∙ l.invariant.6 0 ∙ ap at (add-zero (i * size))
 
   last_is : c.block-ends.result.last ≡ at (i * size + (size - 1))
-  last_is = c.block-ends.ensures.1 ∙ c.before.before.loop-i.invariant.6 (size - 1)
+  last_is = c.block-ends.ensures.1 ∙ c.loop-i.invariant.6 (size - 1)
 
   last_small : c.block-ends.result.last < 2 ^ 31
   last_small =
@@ -55,7 +55,7 @@ module _ (c : After-block-ends) where
         arith,
         last_is,
         select_below u all_periods again start.requires.2 start.args.start (i * size + (size - 1)),
-        mul-le-mul {n₁ = i} {m₁ = size} {n₂ = 8} {m₂ = 256} (omega (arith, c.before.loop-i-test.true, start.requires.4.many)) start.requires.4.size.1,
+        mul-le-mul {n₁ = i} {m₁ = size} {n₂ = 8} {m₂ = 256} (omega (arith, c.loop-i-test.true, start.requires.4.many)) start.requires.4.size.1,
         start.requires.3,
         start.requires.4.size.1,
       )
@@ -69,9 +69,9 @@ module _ (c : After-block-ends) where
 
 pub loop-i-preserved : goal.loop-i-preserved
 loop-i-preserved c =
-    let l = c.before.before.loop-i in
-    let within : l.i < 8 = omega (arith, c.before.loop-i-test.true, (start c).requires.4.many) in (
-      omega (arith, c.before.loop-i-test.true),
+    let l = c.loop-i in
+    let within : l.i < 8 = omega (arith, c.loop-i-test.true, (start c).requires.4.many) in (
+      omega (arith, c.loop-i-test.true),
       length-set l.first l.i c.block-ends.result.first ∙ l.invariant.1,
       length-set l.last l.i c.block-ends.result.last ∙ l.invariant.2,
       set_more 0 _ l.first l.i _ (omega (arith, l.invariant.1)) l.invariant.3 (first_is c),
@@ -94,27 +94,27 @@ loop-i-init c = (
     )
 
 pub overflow_sub-size : goal.overflow_sub-size
-overflow_sub-size c = omega (arith, c.before.before.requires.4.size.0)
+overflow_sub-size c = omega (arith, c.requires.4.size.0)
 
 pub block-ends-requires : goal.block-ends-requires
 block-ends-requires c =
-    let s = c.before.before in
-    let l = c.before.loop-i in
+    let s = c in
+    let l = c.loop-i in
     (s.requires.0, s.requires.1, s.requires.2, l.invariant.5.0, omega (arith, l.invariant.5.1, s.requires.4.size.1))
 
 pub bounds-first-i : goal.bounds-first-i
-bounds-first-i c = omega (arith, c.before.loop-i-test.true, (start c).requires.4.many)
+bounds-first-i c = omega (arith, c.loop-i-test.true, (start c).requires.4.many)
 
 pub bounds-last-i : goal.bounds-last-i
-bounds-last-i c = omega (arith, c.before.loop-i-test.true, (start c).requires.4.many)
+bounds-last-i c = omega (arith, c.loop-i-test.true, (start c).requires.4.many)
 
 pub overflow_add-i : goal.overflow_add-i
-overflow_add-i c = omega (arith, c.before.loop-i-test.true, (start c).requires.4.many)
+overflow_add-i c = omega (arith, c.loop-i-test.true, (start c).requires.4.many)
 
 pub loop-i-smaller : goal.loop-i-smaller
-loop-i-smaller c = omega (arith, c.before.loop-i-test.true)
+loop-i-smaller c = omega (arith, c.loop-i-test.true)
 
 pub returns : goal.returns
 returns c =
-    let l = c.before.loop-i in
+    let l = c.loop-i in
     record { first = λ k h. l.invariant.3 k (omega (arith, c.loop-i-test.false)); last = λ k h. l.invariant.4 k (omega (arith, c.loop-i-test.false)) }

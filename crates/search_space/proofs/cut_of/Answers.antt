@@ -20,4 +20,4 @@ returns c =
     )
 
 pub overflow_sub-result : goal.overflow_sub-result
-overflow_sub-result c = omega (arith, (repetition_bounds c.before.args.rmax c.before.requires).0)
+overflow_sub-result c = omega (arith, (repetition_bounds c.args.rmax c.requires).0)

@@ -11,9 +11,9 @@ use Rattle.search_space.proofs.doubled_period.Goals as goal
 
 small : (c : After-struct_known-1) → c.before.before.args.s.rmax * c.before.byte.result ≤ 2048 * 128
 small c =
-    let s = c.before.before in
+    let s = c in
     mul-le-mul {n₂ = 2048} {m₂ = 128} (repetition_bounds s.args.s.rmax s.requires.0).1
-    (omega (arith, c.before.byte.ensures, doubled_bound s.args.s.g s.requires.1))
+    (omega (arith, c.byte.ensures, doubled_bound s.args.s.g s.requires.1))
 
 pub returns : goal.returns
 unfolding doubled_period

@@ -5,8 +5,8 @@ use Rattle.search_space.proofs.ends_at.Goals as goal
 
 pub returns-then-more-eq0 : goal.returns-then-more-eq0
 returns-then-more-eq0 c =
-    let s = c.before.before in
-    let r = c.before.at-first.ensures in
+    let s = c in
+    let r = c.at-first.ensures in
     let e : s.args.k ≡ s.args.k + s.args.more = omega (arith, c.if-more-eq0.true) in
     (r, (r.0, r.1 ∙ e))
 
@@ -14,10 +14,10 @@ pub at-first-requires : goal.at-first-requires
 at-first-requires c = (c.requires.0, c.requires.1, c.requires.2, omega (arith, c.requires.3))
 
 pub overflow_add-k : goal.overflow_add-k
-overflow_add-k c = omega (arith, c.before.before.requires.3)
+overflow_add-k c = omega (arith, c.requires.3)
 
 pub at-last-requires : goal.at-last-requires
-at-last-requires c = c.before.before.requires
+at-last-requires c = c.requires
 
 pub returns : goal.returns
-returns c = (c.before.before.at-first.ensures, c.at-last.ensures)
+returns c = (c.at-first.ensures, c.at-last.ensures)

@@ -8,20 +8,20 @@ use Rattle.search_space.proofs.first_from.Goals as goal
 
 pub returns-then-x-part : goal.returns-then-x-part
 returns-then-x-part c =
-    let a = c.before.args in
-    (part_first a.period a.part a.x c.before.requires.1 c.if-x-part.true, omega arith)
+    let a = c.args in
+    (part_first a.period a.part a.x c.requires.1 c.if-x-part.true, omega arith)
 
 soon : (c : Else-x-part)
     → (c.before.args.x - c.before.args.part + (c.before.args.period - 1)) / c.before.args.period * c.before.args.period
     < c.before.args.x - c.before.args.part + c.before.args.period
 soon c =
-    let a = c.before.args in
-    (reached a.period a.part a.x c.before.requires.1 c.if-x-part.false _ refl).1
+    let a = c.args in
+    (reached a.period a.part a.x c.requires.1 c.if-x-part.false _ refl).1
 
 pub returns : goal.returns
 returns c =
-    let a = c.before.args in
-    (later_first a.period a.part a.x c.before.requires.1 c.if-x-part.false _ refl, omega (arith, soon c))
+    let a = c.args in
+    (later_first a.period a.part a.x c.requires.1 c.if-x-part.false _ refl, omega (arith, soon c))
 
 pub overflow_mul-result : goal.overflow_mul-result
 overflow_mul-result c = omega (arith, soon c)

@@ -30,23 +30,23 @@ made b row size k = record {
 -- the two blocks of candidate k
 module _ (c : After-digit-j) where
   abbrev start : Start
-  start = c.before.before.before.before
+  start = c.before.before.before.before.before.before.before.before
 
   abbrev k : ℕ
-  k = c.before.before.before.loop-k.k
+  k = c.loop-k.k
 
   abbrev i : ℕ
-  i = c.before.digit-i.result
+  i = c.digit-i.result
 
   abbrev j : ℕ
   j = c.digit-j.result
 
   below : k < 15
-  below = omega (arith, c.before.before.loop-k-test.true, start.requires.count)
+  below = omega (arith, c.loop-k-test.true, start.requires.count)
 
   i_is : i ≡ first_block start.args.x.row k
   unfolding first_block
-  i_is = c.before.digit-i.ensures
+  i_is = c.digit-i.ensures
 
   j_is : j ≡ last_block start.args.x.row k
   unfolding last_block
@@ -67,11 +67,11 @@ module _ (c : After-digit-j) where
 
 pub loop-k-preserved : goal.loop-k-preserved
 loop-k-preserved c =
-    let d = c.before.before in
-    let l = d.before.before.before.loop-k in (
-      omega (arith, d.before.before.loop-k-test.true),
+    let d = c in
+    let l = d.loop-k in (
+      omega (arith, d.loop-k-test.true),
       length-set l.list l.k _ ∙ l.invariant.1,
-      set_more blank _ l.list l.k _ (omega (arith, below d, l.invariant.1)) l.invariant.2 (goes d),
+      set_more blank _ l.list l.k _ (omega (arith, below d.before.before, l.invariant.1)) l.invariant.2 (goes d.before.before),
       λ i h m. get_or-set_other l.list l.k i _ blank (λ q. omega arith) ∙ l.invariant.3 i (omega arith) m,
     )
 
@@ -97,10 +97,10 @@ pub loop-k-init : goal.loop-k-init
 loop-k-init c = (omega arith, refl, λ i h. absurd (omega arith), λ i h l. get_or-replicate 15 i blank blank l)
 
 pub digit-i-requires : goal.digit-i-requires
-digit-i-requires c = omega (arith, c.loop-k-test.true, c.before.before.requires.count)
+digit-i-requires c = omega (arith, c.loop-k-test.true, c.requires.count)
 
 pub digit-j-requires : goal.digit-j-requires
-digit-j-requires c = omega (arith, c.before.loop-k-test.true, c.before.before.before.requires.count)
+digit-j-requires c = omega (arith, c.loop-k-test.true, c.requires.count)
 
 pub bounds-b-i : goal.bounds-b-i
 bounds-b-i c = omega (arith, (between c).0, (between c).1)
@@ -124,4 +124,4 @@ pub overflow_add-k : goal.overflow_add-k
 overflow_add-k c = omega (arith, below c.before.before)
 
 pub loop-k-smaller : goal.loop-k-smaller
-loop-k-smaller c = omega (arith, c.before.before.before.before.loop-k-test.true)
+loop-k-smaller c = omega (arith, c.loop-k-test.true)

@@ -17,20 +17,20 @@ module _ (c : After-struct_known-1) where
   start = c.before.before
 
   abbrev period : ℕ
-  period = c.before.doubled_period-period.result / 2
+  period = c.doubled_period-period.result / 2
 
   small : start.args.s.alpha * period ≤ 3 * 2 ^ 17
-  small = mul-le-mul {n₂ = 3} {m₂ = 2 ^ 17} (accepted start).fields.alpha (omega (arith, c.before.doubled_period-period.ensures.1))
+  small = mul-le-mul {n₂ = 3} {m₂ = 2 ^ 17} (accepted start).fields.alpha (omega (arith, c.doubled_period-period.ensures.1))
 
   part_is : start.args.s.alpha * period / 8 ≡ part_of start.args.s
-  part_is = ap (λ (x : ℕ). start.args.s.alpha * (x / 2) / 8) c.before.doubled_period-period.ensures.0
+  part_is = ap (λ (x : ℕ). start.args.s.alpha * (x / 2) / 8) c.doubled_period-period.ensures.0
 
 start_is : (c : After-start_from-start) → c.start_from-start.result ≡ start_of c.before.before.before.args.s
 unfolding start_of
 start_is c =
-    let s = c.before.before.before.args.s in
+    let s = c.args.s in
     c.start_from-start.ensures.0
-    ∙ ap (λ (x : ℕ). next (is_start (x / 2) (s.alpha * (x / 2) / 8)) hyperframe s.n) c.before.before.doubled_period-period.ensures.0
+    ∙ ap (λ (x : ℕ). next (is_start (x / 2) (s.alpha * (x / 2) / 8)) hyperframe s.n) c.doubled_period-period.ensures.0
 
 pub doubled_period-period-requires : goal.doubled_period-period-requires
 doubled_period-period-requires c = let f = (accepted c).fields in (f.rmax, f.g)
@@ -41,7 +41,7 @@ overflow_mul-s c = omega (arith, small c)
 pub start_from-start-requires : goal.start_from-start-requires
 start_from-start-requires c =
     let a = accepted (start c) in
-    let d = c.before.doubled_period-period.ensures in (
+    let d = c.doubled_period-period.ensures in (
       a.fields.n,
       part_below (start c).args.s.alpha (period c) a.fields.alpha (omega (arith, d.0, a.long)),
       omega (arith, d.1),
@@ -52,13 +52,13 @@ pub cut_of-x-requires : goal.cut_of-x-requires
 cut_of-x-requires c = (accepted c.before.before.before).fields.rmax
 
 pub all_blocks-requires : goal.all_blocks-requires
-all_blocks-requires c = (c.before.before.before.before.requires.0, c.before.start_from-start.ensures.1, c.cut_of-x.ensures.1)
+all_blocks-requires c = (c.requires.0, c.start_from-start.ensures.1, c.cut_of-x.ensures.1)
 
 pub listed-list-requires : goal.listed-list-requires
-listed-list-requires c = c.before.cut_of-x.ensures.1
+listed-list-requires c = c.cut_of-x.ensures.1
 
 pub returns : goal.returns
 returns c =
-    let x = c.before.before in
-    monitored_is _ _ (accepted x.before.before.before.before).fields.rmax _ x.cut_of-x.result c.before.all_blocks.result
-    c.listed-list.result (start_is x.before) x.cut_of-x.ensures.0 c.before.all_blocks.ensures c.listed-list.ensures.0 c.listed-list.ensures.1
+    let x = c in
+    monitored_is _ _ (accepted x.before.before.before.before.before.before).fields.rmax _ x.cut_of-x.result c.all_blocks.result
+    c.listed-list.result (start_is x.before.before.before) x.cut_of-x.ensures.0 c.all_blocks.ensures c.listed-list.ensures.0 c.listed-list.ensures.1

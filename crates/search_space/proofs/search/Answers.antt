@@ -9,4 +9,4 @@ pub search_lent-requires : goal.search_lent-requires
 search_lent-requires c = tt
 
 pub returns : goal.returns
-returns c = rw (c.before.before.numbers-si.ensures, lent_again _) at c.search_lent.ensures
+returns c = rw (c.numbers-si.ensures, lent_again _) at c.search_lent.ensures

@@ -10,8 +10,8 @@ refused-requires c = tt
 
 pub returns-then-v-ne0 : goal.returns-then-v-ne0
 returns-then-v-ne0 c =
-    let j = c.before.before.before.judged_lent-v in
-    c.refused.ensures ∙ by_cell _ _ _ _ j.result j.ensures c.before.if-v-ne0.true
+    let j = c.judged_lent-v in
+    c.refused.ensures ∙ by_cell _ _ _ _ j.result j.ensures c.if-v-ne0.true
 
 pub space_refusal-no-requires : goal.space_refusal-no-requires
 space_refusal-no-requires c = tt
@@ -21,24 +21,24 @@ refused-requires-then-no-ne0 c = tt
 
 pub returns-then-no-ne0 : goal.returns-then-no-ne0
 returns-then-no-ne0 c =
-    let s = c.before.before in
-    let j = s.before.before.before.judged_lent-v in
-    c.refused-then-no-ne0.ensures ∙ by_space _ _ _ _ j.result j.ensures _ s.space_refusal-no.ensures s.before.if-v-ne0.false c.before.if-no-ne0.true
+    let s = c in
+    let j = s.judged_lent-v in
+    c.refused-then-no-ne0.ensures ∙ by_space _ _ _ _ j.result j.ensures _ s.space_refusal-no.ensures s.if-v-ne0.false c.if-no-ne0.true
 
 pub messages_in-requires : goal.messages_in-requires
 messages_in-requires c = tt
 
 pub monitored-requires : goal.monitored-requires
 monitored-requires c =
-    let s = c.before.before in (
-      rw c.messages_in.ensures (s.before.before.before.judged_lent-v.ensures.searchable s.before.if-v-ne0.false),
-      sym s.space_refusal-no.ensures ∙ c.before.if-no-ne0.false,
+    let s = c in (
+      rw c.messages_in.ensures (s.judged_lent-v.ensures.searchable s.if-v-ne0.false),
+      sym s.space_refusal-no.ensures ∙ c.if-no-ne0.false,
     )
 
 pub returns : goal.returns
 returns c =
-    let m = c.before in
-    let s = m.before.before in
-    let j = s.before.before.before.judged_lent-v in
+    let m = c in
+    let s = m in
+    let j = s.judged_lent-v in
     rw m.messages_in.ensures at c.monitored.ensures
-    ∙ by_none _ _ _ _ j.result j.ensures s.before.if-v-ne0.false (sym s.space_refusal-no.ensures ∙ m.before.if-no-ne0.false)
+    ∙ by_none _ _ _ _ j.result j.ensures s.if-v-ne0.false (sym s.space_refusal-no.ensures ∙ m.if-no-ne0.false)

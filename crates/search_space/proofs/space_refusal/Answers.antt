@@ -10,11 +10,11 @@ use Rattle.search_space.proofs.space_refusal.Goals.{Else-no-ne0, Else-doubled-lt
 use Rattle.search_space.proofs.space_refusal.Goals as goal
 
 fields : (c : Else-no-ne0) → Fielded c.before.before.before.before.args.s
-fields c = fielded _ (sym c.before.fields_refusal-no.ensures ∙ c.if-no-ne0.false)
+fields c = fielded _ (sym c.fields_refusal-no.ensures ∙ c.if-no-ne0.false)
 
 small : (c : Else-doubled-lt8) → c.before.before.before.before.before.before.args.s.alpha * (c.before.doubled_period-doubled.result / 2) ≤ 3 * 2 ^ 17
 small c =
-    mul-le-mul {n₂ = 3} {m₂ = 2 ^ 17} (fields c.before.before).alpha (omega (arith, c.before.doubled_period-doubled.ensures.1))
+    mul-le-mul {n₂ = 3} {m₂ = 2 ^ 17} (fields c.before.before).alpha (omega (arith, c.doubled_period-doubled.ensures.1))
 
 pub returns-then-no-ne0 : goal.returns-then-no-ne0
 unfolding space_refusal

@@ -22,4 +22,4 @@ pub overflow_shr-result : goal.overflow_shr-result
 overflow_shr-result c = omega arith
 
 pub returns-then-z-d : goal.returns-then-z-d
-returns-then-z-d c = ap (λ (x : ℕ). c.before.args.n / x) (sym (shifted (count_trailing_zeros 64 c.before.args.d % 64) (omega arith)) ∙ c.if-z-d.true)
+returns-then-z-d c = ap (λ (x : ℕ). c.args.n / x) (sym (shifted (count_trailing_zeros 64 c.args.d % 64) (omega arith)) ∙ c.if-z-d.true)

@@ -15,63 +15,63 @@ small k per s h l = omega (arith, mul-le-mul {n₁ = k / per} {m₁ = s} {n₂ =
 -- whole periods, and the rest
 split : (c : After-quotient-q) → c.quotient-q.result * c.before.in_period-per.result + c.before.before.args.k % c.before.in_period-per.result ≡ c.before.before.args.k
 split c =
-    let k = c.before.before.args.k in
-    let per = c.before.in_period-per.result in
+    let k = c.args.k in
+    let per = c.in_period-per.result in
     omega (arith, ap (λ (x : ℕ). x * per) c.quotient-q.ensures, div-add-mod' k per)
 
 rest : (c : After-quotient-q) → c.before.before.args.k - c.quotient-q.result * c.before.in_period-per.result ≡ c.before.before.args.k % c.before.in_period-per.result
 rest c = omega (arith, split c)
 
 some : (c : After-in_period-per) → 0 < c.in_period-per.result
-some c = omega (arith, c.in_period-per.ensures.0, c.before.requires.2)
+some c = omega (arith, c.in_period-per.ensures.0, c.requires.2)
 
 whole : (c : After-power_of_two-period) → 40 * c.power_of_two-period.result ≡ period_of c.before.before.before.args.p
 whole c = omega (arith, c.power_of_two-period.ensures)
 
 periods : (c : After-power_of_two-period) → c.before.quotient-q.result * (40 * c.power_of_two-period.result) ≤ 2 ^ 42
 periods c =
-    let q = c.before in
-    let s = q.before.before in
+    let q = c in
+    let s = q in
     let l : 40 * c.power_of_two-period.result ≤ 640 = omega (arith, c.power_of_two-period.ensures, few_spans s.args.p s.requires.0) in
-    omega (arith, ap (λ (x : ℕ). x * (40 * c.power_of_two-period.result)) q.quotient-q.ensures, small s.args.k q.before.in_period-per.result _ s.requires.3 l)
+    omega (arith, ap (λ (x : ℕ). x * (40 * c.power_of_two-period.result)) q.quotient-q.ensures, small s.args.k q.in_period-per.result _ s.requires.3 l)
 
 picked : (c : After-pick) → Picked c.before.before.before.before.args.p (c.before.before.before.before.args.k % c.before.before.before.in_period-per.result) c.pick.result
-picked c = subst (λ (x : ℕ). Picked c.before.before.before.before.args.p x c.pick.result) (rest c.before.before) c.pick.ensures
+picked c = subst (λ (x : ℕ). Picked c.args.p x c.pick.result) (rest c.before.before) c.pick.ensures
 
 pub returns : goal.returns
 returns c =
-    let w = c.before in
-    let q = w.before in
-    let s = q.before.before in
-    rw (q.quotient-q.ensures, whole w) (at_quick s.args.p s.requires.0 s.args.k _ _ q.before.in_period-per.ensures.0 (picked c))
+    let w = c in
+    let q = w in
+    let s = q in
+    rw (q.quotient-q.ensures, whole w.before) (at_quick s.args.p s.requires.0 s.args.k _ _ q.in_period-per.ensures.0 (picked c))
 
 pub in_period-per-requires : goal.in_period-per-requires
 in_period-per-requires c = (c.requires.0, c.requires.1)
 
 pub quotient-q-requires : goal.quotient-q-requires
-quotient-q-requires c = (c.before.requires.3, some c, omega (arith, c.in_period-per.ensures.1))
+quotient-q-requires c = (c.requires.3, some c, omega (arith, c.in_period-per.ensures.1))
 
 pub power_of_two-period-requires : goal.power_of_two-period-requires
-power_of_two-period-requires c = omega (arith, c.before.before.requires.0.few)
+power_of_two-period-requires c = omega (arith, c.requires.0.few)
 
 pub overflow_mul-period : goal.overflow_mul-period
-overflow_mul-period c = let s = c.before.before.before in omega (arith, c.power_of_two-period.ensures, few_spans s.args.p s.requires.0)
+overflow_mul-period c = let s = c in omega (arith, c.power_of_two-period.ensures, few_spans s.args.p s.requires.0)
 
 pub overflow_mul-result : goal.overflow_mul-result
 overflow_mul-result c = omega (arith, periods c)
 
 pub overflow_mul-q : goal.overflow_mul-q
-overflow_mul-q c = omega (arith, split c.before, c.before.before.before.requires.3)
+overflow_mul-q c = omega (arith, split c.before, c.requires.3)
 
 pub overflow_sub-k : goal.overflow_sub-k
 overflow_sub-k c = omega (arith, split c.before)
 
 pub pick-requires : goal.pick-requires
 pick-requires c =
-    let q = c.before in
-    let i = q.before in
-    let s = i.before in
-    (s.requires.0, s.requires.1, omega (arith, rest q, mod-lt s.args.k (some i), i.in_period-per.ensures.0))
+    let q = c in
+    let i = q in
+    let s = i in
+    (s.requires.0, s.requires.1, omega (arith, rest q.before, mod-lt s.args.k (some i.before.before), i.in_period-per.ensures.0))
 
 pub overflow_add-result : goal.overflow_add-result
-overflow_add-result c = let s = c.before.before.before.before in omega (arith, periods c.before, c.pick.ensures.small, few_spans s.args.p s.requires.0)
+overflow_add-result c = let s = c in omega (arith, periods c.before, c.pick.ensures.small, few_spans s.args.p s.requires.0)

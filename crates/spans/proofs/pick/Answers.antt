@@ -11,25 +11,25 @@ use Rattle.spans.proofs.pick.Goals as goal
 
 lead : (c : Then-k-lead) → Stretch c.before.args.p c.before.requires.0 c.before.args.p.usual 0 c.before.args.k c.before.args.k
 lead c =
-    let s = c.before in
+    let s = c in
     in_lead s.args.p s.requires.0 s.args.k (subst (λ (n : ℕ). s.args.k < s.args.p.first * n) s.requires.1.usual c.if-k-lead.true)
 
 sib1 : (c : Then-j-a) → Stretch c.before.before.args.p c.before.before.requires.0 c.before.before.args.p.sib1 c.before.before.args.p.first (c.before.before.args.k - c.before.before.args.p.first * c.before.before.args.b) c.before.before.args.k
 sib1 c =
-    let s = c.before.before in
+    let s = c in
     let q = s.args.p in
     let j : ℕ = s.args.k - q.first * s.args.b in
     let l : j < 4 * ones q.sib1 = omega (arith, s.requires.1.sib1, c.if-j-a.true) in
-    let e : q.first * ones q.usual + j ≡ s.args.k = omega (arith, c.before.if-k-lead.false, ap (λ (n : ℕ). q.first * n) s.requires.1.usual) in
+    let e : q.first * ones q.usual + j ≡ s.args.k = omega (arith, c.if-k-lead.false, ap (λ (n : ℕ). q.first * n) s.requires.1.usual) in
     subst (λ (n : ℕ). Stretch q s.requires.0 q.sib1 q.first j n) e (in_sib1 q s.requires.0 j l)
 
 tail : (c : Else-j-a) → Stretch c.before.before.args.p c.before.before.requires.0 c.before.before.args.p.usual (c.before.before.args.p.first + 4) (c.before.before.args.k - c.before.before.args.p.first * c.before.before.args.b - 4 * c.before.before.args.a) c.before.before.args.k
 tail c =
-    let s = c.before.before in
+    let s = c in
     let q = s.args.p in
     let j : ℕ = s.args.k - q.first * s.args.b - 4 * s.args.a in
     let e : q.first * ones q.usual + 4 * ones q.sib1 + j ≡ s.args.k =
-    omega (arith, c.before.if-k-lead.false, c.if-j-a.false, ap (λ (n : ℕ). q.first * n) s.requires.1.usual, s.requires.1.sib1) in
+    omega (arith, c.if-k-lead.false, c.if-j-a.false, ap (λ (n : ℕ). q.first * n) s.requires.1.usual, s.requires.1.sib1) in
     subst (λ (n : ℕ). Stretch q s.requires.0 q.usual (q.first + 4) j n) e (in_tail q s.requires.0 j (omega (arith, s.requires.2)))
 
 short : (s : Start) → s.args.k < 2 ^ 32
@@ -42,31 +42,31 @@ pub overflow_mul-lead : goal.overflow_mul-lead
 overflow_mul-lead c = omega (arith, few c.args.p.first c.args.b c.args.p.usual (omega (arith, c.requires.0.fits, few_spans c.args.p c.requires.0)) c.requires.1.usual c.requires.0.usual_small)
 
 pub in_stretch-requires : goal.in_stretch-requires
-in_stretch-requires c = let s = c.before in ready s.args.p s.requires.0 _ _ _ _ _ s.requires.1.usual s.requires.0.usual_small (short s) (lead c)
+in_stretch-requires c = let s = c in ready s.args.p s.requires.0 _ _ _ _ _ s.requires.1.usual s.requires.0.usual_small (short s.before) (lead c)
 
 pub returns-then-k-lead : goal.returns-then-k-lead
-returns-then-k-lead c = let s = c.before.before in landed s.args.p s.requires.0 _ _ _ _ _ _ s.requires.1.usual s.requires.0.usual_small (lead c.before) c.in_stretch.ensures
+returns-then-k-lead c = let s = c in landed s.args.p s.requires.0 _ _ _ _ _ _ s.requires.1.usual s.requires.0.usual_small (lead c.before) c.in_stretch.ensures
 
 pub overflow_mul-a : goal.overflow_mul-a
-overflow_mul-a c = let s = c.before in omega (arith, s.requires.1.sib1, ones-le 40 s.args.p.sib1 s.requires.0.sib1_small)
+overflow_mul-a c = let s = c in omega (arith, s.requires.1.sib1, ones-le 40 s.args.p.sib1 s.requires.0.sib1_small)
 
 pub in_stretch-requires-then-j-a : goal.in_stretch-requires-then-j-a
-in_stretch-requires-then-j-a c = let s = c.before.before in ready s.args.p s.requires.0 _ _ _ _ _ s.requires.1.sib1 s.requires.0.sib1_small (omega (arith, short s)) (sib1 c)
+in_stretch-requires-then-j-a c = let s = c in ready s.args.p s.requires.0 _ _ _ _ _ s.requires.1.sib1 s.requires.0.sib1_small (omega (arith, short s.before.before)) (sib1 c)
 
 pub returns-then-j-a : goal.returns-then-j-a
-returns-then-j-a c = let s = c.before.before.before in landed s.args.p s.requires.0 _ _ _ _ _ _ s.requires.1.sib1 s.requires.0.sib1_small (sib1 c.before) c.in_stretch-then-j-a.ensures
+returns-then-j-a c = let s = c in landed s.args.p s.requires.0 _ _ _ _ _ _ s.requires.1.sib1 s.requires.0.sib1_small (sib1 c.before) c.in_stretch-then-j-a.ensures
 
 pub overflow_add-first : goal.overflow_add-first
-overflow_add-first c = let s = c.before.before in omega (arith, s.requires.0.fits, few_spans s.args.p s.requires.0)
+overflow_add-first c = let s = c in omega (arith, s.requires.0.fits, few_spans s.args.p s.requires.0)
 
 pub overflow_mul-a-2 : goal.overflow_mul-a-2
-overflow_mul-a-2 c = let s = c.before.before in omega (arith, s.requires.1.sib1, ones-le 40 s.args.p.sib1 s.requires.0.sib1_small)
+overflow_mul-a-2 c = let s = c in omega (arith, s.requires.1.sib1, ones-le 40 s.args.p.sib1 s.requires.0.sib1_small)
 
 pub overflow_sub-j-2 : goal.overflow_sub-j-2
 overflow_sub-j-2 c = omega (arith, c.if-j-a.false)
 
 pub in_stretch-requires-2 : goal.in_stretch-requires-2
-in_stretch-requires-2 c = let s = c.before.before in ready s.args.p s.requires.0 _ _ _ _ _ s.requires.1.usual s.requires.0.usual_small (omega (arith, short s)) (tail c)
+in_stretch-requires-2 c = let s = c in ready s.args.p s.requires.0 _ _ _ _ _ s.requires.1.usual s.requires.0.usual_small (omega (arith, short s.before.before)) (tail c)
 
 pub returns : goal.returns
-returns c = let s = c.before.before.before in landed s.args.p s.requires.0 _ _ _ _ _ _ s.requires.1.usual s.requires.0.usual_small (tail c.before) c.in_stretch-2.ensures
+returns c = let s = c in landed s.args.p s.requires.0 _ _ _ _ _ _ s.requires.1.usual s.requires.0.usual_small (tail c.before) c.in_stretch-2.ensures

@@ -9,10 +9,10 @@ use Rattle.spans.proofs.rank_of.Goals as goal
 
 pub returns : goal.returns
 returns c =
-    let o = c.before in
-    let a = o.before.before in
+    let o = c in
+    let a = o in
     rank_quick a.args.p a.requires.0 a.args.t c.whole_spans.result o.ones_of-part.result c.whole_spans.ensures
-    (o.ones_of-part.ensures ∙ ap (λ (m : ℕ). ones (m / 2 ^ (40 - a.args.t % span))) o.before.mask_at.ensures)
+    (o.ones_of-part.ensures ∙ ap (λ (m : ℕ). ones (m / 2 ^ (40 - a.args.t % span))) o.mask_at.ensures)
 
 pub mask_at-requires : goal.mask_at-requires
 mask_at-requires c = c.requires.0
@@ -27,7 +27,7 @@ pub ones_of-part-requires : goal.ones_of-part-requires
 ones_of-part-requires c = tt
 
 pub whole_spans-requires : goal.whole_spans-requires
-whole_spans-requires c = let a = c.before.before in (a.requires.0, a.requires.1, omega arith)
+whole_spans-requires c = let a = c in (a.requires.0, a.requires.1, omega arith)
 
 pub overflow_add-result : goal.overflow_add-result
-overflow_add-result c = let a = c.before.before.before in omega (arith, returns c, rank_le (allows a.args.p) a.args.t)
+overflow_add-result c = let a = c in omega (arith, returns c, rank_le (allows a.args.p) a.args.t)

@@ -14,12 +14,12 @@ sum : (c : After-sib1_before-h)
     → c.sib1_before-h.result * c.before.args.a + (c.before.args.s - c.sib1_before-h.result) * c.before.args.b
     ≡ rank (allows c.before.args.p) (span * c.before.args.s)
 sum c =
-    let s = c.before in
+    let s = c in
     rw (c.sib1_before-h.ensures, s.requires.1.sib1, s.requires.1.usual) (sym (spans_rank s.args.p s.requires.0 s.args.s))
 
 bound : (c : After-sib1_before-h)
     → rank (allows c.before.args.p) (span * c.before.args.s) ≤ span * c.before.args.s
-bound c = rank_le (allows c.before.args.p) (span * c.before.args.s)
+bound c = rank_le (allows c.args.p) (span * c.args.s)
 
 pub sib1_before-h-requires : goal.sib1_before-h-requires
 sib1_before-h-requires c = c.requires.0
@@ -28,7 +28,7 @@ pub overflow_mul-result : goal.overflow_mul-result
 overflow_mul-result c = omega (arith, sum c, bound c)
 
 pub overflow_sub-result : goal.overflow_sub-result
-overflow_sub-result c = omega (arith, c.sib1_before-h.ensures, sib1_le c.before.args.p c.before.requires.0 c.before.args.s)
+overflow_sub-result c = omega (arith, c.sib1_before-h.ensures, sib1_le c.args.p c.requires.0 c.args.s)
 
 pub overflow_mul-result-2 : goal.overflow_mul-result-2
 overflow_mul-result-2 c = omega (arith, sum c, bound c)

@@ -15,8 +15,8 @@ use Rattle.strides.proofs.alone.Goals as goal
 
 pub loop-i-init : goal.loop-i-init
 loop-i-init c =
-    let b = c.before in
-    let s = b.before in
+    let b = c in
+    let s = b in
     let a = s.args in
     let u = allows a.p in
     let none = lone_none u a.table a.l s.requires.2 a.l.start in (
@@ -47,7 +47,7 @@ module _ (c : After-free_before-next) where
   m = (z g).args.l.start + (v g).loop-i.i
 
   next_is : c.free_before-next.result ≡ rank (allows (z g).args.p) (begin_of (z g).args.table (m + 1))
-  next_is = c.free_before-next.ensures ∙ ap (rank (allows (z g).args.p)) c.before.begin-in-loop-i.ensures.0
+  next_is = c.free_before-next.ensures ∙ ap (rank (allows (z g).args.p)) c.begin-in-loop-i.ensures.0
 
   counted : c.free_before-next.result ≡ (v g).loop-i.free + count (allows (z g).args.p) (begin_of (z g).args.table m) (z g).args.table.unit
   counted = omega (arith, next_is, unit_free (z g).args.table (allows (z g).args.p) m, (v g).loop-i.invariant.4)
@@ -85,31 +85,31 @@ module _ (c : After-lay-r) where
         lone_most u a.args.table a.args.l a.requires.2 a.args.l.start i,
         ap (λ (n : ℕ). rank u (begin_of a.args.table n)) e,
         rank_le u (begin_of a.args.table (m d + 1)),
-        d.before.begin-in-loop-i.ensures.0,
-        d.before.begin-in-loop-i.ensures.1,
+        d.begin-in-loop-i.ensures.0,
+        d.begin-in-loop-i.ensures.1,
       )
 
 pub loop-i-preserved : goal.loop-i-preserved
 loop-i-preserved c =
-    let k = c.before in
-    let f = d k in
-    let s = (a k).args in
+    let k = c in
+    let f = d k.before in
+    let s = (a k.before).args in
     let i : ℕ = (v (g f)).loop-i.i in
     let e : suc i ≡ i + 1 = omega arith in
     let at : m f + 1 ≡ s.l.start + (i + 1) = omega arith in
     let u = allows s.p in (
       omega (arith, (g f).loop-i-test.true),
-      sym (on k).0 ∙ ap (lone_want u s.table s.l s.l.start) e,
-      sym (on k).1 ∙ ap (lone_rest u s.table s.l s.l.start) e,
+      sym (on k.before).0 ∙ ap (lone_want u s.table s.l s.l.start) e,
+      sym (on k.before).1 ∙ ap (lone_rest u s.table s.l s.l.start) e,
       subst (λ (n : ℕ). k.lay-r.result.want ≤ 8 * place_of s.l n) at k.lay-r.ensures.1,
       next_is f ∙ ap (λ (n : ℕ). rank u (begin_of s.table n)) at,
-      most k,
+      most k.before,
     )
 
 pub returns : goal.returns
 returns c =
-    let q = c.before in
-    let s = q.before.before.before in
+    let q = c in
+    let s = q in
     let u = allows s.args.p in
     let e : q.loop-i.i ≡ s.args.l.window = omega (arith, q.loop-i.invariant.0, c.loop-i-test.false) in
     let r = q.loop-i.invariant.2 ∙ ap (lone_rest u s.args.table s.args.l s.args.l.start) e in
@@ -119,7 +119,7 @@ pub begin-requires : goal.begin-requires
 begin-requires c = (c.requires.0, omega (arith, c.requires.2.start, short c.args.l c.requires.2))
 
 pub free_before-free-requires : goal.free_before-free-requires
-free_before-free-requires c = (c.before.requires.1, omega (arith, c.begin.ensures.1))
+free_before-free-requires c = (c.requires.1, omega (arith, c.begin.ensures.1))
 
 pub overflow_add-start : goal.overflow_add-start
 overflow_add-start c = omega (arith, few c)

@@ -12,8 +12,8 @@ use Rattle.strides.proofs.keep.Goals as goal
 -- it has been counted already
 pub returns : goal.returns
 returns c =
-    let o = c.before in
-    let s = o.before in
+    let o = c in
+    let s = o in
     let a = s.args in
     let u = allows a.p in (
       s.requires.2,
@@ -22,9 +22,9 @@ returns c =
 
 pub returns-then-kept_of-eq0 : goal.returns-then-kept_of-eq0
 returns-then-kept_of-eq0 c =
-    let n = c.before in
-    let l = n.before in
-    let s = l.before.before.before in
+    let n = c in
+    let l = n in
+    let s = l in
     let a = s.args in
     let u = allows a.p in
     let e : n.alone.result + 1 ≡ alone_of a.table u (lane_at a.table a.whose) + 1 =
@@ -39,7 +39,7 @@ pub lane_at-requires : goal.lane_at-requires
 lane_at-requires c = tt
 
 pub alone-requires : goal.alone-requires
-alone-requires c = let s = c.before.before.before in (s.requires.0, s.requires.1, subst Ranged (sym c.lane_at.ensures) (ranged_at s.args.table s.requires.0 s.args.whose))
+alone-requires c = let s = c in (s.requires.0, s.requires.1, subst Ranged (sym c.lane_at.ensures) (ranged_at s.args.table s.requires.0 s.args.whose))
 
 pub overflow_add-alone : goal.overflow_add-alone
 overflow_add-alone c = omega (arith, c.alone.ensures.1)

@@ -24,12 +24,12 @@ module _ (c : In-Quiet-2) where
   s = c.before.before.before
 
   quiet : (0 < c.d-1.given.0.0) × ((i : ℕ) → i < c.d-1.given.0.0 → Quiet s.args.table (s.args.s.n + i))
-  quiet = subst (Stretches s.args.table s.args.s.n s.args.far) c.d-1.given.1 c.before.before.stretch_at.ensures
+  quiet = subst (Stretches s.args.table s.args.s.n s.args.far) c.d-1.given.1 c.stretch_at.ensures
 
 pub returns-in-Quiet : goal.returns-in-Quiet
 returns-in-Quiet c =
-    let q = c.before in
-    let z = s q.before.before in
+    let q = c in
+    let z = s q.before.before.before in
     let a = z.args in
     let e = c.past.ensures in (
       subst (Leapt a.table (allows a.p) a.s a.end) (sym e) (past_leaps a.table (allows a.p) a.s a.end a.kept true q.stride_quiet.result z.requires.2 q.stride_quiet.ensures),
@@ -50,7 +50,7 @@ module _ (c : After-lane_at-units) where
   whose = o.whose-1.given.0.0
 
   met : (z.args.far ≡ true) × (0 < (lane_at z.args.table whose).window) × Apart z.args.table whose (lane_at z.args.table whose).window z.args.s.n
-  met = subst (Stretches z.args.table z.args.s.n z.args.far) o.whose-1.given.1 o.before.before.stretch_at.ensures
+  met = subst (Stretches z.args.table z.args.s.n z.args.far) o.whose-1.given.1 o.stretch_at.ensures
 
   units_is : c.lane_at-units.result.window ≡ (lane_at z.args.table whose).window
   units_is = ap (λ (l : Lane). l.window) c.lane_at-units.ensures
@@ -72,27 +72,27 @@ module _ (c : After-kept_of) where
   at = k.before.before
 
   early : (z at).args.s.n + units at ≤ (z at).args.end
-  early = omega (arith, k.before.if-units-end.true, (z at).requires.3)
+  early = omega (arith, k.if-units-end.true, (z at).requires.3)
 
   counted : 0 < c.kept_of.result
   counted = omega (arith, c.kept_of.ensures, k.keep-k.ensures.1)
 
 pub returns-then-units-end : goal.returns-then-units-end
 returns-then-units-end c =
-    let q = c.before in
-    let v = q.before in
-    let y = z (at v) in
+    let q = c in
+    let v = q in
+    let y = z (at v.before.before) in
     let a = y.args in
     let u = allows a.p in
     let r = q.stride_alone-r.result in
     let S = q.stride_alone-r.ensures in
     let R : Strode a.table u a.s.n a.end false r =
-    record { on = S.on; most = omega (arith, S.most, early v); small = S.small; free = S.free; few = S.few; goes = S.goes } in
-    let kept = (k v).keep-k.result in
+    record { on = S.on; most = omega (arith, S.most, early v.before.before); small = S.small; free = S.free; few = S.few; goes = S.goes } in
+    let kept = (k v.before.before).keep-k.result in
     let e = c.past-then-units-end.ensures in (
       subst (Leapt a.table u a.s a.end) (sym e) (past_leaps a.table u a.s a.end kept false r y.requires.2 R),
-      subst (Keeps a.table u) (sym (ap (λ (l : Leap). l.kept) e ∙ (past_keeps a.s r false kept).0)) (k v).keep-k.ensures.0,
-      λ h. absurd (omega (arith, ap bool_byte (sym (met (at v)).0 ∙ h))),
+      subst (Keeps a.table u) (sym (ap (λ (l : Leap). l.kept) e ∙ (past_keeps a.s r false kept).0)) (k v.before.before).keep-k.ensures.0,
+      λ h. absurd (omega (arith, ap bool_byte (sym (met (at v.before.before)).0 ∙ h))),
     )
 
 -- ---- unit by unit
@@ -105,14 +105,14 @@ returns-else-units-end c =
 
 pub returns-in-Busy : goal.returns-in-Busy
 returns-in-Busy c =
-    let y = c.before.before.before.before.before in
+    let y = c in
     let e = c.run_over-in-Busy.ensures in
     (e.0, subst (Keeps y.args.table (allows y.args.p)) (sym e.1) y.requires.5, λ h. e.2)
 
 busy : (c : In-Busy-2) → 0 < c.d-in-Busy-1.given.0.0
 busy c =
-    let b = c.before.before in
-    let a = b.before.args in
+    let b = c in
+    let a = b.args in
     subst (Stretches a.table a.s.n a.far) c.d-in-Busy-1.given.1 b.stretch_at.ensures
 
 pub stretch_at-requires : goal.stretch_at-requires
@@ -157,4 +157,4 @@ pub run_over-requires : goal.run_over-requires
 run_over-requires c = let y = z c.before in (y.requires.0, y.requires.1, y.requires.2, y.requires.3, y.requires.4, some c.before)
 
 pub run_over-requires-in-Busy : goal.run_over-requires-in-Busy
-run_over-requires-in-Busy c = let y = c.before.before.before.before in (y.requires.0, y.requires.1, y.requires.2, y.requires.3, y.requires.4, busy c.before)
+run_over-requires-in-Busy c = let y = c in (y.requires.0, y.requires.1, y.requires.2, y.requires.3, y.requires.4, busy c.before)

@@ -16,24 +16,24 @@ module _ (c : After-least) where
 
 pub returns : goal.returns
 returns c =
-    let r = c.before in
-    let l = r.before.before in
-    let z = s l in
+    let r = c in
+    let l = r in
+    let z = s l.before.before.before in
     let a = z.args in (
       run_leaps a.table (allows a.p) a.s a.end a.kept (far a.p z.requires.1.regular) (a.s.n + l.least.result) r.run-sight.result z.requires.0 r.run-sight.ensures
-          (omega (arith, (later l).0)) (later l).1,
+          (omega (arith, (later l.before.before.before).0)) (later l.before.before.before).1,
       refl,
       refl,
     )
 
 pub overflow_sub-end : goal.overflow_sub-end
-overflow_sub-end c = omega (arith, c.before.requires.3)
+overflow_sub-end c = omega (arith, c.requires.3)
 
 pub least-requires : goal.least-requires
 least-requires c = tt
 
 pub overflow_add-to : goal.overflow_add-to
-overflow_add-to c = let l = c.before in omega (arith, (later l).1, (s l).requires.4)
+overflow_add-to c = let l = c in omega (arith, (later l.before).1, (s l.before).requires.4)
 
 pub run-sight-requires : goal.run-sight-requires
-run-sight-requires c = let l = c.before in let z = s l in (z.requires.0, z.requires.1, z.requires.2, omega arith, omega (arith, (later l).1, z.requires.4))
+run-sight-requires c = let l = c in let z = s l.before in (z.requires.0, z.requires.1, z.requires.2, omega arith, omega (arith, (later l.before).1, z.requires.4))

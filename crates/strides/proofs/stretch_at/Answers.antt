@@ -22,16 +22,16 @@ module _ (l : After-least-d) where
   q4 = back.before
 
   abbrev q3 : After-quiet-q3
-  q3 = q4.before
+  q3 = q4.before.before
 
   abbrev q2 : After-quiet-q2
-  q2 = q3.before
+  q2 = q3.before.before
 
   abbrev q1 : After-quiet-q1
-  q1 = q2.before
+  q1 = q2.before.before
 
   abbrev s : Start
-  s = q1.before
+  s = q1.before.before
 
   -- a window that opens, and none of the others is open for as long
   alone : (whose : Whose) → s.args.far ≡ true → place_of (lane_at s.args.table whose) s.args.n ≡ 0 → 0 < (lane_at s.args.table whose).window
@@ -47,70 +47,70 @@ module _ (l : After-least-d) where
 
 pub returns-then-d-gt0 : goal.returns-then-d-gt0
 returns-then-d-gt0 c =
-    let l = c.before in (
+    let l = c in (
       c.if-d-gt0.true,
       λ i h. record {
-        q1 = (q1 l).quiet-q1.ensures.0 i (omega (arith, h, l.least-d.ensures, (front l).least-front.ensures));
-        q2 = (q2 l).quiet-q2.ensures.0 i (omega (arith, h, l.least-d.ensures, (front l).least-front.ensures));
-        q3 = (q3 l).quiet-q3.ensures.0 i (omega (arith, h, l.least-d.ensures, (back l).least-back.ensures));
-        q4 = (q4 l).quiet-q4.ensures.0 i (omega (arith, h, l.least-d.ensures, (back l).least-back.ensures));
+        q1 = (q1 l.before).quiet-q1.ensures.0 i (omega (arith, h, l.least-d.ensures, (front l.before).least-front.ensures));
+        q2 = (q2 l.before).quiet-q2.ensures.0 i (omega (arith, h, l.least-d.ensures, (front l.before).least-front.ensures));
+        q3 = (q3 l.before).quiet-q3.ensures.0 i (omega (arith, h, l.least-d.ensures, (back l.before).least-back.ensures));
+        q4 = (q4 l.before).quiet-q4.ensures.0 i (omega (arith, h, l.least-d.ensures, (back l.before).least-back.ensures));
       },
     )
 
 abbrev on4 : After-least → Then-far
-on4 c = c.before
+on4 c = c.before.before
 
 abbrev on5 : After-least-then-far → Then-far
-on5 c = on4 c.before.before.before
+on5 c = on4 c.before.before.before.before
 
 abbrev on6 : After-least-then-far-2 → Then-far
-on6 c = on5 c.before.before.before
+on6 c = on5 c.before.before.before.before
 
 abbrev on7 : After-least-then-far-3 → Then-far
-on7 c = on6 c.before.before.before
+on7 c = on6 c.before.before.before.before
 
 abbrev of : Then-far → After-least-d
 of c = c.before.before
 
 pub returns-then-opens : goal.returns-then-opens
 returns-then-opens c =
-    let m = c.before.before in
-    let f = on4 m in
-    let e = c.before.opens.ensures c.if-opens.true in
+    let m = c in
+    let f = on4 m.before.before in
+    let e = c.opens.ensures c.if-opens.true in
     alone (of f) First f.if-far.true e.0 e.1 (omega (arith, e.2, m.least.ensures, (back (of f)).least-back.ensures))
 
 pub returns-then-opens-2 : goal.returns-then-opens-2
 returns-then-opens-2 c =
-    let m = c.before.before in
-    let f = on5 m in
-    let e = c.before.opens-then-far.ensures c.if-opens-2.true in
+    let m = c in
+    let f = on5 m.before.before in
+    let e = c.opens-then-far.ensures c.if-opens-2.true in
     alone (of f) Second f.if-far.true e.0 e.1 (omega (arith, e.2, m.least-then-far.ensures, (back (of f)).least-back.ensures))
 
 pub returns-then-opens-3 : goal.returns-then-opens-3
 returns-then-opens-3 c =
-    let m = c.before.before in
-    let f = on6 m in
-    let e = c.before.opens-then-far-2.ensures c.if-opens-3.true in
+    let m = c in
+    let f = on6 m.before.before in
+    let e = c.opens-then-far-2.ensures c.if-opens-3.true in
     alone (of f) Third f.if-far.true e.0 e.1 (omega (arith, e.2, m.least-then-far-2.ensures, (front (of f)).least-front.ensures))
 
 pub returns-then-opens-4 : goal.returns-then-opens-4
 returns-then-opens-4 c =
-    let m = c.before.before in
-    let f = on7 m in
-    let e = c.before.opens-then-far-3.ensures c.if-opens-4.true in
+    let m = c in
+    let f = on7 m.before.before in
+    let e = c.opens-then-far-3.ensures c.if-opens-4.true in
     alone (of f) Fourth f.if-far.true e.0 e.1 (omega (arith, e.2, m.least-then-far-3.ensures, (front (of f)).least-front.ensures))
 
 pub quiet-q1-requires : goal.quiet-q1-requires
 quiet-q1-requires c = (c.requires.0.r1, c.requires.1)
 
 pub quiet-q2-requires : goal.quiet-q2-requires
-quiet-q2-requires c = let z = c.before in (z.requires.0.r2, z.requires.1)
+quiet-q2-requires c = let z = c in (z.requires.0.r2, z.requires.1)
 
 pub quiet-q3-requires : goal.quiet-q3-requires
-quiet-q3-requires c = let z = c.before.before in (z.requires.0.r3, z.requires.1)
+quiet-q3-requires c = let z = c in (z.requires.0.r3, z.requires.1)
 
 pub quiet-q4-requires : goal.quiet-q4-requires
-quiet-q4-requires c = let z = c.before.before.before in (z.requires.0.r4, z.requires.1)
+quiet-q4-requires c = let z = c in (z.requires.0.r4, z.requires.1)
 
 pub least-back-requires : goal.least-back-requires
 least-back-requires c = tt

@@ -19,7 +19,7 @@ module _ (c : After-free_before) where
   s = c.before.before.before
 
   free_is : c.free_before.result ≡ rank (allows s.args.p) (begin_of s.args.table (s.args.n + s.args.units))
-  free_is = c.free_before.ensures ∙ ap (rank (allows s.args.p)) c.before.begin.ensures.0
+  free_is = c.free_before.ensures ∙ ap (rank (allows s.args.p)) c.begin.ensures.0
 
   small : s.args.rest < 2 ^ 29
   small =
@@ -35,8 +35,8 @@ module _ (c : After-free_before) where
         ap (lone_rest u a.table l a.n) A.window,
         lone_most u a.table l r a.n a.units,
         rank_le u (begin_of a.table (a.n + a.units)),
-        c.before.begin.ensures.0,
-        c.before.begin.ensures.1,
+        c.begin.ensures.0,
+        c.begin.ensures.1,
       )
 
 pub returns : goal.returns
@@ -44,7 +44,7 @@ returns c =
     let z = s c in
     let a = z.args in
     let u = allows a.p in
-    let wants = c.before.before.no_wants in
+    let wants = c.no_wants in
     let there : Stride = record { n = a.n + a.units; wants = wants.result; free = c.free_before.result; remaining = a.rest } in
     let made : lone_stride u a.table a.whose a.units a.n ≡ there =
     λ i. record { n = a.n + a.units; wants = sym wants.ensures i; free = sym (free_is c) i; remaining = sym z.requires.5 i } in
@@ -66,7 +66,7 @@ pub no_wants-requires : goal.no_wants-requires
 no_wants-requires c = tt
 
 pub begin-requires : goal.begin-requires
-begin-requires c = let z = c.before in (z.requires.0, omega (arith, z.requires.2))
+begin-requires c = let z = c in (z.requires.0, omega (arith, z.requires.2))
 
 pub free_before-requires : goal.free_before-requires
-free_before-requires c = (c.before.before.requires.1, omega (arith, c.begin.ensures.1))
+free_before-requires c = (c.requires.1, omega (arith, c.begin.ensures.1))

@@ -36,7 +36,7 @@ module _ (c : After-free_before-then) where
   l = c.before.before
 
   then_is : c.free_before-then.result ≡ rank (allows (s l).args.p) (begin_of (s l).args.table ((s l).args.n + d l))
-  then_is = c.free_before-then.ensures ∙ ap (rank (allows (s l).args.p)) c.before.begin.ensures.0
+  then_is = c.free_before-then.ensures ∙ ap (rank (allows (s l).args.p)) c.begin.ensures.0
 
   ordered : (s l).args.free ≤ c.free_before-then.result
   ordered =
@@ -45,19 +45,19 @@ module _ (c : After-free_before-then) where
 
 pub returns : goal.returns
 returns c =
-    let f = c.before in
-    let b = f.before in
-    let k = l f in
+    let f = c in
+    let b = f in
+    let k = l f.before in
     let a = (s k).args in
     let u = allows a.p in
     let made : ◌≡◌ {A = Stride} (quiet_stride u a.table a.n (d k)) (record { n = a.n + d k; wants = c.no_wants.result; free = f.free_before-then.result; remaining = f.free_before-then.result - a.free }) =
-    λ i. record { n = a.n + d k; wants = sym c.no_wants.ensures i; free = sym (then_is f) i; remaining = sym (then_is f) i - sym (s k).requires.2 i } in
+    λ i. record { n = a.n + d k; wants = sym c.no_wants.ensures i; free = sym (then_is f.before) i; remaining = sym (then_is f.before) i - sym (s k).requires.2 i } in
     record {
       on = omega (arith, some k);
       most = early k;
       small = subst (Small a.table (a.n + d k)) (sym c.no_wants.ensures) (none_small a.table (a.n + d k));
-      free = then_is f;
-      few = omega (arith, then_is f, rank_le u (begin_of a.table (a.n + d k)), b.begin.ensures.0, b.begin.ensures.1);
+      free = then_is f.before;
+      few = omega (arith, then_is f.before, rank_le u (begin_of a.table (a.n + d k)), b.begin.ensures.0, b.begin.ensures.1);
       goes = λ ms w S X. subst (λ (r : Stride). Goes ms u a.table a.n w r true) made
           (quiet_goes ms u (far a.p (s k).requires.1.regular) a.table S a.n (d k) (λ i h. (s k).requires.6 i (few k i h)) w (some k));
     }

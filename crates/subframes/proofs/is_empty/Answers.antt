@@ -6,14 +6,14 @@ pub messages_in-requires : goal.messages_in-requires
 messages_in-requires c = tt
 
 pub is_empty-requires : goal.is_empty-requires
-is_empty-requires c = let s = c.before.before.before in
-    rw c.messages_in.ensures (s.requires.listed c.before.if-laid.true, s.requires.regular)
+is_empty-requires c = let s = c in
+    rw c.messages_in.ensures (s.requires.listed c.if-laid.true, s.requires.regular)
 
 pub returns-then-laid : goal.returns-then-laid
-returns-then-laid c = let b = c.before in rw (left_laid _ _ _ b.before.if-laid.true, ← b.messages_in.ensures) c.is_empty.ensures
+returns-then-laid c = let b = c in rw (left_laid _ _ _ b.if-laid.true, ← b.messages_in.ensures) c.is_empty.ensures
 
 pub is_empty-requires-2 : goal.is_empty-requires-2
-is_empty-requires-2 c = c.before.before.requires.regular
+is_empty-requires-2 c = c.requires.regular
 
 pub returns : goal.returns
-returns c = rw (left_alone _ _ _ c.before.if-laid.false) (c.is_empty-2.ensures ∙ empty_alone _ c.before.before.before.requires.regular)
+returns c = rw (left_alone _ _ _ c.if-laid.false) (c.is_empty-2.ensures ∙ empty_alone _ c.requires.regular)

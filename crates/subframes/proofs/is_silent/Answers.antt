@@ -6,7 +6,7 @@ pub are_none-requires : goal.are_none-requires
 are_none-requires c = tt
 
 pub returns-then-are_none : goal.returns-then-are_none
-returns-then-are_none c = sym (c.before.are_none.ensures c.if-are_none.true)
+returns-then-are_none c = sym (c.are_none.ensures c.if-are_none.true)
 
 pub messages_in-requires : goal.messages_in-requires
 messages_in-requires c = tt
@@ -15,4 +15,4 @@ pub is_silent-requires : goal.is_silent-requires
 is_silent-requires c = tt
 
 pub returns : goal.returns
-returns c = c.is_silent.ensures ∙ ap is_silent c.before.messages_in.ensures
+returns c = c.is_silent.ensures ∙ ap is_silent c.messages_in.ensures

@@ -6,15 +6,15 @@ pub messages_in-requires : goal.messages_in-requires
 messages_in-requires c = tt
 
 pub locate-requires : goal.locate-requires
-locate-requires c = let q = c.before.before.before.requires in let y = c.before.if-laid.true in
+locate-requires c = let q = c.requires in let y = c.if-laid.true in
     rw c.messages_in.ensures (q.on.listed y, q.on.regular, some_laid _ _ _ q y)
 
 pub returns-then-laid : goal.returns-then-laid
-returns-then-laid c = let b = c.before in rw (left_laid _ _ _ b.before.if-laid.true, ← b.messages_in.ensures) c.locate.ensures
+returns-then-laid c = let b = c in rw (left_laid _ _ _ b.if-laid.true, ← b.messages_in.ensures) c.locate.ensures
 
 pub locate-requires-2 : goal.locate-requires-2
-locate-requires-2 c = let q = c.before.before.requires in (q.on.regular, some_of_pattern _ _ _ q c.if-laid.false)
+locate-requires-2 c = let q = c.requires in (q.on.regular, some_of_pattern _ _ _ q c.if-laid.false)
 
 pub returns : goal.returns
-returns c = let q = c.before.before.before.requires in let n = c.before.if-laid.false in
+returns c = let q = c.requires in let n = c.if-laid.false in
     rw (left_alone _ _ _ n) (c.locate-2.ensures ∙ found_alone _ q.on.regular (some_whole _ _ _ q n) _ _ _ _)

@@ -6,15 +6,15 @@ pub messages_in-requires : goal.messages_in-requires
 messages_in-requires c = tt
 
 pub nth-requires : goal.nth-requires
-nth-requires c = let q = c.before.before.before.requires in let y = c.before.if-laid.true in
+nth-requires c = let q = c.requires in let y = c.if-laid.true in
     rw c.messages_in.ensures (q.0.on.listed y, q.0.on.regular, some_laid _ _ _ q.0 y, q.1, q.2)
 
 pub returns-then-laid : goal.returns-then-laid
-returns-then-laid c = let b = c.before in rw (left_laid _ _ _ b.before.if-laid.true, ← b.messages_in.ensures) c.nth.ensures
+returns-then-laid c = let b = c in rw (left_laid _ _ _ b.if-laid.true, ← b.messages_in.ensures) c.nth.ensures
 
 pub nth-requires-2 : goal.nth-requires-2
-nth-requires-2 c = let q = c.before.before.requires in (q.0.on.regular, some_of_pattern _ _ _ q.0 c.if-laid.false, q.1, q.2)
+nth-requires-2 c = let q = c.requires in (q.0.on.regular, some_of_pattern _ _ _ q.0 c.if-laid.false, q.1, q.2)
 
 pub returns : goal.returns
-returns c = let q = c.before.before.before.requires.0 in let n = c.before.if-laid.false in
+returns c = let q = c.requires.0 in let n = c.if-laid.false in
     rw (left_alone _ _ _ n) (c.nth-2.ensures ∙ select_alone _ q.on.regular (some_whole _ _ _ q n) _ _)

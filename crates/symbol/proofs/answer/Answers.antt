@@ -6,15 +6,15 @@ use Rattle.symbol.proofs.answer.Goals as goal
 
 pub returns-in-Ours : goal.returns-in-Ours
 returns-in-Ours c =
-    let k = c.before.before in
-    let a = k.before.before.before.before.args in
-    ap sent_of (c.symbol_at-s.ensures ∙ picked a.bits.now a.level _ _ c.before.symbols.ensures) ∙ sym (ap (answer_of a.bits.now a.level) k.before.o-in-Ours-1.given.1)
+    let k = c in
+    let a = k.args in
+    ap sent_of (c.symbol_at-s.ensures ∙ picked a.bits.now a.level _ _ c.symbols.ensures) ∙ sym (ap (answer_of a.bits.now a.level) k.o-in-Ours-1.given.1)
 
 pub symbols-requires : goal.symbols-requires
 symbols-requires c = tt
 
 pub symbol_at-s-requires : goal.symbol_at-s-requires
-symbol_at-s-requires c = let k = c.before in k.before.before.before.before.requires.has _ k.before.o-in-Ours-1.given.1
+symbol_at-s-requires c = let k = c in k.requires.has _ k.o-in-Ours-1.given.1
 
 pub returns-in-Reference : goal.returns-in-Reference
-returns-in-Reference c = simp c.before.o-1.given.1
+returns-in-Reference c = simp c.o-1.given.1

@@ -7,4 +7,4 @@ pub sign-requires-2 : goal.sign-requires-2
 sign-requires-2 c = tt
 
 pub returns : goal.returns
-returns c = simp (c.sign-2.ensures, c.before.sign.ensures)
+returns c = simp (c.sign-2.ensures, c.sign.ensures)

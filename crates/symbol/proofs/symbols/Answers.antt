@@ -2,7 +2,7 @@ use mathlib.Core.Path.{refl}
 use Rattle.symbol.proofs.symbols.Goals as goal
 
 pub returns : goal.returns
-returns c = rw (c.qpsk-d.ensures, c.before.qpsk-c.ensures, c.before.before.qpsk-b.ensures, c.before.before.before.qpsk-a.ensures) refl
+returns c = rw (c.qpsk-d.ensures, c.qpsk-c.ensures, c.qpsk-b.ensures, c.qpsk-a.ensures) refl
 
 pub qpsk-a-requires : goal.qpsk-a-requires
 qpsk-a-requires c = tt

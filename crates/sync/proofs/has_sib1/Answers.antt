@@ -7,10 +7,10 @@ use Rattle.sync.proofs.has_sib1.Goals as goal
 
 -- neither 0 nor 1
 two : (c : Else-k-eq1) → c.before.before.args.schedule % 3 ≡ 2
-two c = omega (arith, c.before.if-k-eq0.false, c.if-k-eq1.false)
+two c = omega (arith, c.if-k-eq0.false, c.if-k-eq1.false)
 
 pub overflow_add-f : goal.overflow_add-f
-overflow_add-f c = omega (arith, c.before.requires)
+overflow_add-f c = omega (arith, c.requires)
 
 pub overflow_mul-identity : goal.overflow_mul-identity
 overflow_mul-identity c = omega arith
@@ -22,10 +22,10 @@ pub of_sixteen-requires : goal.of_sixteen-requires
 of_sixteen-requires c = tt
 
 pub returns-then-k-eq0 : goal.returns-then-k-eq0
-returns-then-k-eq0 c = simp (c.of_sixteen.ensures, c.before.if-k-eq0.true)
+returns-then-k-eq0 c = simp (c.of_sixteen.ensures, c.if-k-eq0.true)
 
 pub overflow_add-f-then-k-eq1 : goal.overflow_add-f-then-k-eq1
-overflow_add-f-then-k-eq1 c = omega (arith, c.before.before.requires)
+overflow_add-f-then-k-eq1 c = omega (arith, c.requires)
 
 pub overflow_mul-identity-then-k-eq1 : goal.overflow_mul-identity-then-k-eq1
 overflow_mul-identity-then-k-eq1 c = omega arith
@@ -37,10 +37,10 @@ pub of_sixteen-requires-then-k-eq1 : goal.of_sixteen-requires-then-k-eq1
 of_sixteen-requires-then-k-eq1 c = tt
 
 pub returns-then-k-eq1 : goal.returns-then-k-eq1
-returns-then-k-eq1 c = simp (c.of_sixteen-then-k-eq1.ensures, c.before.if-k-eq1.true)
+returns-then-k-eq1 c = simp (c.of_sixteen-then-k-eq1.ensures, c.if-k-eq1.true)
 
 pub overflow_add-f-2 : goal.overflow_add-f-2
-overflow_add-f-2 c = omega (arith, c.before.before.requires)
+overflow_add-f-2 c = omega (arith, c.requires)
 
 pub overflow_sub-f-2 : goal.overflow_sub-f-2
 overflow_sub-f-2 c = omega arith

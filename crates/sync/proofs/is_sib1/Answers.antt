@@ -6,7 +6,7 @@ pub has_sib1-requires : goal.has_sib1-requires
 has_sib1-requires c = omega arith
 
 pub returns-then-t-eq4 : goal.returns-then-t-eq4
-returns-then-t-eq4 c = simp (c.has_sib1.ensures, eq-eqb _ _ c.before.if-t-eq4.true)
+returns-then-t-eq4 c = simp (c.has_sib1.ensures, eq-eqb _ _ c.if-t-eq4.true)
 
 pub returns : goal.returns
 returns c = simp (ne_eqb _ _ c.if-t-eq4.false)

@@ -34,10 +34,10 @@ odd x a = by (x % 2) refl
     by (suc (suc r)) e = absurd (omega arith)
 
 two : (c : Else-k-eq1) → c.before.before.args.schedule % 3 ≡ 2
-two c = third c.before.before.args.schedule c.before.if-k-eq0.false c.if-k-eq1.false
+two c = third c.args.schedule c.if-k-eq0.false c.if-k-eq1.false
 
 one : (c : Else-identity-eq0) → c.before.before.before.args.identity % 2 ≡ 1
-one c = odd c.before.before.before.args.identity c.if-identity-eq0.false
+one c = odd c.args.identity c.if-identity-eq0.false
 
 pub returns-then-identity-eq0 : goal.returns-then-identity-eq0
 unfolding anchor_pattern

@@ -93,13 +93,13 @@ remains c ms S =
 in_part : (c : Then-whole-eq0) (ms : Messages) → Serves ms (s (v c.before)).args.table
     → rank (remaining ms (allows (s (v c.before)).args.p)) (s (v c.before)).args.from + c.before.part_of-part.result.before ≡ rank (remaining ms (allows (s (v c.before)).args.p)) (s (v c.before)).args.t
 in_part c ms S =
-    let b = c.before in
-    let R : ℕ = rank (remaining ms (allows (s (v b)).args.p)) (Q (v b)) in
-    omega (arith, counted b ms S, ap (λ (n : ℕ). n * R) c.if-whole-eq0.true, zero-mul R)
+    let b = c in
+    let R : ℕ = rank (remaining ms (allows (s (v b.before)).args.p)) (Q (v b.before)) in
+    omega (arith, counted b.before ms S, ap (λ (n : ℕ). n * R) c.if-whole-eq0.true, zero-mul R)
 
 module _ (c : After-in_period) where
   abbrev b : After-part_of-part
-  b = c.before.before
+  b = c.before.before.before
 
   all : (ms : Messages) → Serves ms (s (v b)).args.table
       → rank (remaining ms (allows (s (v b)).args.p)) (s (v b)).args.from + (b.part_of-part.result.before + whole b * c.in_period.result)
@@ -114,25 +114,25 @@ module _ (c : After-in_period) where
       omega (arith, all ms (s (v b)).requires.3.serves, rank_le (remaining ms (allows (s (v b)).args.p)) (s (v b)).args.t)
 
 pub overflow_mul-period : goal.overflow_mul-period
-overflow_mul-period c = omega (arith, c.before.requires.0.all)
+overflow_mul-period c = omega (arith, c.requires.0.all)
 
 pub nonzero_rem-start : goal.nonzero_rem-start
-nonzero_rem-start c = omega (arith, c.before.requires.0.long)
+nonzero_rem-start c = omega (arith, c.requires.0.long)
 
 pub overflow_sub-whole : goal.overflow_sub-whole
-overflow_sub-whole c = c.before.requires.2
+overflow_sub-whole c = c.requires.2
 
 pub nonzero_div-whole : goal.nonzero_div-whole
-nonzero_div-whole c = omega (arith, c.before.requires.0.long)
+nonzero_div-whole c = omega (arith, c.requires.0.long)
 
 pub overflow_sub-rest : goal.overflow_sub-rest
-overflow_sub-rest c = c.before.requires.2
+overflow_sub-rest c = c.requires.2
 
 pub nonzero_rem-rest : goal.nonzero_rem-rest
-nonzero_rem-rest c = omega (arith, c.before.requires.0.long)
+nonzero_rem-rest c = omega (arith, c.requires.0.long)
 
 pub sight_of-s-requires : goal.sight_of-s-requires
-sight_of-s-requires c = let z = c.before in (z.requires.0, z.requires.1, mod-lt z.args.from (omega (arith, z.requires.0.long)))
+sight_of-s-requires c = let z = c in (z.requires.0, z.requires.1, mod-lt z.args.from (omega (arith, z.requires.0.long)))
 
 pub overflow_add-start : goal.overflow_add-start
 overflow_add-start c = omega (arith, short c, (s c).requires.0.all)
@@ -145,11 +145,11 @@ returns-then-whole-eq0 c = λ ms S. (in_part c ms S, remains c.before ms S)
 
 pub in_period-requires : goal.in_period-requires
 in_period-requires c =
-    let b = c.before in
-    let q = v b in
+    let b = c in
+    let q = v b.before.before in
     let W = (s q).requires.3 in
     let e = b.part_of-part.ensures in
-    ((s q).requires.0, (s q).requires.1, e.1, q.sight_of-s.ensures.1, e.2, near b, record { ms = W.ms; serves = W.serves; exact = (e.4 W.ms W.serves (sight q W.ms W.serves).exact).here.exact })
+    ((s q).requires.0, (s q).requires.1, e.1, q.sight_of-s.ensures.1, e.2, near b.before.before, record { ms = W.ms; serves = W.serves; exact = (e.4 W.ms W.serves (sight q W.ms W.serves).exact).here.exact })
 
 pub overflow_mul-result : goal.overflow_mul-result
 overflow_mul-result c = omega (arith, fits c)

@@ -41,13 +41,13 @@ module _ (c : After-scan) where
 
 pub returns : goal.returns
 returns c =
-    let d = c.before.before in
-    let z = s d in
+    let d = c in
+    let z = s d.before.before in
     let e = d.scan.ensures in (
-      ends d,
+      ends d.before.before,
       record { small = e.1.small; free = e.1.free },
       omega arith,
-      λ ms S X. let C = scanned d ms S X in record { exact = C.exact; count = omega (arith, C.same, e.2) },
+      λ ms S X. let C = scanned d.before.before ms S X in record { exact = C.exact; count = omega (arith, C.same, e.2) },
     )
 
 pub none_kept-requires : goal.none_kept-requires
@@ -55,8 +55,8 @@ none_kept-requires c = tt
 
 pub scan-requires : goal.scan-requires
 scan-requires c =
-    let z = c.before in
+    let z = c in
     (z.requires.0, z.requires.1, record { small = z.requires.2.small; free = z.requires.2.free }, z.requires.3, omega (arith, z.requires.4), none_keeps z.args.table (allows z.args.p) c.none_kept.result c.none_kept.ensures)
 
 pub overflow_sub-r : goal.overflow_sub-r
-overflow_sub-r c = c.before.before.scan.ensures.2
+overflow_sub-r c = c.scan.ensures.2

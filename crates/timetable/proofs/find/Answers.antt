@@ -55,8 +55,8 @@ module _ (c : Else-once-end) where
 
 pub returns-then-once-end : goal.returns-then-once-end
 returns-then-once-end c =
-    let o = c.before.before.before.before in
-    let s = o.before.before.before.before in
+    let o = c in
+    let s = o in
     let e = o.reach-r.ensures in (
       e.1,
       c.if-once-end.true,
@@ -124,33 +124,33 @@ module _ (c : After-reach-again) where
 
 pub returns : goal.returns
 returns c =
-    let g = c.before.before.before in
+    let g = c in
     let r = g.reach-again.ensures in (
       r.1,
-      soon g,
-      r.3 (soon g),
-      few (h g),
+      soon g.before.before.before,
+      r.3 (soon g.before.before.before),
+      few (h g.before.before.before),
       λ ms S X.
           let C = r.4 ms S X in
           record {
             exact = C.exact;
-            here = C.here refl (early g ms S X);
-            turns = q (h g) + 1;
+            here = C.here refl (early g.before.before.before ms S X);
+            turns = q (h g.before.before.before) + 1;
             later = refl;
-            same = omega (arith, C.same, (divided (h g) ms S X).2);
+            same = omega (arith, C.same, (divided (h g.before.before.before) ms S X).2);
           },
       r.5,
     )
 
 pub overflow_add-from : goal.overflow_add-from
-overflow_add-from c = let z = c.before in omega (arith, z.requires.4, z.requires.5)
+overflow_add-from c = let z = c in omega (arith, z.requires.4, z.requires.5)
 
 pub overflow_add-end : goal.overflow_add-end
-overflow_add-end c = let z = c.before.before.before in omega (arith, z.requires.0.units, z.requires.3)
+overflow_add-end c = let z = c in omega (arith, z.requires.0.units, z.requires.3)
 
 pub reach-r-requires : goal.reach-r-requires
 reach-r-requires c =
-    let z = c.before.before.before in
+    let z = c in
     (z.requires.0, z.requires.1, record { small = z.requires.2.small; free = z.requires.2.free }, omega arith, omega (arith, z.requires.0.units, z.requires.3), z.requires.7)
 
 pub overflow_sub-k : goal.overflow_sub-k

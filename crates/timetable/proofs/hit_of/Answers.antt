@@ -15,35 +15,35 @@ use Rattle.timetable.proofs.hit_of.Goals as goal
 
 module _ (c : After-land) where
   abbrev s : Start
-  s = c.before.before.before
+  s = c.before.before.before.before
 
   abbrev Q : ℕ
   Q = s.args.table.unit * s.args.table.units
 
   abbrev whole : ℕ
-  whole = c.before.quotient-whole.result
+  whole = c.quotient-whole.result
 
   whole_small : whole * Q ≤ s.args.from
-  whole_small = omega (arith, ap (λ (x : ℕ). x * Q) c.before.quotient-whole.ensures, div-mul-le_self s.args.from Q)
+  whole_small = omega (arith, ap (λ (x : ℕ). x * Q) c.quotient-whole.ensures, div-mul-le_self s.args.from Q)
 
   found : (ms : Messages) (S : Serves ms s.args.table) (g : Sight) (j : ℕ) → SightAt ms (allows s.args.p) s.args.table (s.args.from % Q) g
       → Hits ms (allows s.args.p) s.args.table (moved g j) s.args.h
       → (5 * Q ≤ c.land.result + s.args.h.later) × Nth (remaining ms (allows s.args.p)) s.args.from j (c.land.result + s.args.h.later + whole * Q - 5 * Q)
   found ms S g j A H =
-      hit_is ms s.args.p s.requires.1.regular s.args.table S g s.args.h s.args.from j c.land.result whole (omega (arith, s.requires.0.long)) A H c.before.quotient-whole.ensures
+      hit_is ms s.args.p s.requires.1.regular s.args.table S g s.args.h s.args.from j c.land.result whole (omega (arith, s.requires.0.long)) A H c.quotient-whole.ensures
       (c.land.ensures.1 ms S H.exact H.here)
 
   far_enough : 5 * Q ≤ c.land.result + s.args.h.later
   far_enough = let W = s.requires.7 in (found W.ms W.serves W.s W.j W.sight W.hits).0
 
 pub overflow_mul-period : goal.overflow_mul-period
-overflow_mul-period c = omega (arith, c.before.requires.0.all)
+overflow_mul-period c = omega (arith, c.requires.0.all)
 
 pub quotient-whole-requires : goal.quotient-whole-requires
-quotient-whole-requires c = let z = c.before in (omega (arith, z.requires.6), omega (arith, z.requires.0.long), omega (arith, z.requires.0.all))
+quotient-whole-requires c = let z = c in (omega (arith, z.requires.6), omega (arith, z.requires.0.long), omega (arith, z.requires.0.all))
 
 pub land-requires : goal.land-requires
-land-requires c = let z = c.before.before in (z.requires.0, z.requires.1, z.requires.2, z.requires.3, z.requires.4)
+land-requires c = let z = c in (z.requires.0, z.requires.1, z.requires.2, z.requires.3, z.requires.4)
 
 pub overflow_add-result : goal.overflow_add-result
 overflow_add-result c = omega (arith, c.land.ensures.0, (s c).requires.5)

@@ -10,8 +10,8 @@ use Rattle.timetable.proofs.in_period.Goals as goal
 
 pub returns : goal.returns
 returns c =
-    let d = c.before.before in
-    let z = d.before.before in
+    let d = c in
+    let z = d in
     let D = d.counted.ensures.3 ms S C.exact in
     let rest = remaining ms (allows z.args.p) in
     omega (
@@ -23,10 +23,10 @@ returns c =
     )
 
 pub overflow_add-n : goal.overflow_add-n
-overflow_add-n c = let z = c.before in omega (arith, z.requires.3, z.requires.0.units)
+overflow_add-n c = let z = c in omega (arith, z.requires.3, z.requires.0.units)
 
 pub counted-requires : goal.counted-requires
-counted-requires c = let z = c.before in (z.requires.0, z.requires.1, z.requires.2, z.requires.5, omega (arith, z.requires.3, z.requires.0.units), z.requires.6)
+counted-requires c = let z = c in (z.requires.0, z.requires.1, z.requires.2, z.requires.5, omega (arith, z.requires.3, z.requires.0.units), z.requires.6)
 
 pub overflow_add-result : goal.overflow_add-result
-overflow_add-result c = let d = c.before.before in omega (arith, d.counted.ensures.2, d.before.before.requires.4)
+overflow_add-result c = let d = c in omega (arith, d.counted.ensures.2, d.requires.4)

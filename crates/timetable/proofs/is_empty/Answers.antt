@@ -27,8 +27,8 @@ nothing x h = sym (eq-eqb x 0 (⊎_elim (λ (l : 0 < x). absurd (h l)) (λ l. om
 
 pub returns-then-is_empty : goal.returns-then-is_empty
 returns-then-is_empty c =
-    let e = c.before in
-    let s = e.before in
+    let e = c in
+    let s = e in
     let p = s.args.p in
     nothing (rank (remaining s.args.ms (allows p)) all_periods)
     (λ h.
@@ -37,8 +37,8 @@ returns-then-is_empty c =
 
 some : (c : Else-is_empty) → Allowing c.before.before.args.p
 some c =
-    let e = c.before in
-    let s = e.before in
+    let e = c in
+    let s = e in
     let p = s.args.p in
     record {
       regular = s.requires.1;
@@ -104,12 +104,12 @@ module _ (c : After-scan) where
       ))
 
 pub returns : goal.returns
-returns c = let r = c.before in ⊎_elim (stopped r) (went_by r) (order r.scan.result.sight.n (end r))
+returns c = let r = c in ⊎_elim (stopped r.before) (went_by r.before) (order r.scan.result.sight.n (end r.before))
 
 -- the last window closes early
 few : (t : After-timetable_of-table) → (t.before.before.before.args.ms.count * t.timetable_of-table.result.l1.window ≤ 4 * 2048) × (t.timetable_of-table.result.units ≤ 2048)
 few t =
-    let s = t.before.before.before in
+    let s = t in
     let Z = t.timetable_of-table.ensures.1 in
     let h : t.timetable_of-table.result.l1.window ≤ 2048 = omega (arith, Z.r1.window, Z.t1, Z.units) in
     (mul-le-mul (listed s.args.ms s.requires.0).count_to h, Z.units)
@@ -118,7 +118,7 @@ pub is_empty-requires : goal.is_empty-requires
 is_empty-requires c = c.requires.1
 
 pub timetable_of-table-requires : goal.timetable_of-table-requires
-timetable_of-table-requires c = c.before.before.requires.0
+timetable_of-table-requires c = c.requires.0
 
 pub overflow_mul-n : goal.overflow_mul-n
 overflow_mul-n c = omega (arith, few c.before)
@@ -130,18 +130,18 @@ pub overflow_add-n : goal.overflow_add-n
 overflow_add-n c = omega (arith, few c.before.before.before)
 
 pub sight_at-s-requires : goal.sight_at-s-requires
-sight_at-s-requires c = let t = c.before.before.before in (t.timetable_of-table.ensures.1, some t.before, omega arith, omega (arith, few t))
+sight_at-s-requires c = let t = c in (t.timetable_of-table.ensures.1, some t.before.before.before.before, omega arith, omega (arith, few t.before.before.before))
 
 pub overflow_add-end : goal.overflow_add-end
-overflow_add-end c = let v = c.before.before in omega (arith, v.sight_at-s.ensures.0, few v.before.before.before.before)
+overflow_add-end c = let v = c in omega (arith, v.sight_at-s.ensures.0, few v.before.before.before.before.before.before)
 
 pub none_kept-requires : goal.none_kept-requires
 none_kept-requires c = tt
 
 pub scan-requires : goal.scan-requires
 scan-requires c =
-    let v = c.before.before.before in
-    let t = v.before.before.before.before in
-    let z = t.before.before.before in
+    let v = c in
+    let t = v in
+    let z = t in
     let e = v.sight_at-s.ensures in
-    (t.timetable_of-table.ensures.1, some t.before, record { small = e.2.small; free = e.2.free }, omega arith, omega (arith, e.0, few t), none_keeps t.timetable_of-table.result (allows z.args.p) c.none_kept.result c.none_kept.ensures)
+    (t.timetable_of-table.ensures.1, some t.before.before.before.before.before.before.before.before, record { small = e.2.small; free = e.2.free }, omega arith, omega (arith, e.0, few t.before.before.before.before.before.before.before), none_keeps t.timetable_of-table.result (allows z.args.p) c.none_kept.result c.none_kept.ensures)

@@ -19,15 +19,15 @@ long : {table : Timetable} → Sized table → 0 < table.unit * table.units
 long z = omega (arith, z.long)
 
 some : (c : After-timetable_of-table) → Allowing (start c).args.p
-some c = allowing (start c).args.p (start c).requires.1 (start c).args.t (sym c.before.before.is_allowed.ensures ∙ c.before.if-is_allowed.true)
+some c = allowing (start c).args.p (start c).requires.1 (start c).args.t (sym c.is_allowed.ensures ∙ c.if-is_allowed.true)
 
 pub returns-then-is_allowed : goal.returns-then-is_allowed
 returns-then-is_allowed c =
-    let a = c.before in
-    let v = a.before in
-    let o = v.before in
-    let k = o.before.before in
-    let s = start k in
+    let a = c in
+    let v = a in
+    let o = v in
+    let k = o in
+    let s = start k.before.before.before.before.before.before in
     let p = s.args.p in
     let tb = k.timetable_of-table.result in
     let S : Serves s.args.ms tb = (s.requires.0, k.timetable_of-table.ensures.0) in
@@ -39,39 +39,39 @@ returns-then-is_allowed c =
     (walk_exact s.args.ms (allows p) (far p s.requires.1) tb S r.n (omega (arith, e.0, o.spot_of_lem.ensures.late))) in
     ap₂ leb a.all_need-needed.ensures.0 c.free_first-free.ensures
     ∙ remains_found s.args.ms p s.requires.1 tb S s.args.t r.n y r.wants X o.spot_of_lem.ensures.inside
-    (ap (λ (n : ℕ). begin_of tb n + y) e.0 ∙ o.spot_of_lem.ensures.there) (sym k.before.before.is_allowed.ensures ∙ k.before.if-is_allowed.true)
+    (ap (λ (n : ℕ). begin_of tb n + y) e.0 ∙ o.spot_of_lem.ensures.there) (sym k.is_allowed.ensures ∙ k.if-is_allowed.true)
 
 pub returns : goal.returns
 returns c =
-    let s = c.before.before in
-    sym (remaining_within s.args.ms (allows s.args.p) s.args.t (sym c.before.is_allowed.ensures ∙ c.if-is_allowed.false))
+    let s = c in
+    sym (remaining_within s.args.ms (allows s.args.p) s.args.t (sym c.is_allowed.ensures ∙ c.if-is_allowed.false))
 
 pub is_allowed-requires : goal.is_allowed-requires
 is_allowed-requires c = c.requires.1
 
 pub timetable_of-table-requires : goal.timetable_of-table-requires
-timetable_of-table-requires c = c.before.before.requires.0
+timetable_of-table-requires c = c.requires.0
 
 pub overflow_mul-period : goal.overflow_mul-period
-overflow_mul-period c = omega (arith, c.before.timetable_of-table.ensures.1.all)
+overflow_mul-period c = omega (arith, c.timetable_of-table.ensures.1.all)
 
 pub nonzero_rem-t : goal.nonzero_rem-t
-nonzero_rem-t c = omega (arith, c.before.timetable_of-table.ensures.1.long)
+nonzero_rem-t c = omega (arith, c.timetable_of-table.ensures.1.long)
 
 pub spot_of-spot-requires : goal.spot_of-spot-requires
-spot_of-spot-requires c = let z = c.before.timetable_of-table.ensures.1 in (z, omega (arith, mod-lt (start c.before).args.t (long z)))
+spot_of-spot-requires c = let z = c.timetable_of-table.ensures.1 in (z, omega (arith, mod-lt (start c.before).args.t (long z)))
 
 pub sight_at-s-requires : goal.sight_at-s-requires
-sight_at-s-requires c = let k = c.before.before in (k.timetable_of-table.ensures.1, some k, c.spot_of_lem.ensures.late, omega (arith, c.spot_of_lem.ensures.early))
+sight_at-s-requires c = let k = c in (k.timetable_of-table.ensures.1, some k.before.before, c.spot_of_lem.ensures.late, omega (arith, c.spot_of_lem.ensures.early))
 
 pub all_need-needed-requires : goal.all_need-needed-requires
 all_need-needed-requires c =
-    let o = c.before in
-    (o.before.before.timetable_of-table.ensures.1, omega (arith, c.sight_at-s.ensures.0, o.spot_of_lem.ensures.early), c.sight_at-s.ensures.2.small)
+    let o = c in
+    (o.timetable_of-table.ensures.1, omega (arith, c.sight_at-s.ensures.0, o.spot_of_lem.ensures.early), c.sight_at-s.ensures.2.small)
 
 pub free_first-free-requires : goal.free_first-free-requires
 free_first-free-requires c =
-    let e = c.before.sight_at-s.ensures in
-    let o = c.before.before in
-    let k = o.before.before in
-    (k.timetable_of-table.ensures.1, some k, omega (arith, e.0, o.spot_of_lem.ensures.early), omega (arith, o.spot_of_lem.ensures.inside, k.timetable_of-table.ensures.1.unit), e.2.free)
+    let e = c.sight_at-s.ensures in
+    let o = c in
+    let k = o in
+    (k.timetable_of-table.ensures.1, some k.before.before.before.before.before, omega (arith, e.0, o.spot_of_lem.ensures.early), omega (arith, o.spot_of_lem.ensures.inside, k.timetable_of-table.ensures.1.unit), e.2.free)

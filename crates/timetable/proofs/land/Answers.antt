@@ -15,12 +15,12 @@ use Rattle.timetable.proofs.land.Goals.{After-ones_of-b, After-all_need, Start}
 use Rattle.timetable.proofs.land.Goals as goal
 
 ones : (c : After-ones_of-b) → OnesOf c.before.before.args.p c.before.ones_of-a.result c.ones_of-b.result
-ones c = record { sib1 = c.before.ones_of-a.ensures; usual = c.ones_of-b.ensures }
+ones c = record { sib1 = c.ones_of-a.ensures; usual = c.ones_of-b.ensures }
 
 -- how many allowed ones lie before it
 module _ (c : After-all_need) where
   abbrev o : After-ones_of-b
-  o = c.before
+  o = c.before.before
 
   abbrev s : Start
   s = o.before.before
@@ -33,15 +33,15 @@ module _ (c : After-all_need) where
 
 pub returns : goal.returns
 returns c =
-    let a = c.before.before.before in
-    let z = s a in
+    let a = c in
+    let z = s a.before.before.before in
     let p = z.args.p in
     let u = allows p in
     let g = z.args.s in
     let P : ℕ = period_of p in
     let j : ℕ = g.free + a.all_need.result + g.k in
     let e = c.at.ensures in
-    let few : j + 1 ≤ 2 ^ 31 = omega (arith, before_small a, a.all_need.ensures.1, z.requires.4) in
+    let few : j + 1 ≤ 2 ^ 31 = omega (arith, before_small a.before.before.before, a.all_need.ensures.1, z.requires.4) in
     let short : P ≤ 640 = omega (arith, few_spans p z.requires.1.regular) in
     let there = is_select u P (repeats p z.requires.1.regular) z.requires.1.some 0 j c.at.result (nth_of u 0 j c.at.result e.0 (omega (arith, e.1, rank_zero u))) in (
       omega (arith, there, select_below u P (repeats p z.requires.1.regular) z.requires.1.some 0 j, mul-le-mul few short),
@@ -56,15 +56,15 @@ pub ones_of-b-requires : goal.ones_of-b-requires
 ones_of-b-requires c = tt
 
 pub all_need-requires : goal.all_need-requires
-all_need-requires c = let z = c.before.before in (z.requires.0, omega (arith, z.requires.3), z.requires.2.small)
+all_need-requires c = let z = c in (z.requires.0, omega (arith, z.requires.3), z.requires.2.small)
 
 pub overflow_add-s : goal.overflow_add-s
-overflow_add-s c = let a = c.before in omega (arith, before_small a, a.all_need.ensures.1)
+overflow_add-s c = let a = c in omega (arith, before_small a.before, a.all_need.ensures.1)
 
 pub overflow_add-s-2 : goal.overflow_add-s-2
-overflow_add-s-2 c = let a = c.before.before in omega (arith, before_small a, a.all_need.ensures.1, (s a).requires.4)
+overflow_add-s-2 c = let a = c in omega (arith, before_small a.before.before, a.all_need.ensures.1, (s a.before.before).requires.4)
 
 pub at-requires : goal.at-requires
 at-requires c =
-    let a = c.before.before in
-    ((s a).requires.1.regular, ones (o a), (s a).requires.1.some, omega (arith, before_small a, a.all_need.ensures.1, (s a).requires.4))
+    let a = c in
+    ((s a.before.before).requires.1.regular, ones (o a.before.before), (s a.before.before).requires.1.some, omega (arith, before_small a.before.before, a.all_need.ensures.1, (s a.before.before).requires.4))

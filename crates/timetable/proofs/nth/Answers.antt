@@ -8,7 +8,7 @@ use Rattle.timetable.proofs.nth.Goals as goal
 
 module _ (c : After-find) where
   abbrev g : After-seek_from-g
-  g = c.before.before
+  g = c.before.before.before.before.before
 
   abbrev s : Start
   s = g.before
@@ -24,10 +24,10 @@ none_kept-requires c = tt
 
 pub find-requires : goal.find-requires
 find-requires c =
-    let o = c.before in
+    let o = c in
     let B = o.seek_from-g.ensures in
     let r = o.seek_from-g.result in
-    let z = o.before in
+    let z = o in
     (B.sized, B.allowing, B.seen, omega (arith, B.early), omega (arith, B.few), z.requires.4, sighted z.args.ms z.args.p z.args.from r B r.sight.n r.sight.wants B.sight.exact, none_keeps r.table (allows z.args.p) c.none_kept.result c.none_kept.ensures)
 
 pub hit_of-requires : goal.hit_of-requires
@@ -39,8 +39,8 @@ hit_of-requires c =
 
 pub returns : goal.returns
 returns c =
-    let f = c.before in
-    let z = s f in
-    let B = (g f).seek_from-g.ensures in
+    let f = c in
+    let z = s f.before in
+    let B = (g f.before).seek_from-g.ensures in
     found_is z.args.ms z.requires.0 z.args.p z.requires.1 z.requires.2 z.args.from z.args.j c.hit_of.result
-    (c.hit_of.ensures z.args.ms B.serves (g f).seek_from-g.result.sight z.args.j B.sight (hits f))
+    (c.hit_of.ensures z.args.ms B.serves (g f.before).seek_from-g.result.sight z.args.j B.sight (hits f.before))

@@ -20,7 +20,7 @@ use Rattle.timetable.proofs.part_of.Goals as goal
 -- the unit of t is not before the sight's
 later : (c : After-spot_of-spot) → c.before.args.s.n ≤ c.spot_of_lem.result.n
 later c =
-    let s = c.before in
+    let s = c in
     let U : ℕ = s.args.table.unit in
     let n : ℕ = s.args.s.n in
     let m : ℕ = c.spot_of_lem.result.n in
@@ -32,19 +32,19 @@ later c =
 
 module _ (c : After-monus-last) where
   abbrev o : After-spot_of-spot
-  o = c.before.before.before.before
+  o = c.before.before.before.before.before
 
   abbrev s : Start
   s = o.before
 
   abbrev h : After-counted-here
-  h = c.before.before.before
+  h = c.before.before.before.before
 
   abbrev m : ℕ
   m = h.counted-here.result.n
 
   last_is : c.monus-last.result ≡ count (allows s.args.p) (begin_of s.args.table m) o.spot_of_lem.result.y - unit_need s.args.table m h.counted-here.result.wants
-  last_is = c.monus-last.ensures ∙ ap₂ (λ (a b : ℕ). a - b) c.before.before.free_first-free.ensures c.before.all_need-needed.ensures.0
+  last_is = c.monus-last.ensures ∙ ap₂ (λ (a b : ℕ). a - b) c.free_first-free.ensures c.all_need-needed.ensures.0
 
   last_small : c.monus-last.result ≤ 160
   last_small = omega (arith, last_is, count_most (allows s.args.p) o.spot_of_lem.result.y (begin_of s.args.table m), o.spot_of_lem.ensures.inside, s.requires.0.unit)
@@ -72,7 +72,7 @@ module _ (c : After-monus-last) where
     -- t itself
     remains : (a : Bool) → a ≡ allows s.args.p s.args.t → (a && leb c.before.all_need-needed.result c.before.before.free_first-free.result) ≡ remaining ms (allows s.args.p) s.args.t
     remains a e =
-        ap₂ (λ (x y : Bool). x && y) e (ap₂ leb c.before.all_need-needed.ensures.0 c.before.before.free_first-free.ensures)
+        ap₂ (λ (x y : Bool). x && y) e (ap₂ leb c.all_need-needed.ensures.0 c.free_first-free.ensures)
         ∙ remains_here ms s.args.p s.requires.1.regular s.args.table S m o.spot_of_lem.result.y s.args.t h.counted-here.result.wants there
         o.spot_of_lem.ensures.inside begins
 
@@ -84,21 +84,21 @@ spot_of-spot-requires c = (c.requires.0, c.requires.3)
 
 pub counted-here-requires : goal.counted-here-requires
 counted-here-requires c =
-    let z = c.before in
+    let z = c in
     (z.requires.0, z.requires.1, z.requires.2, later c, omega (arith, c.spot_of_lem.ensures.early), record { ms = z.requires.5.ms; serves = z.requires.5.serves; exact = z.requires.5.exact })
 
 pub free_first-free-requires : goal.free_first-free-requires
 free_first-free-requires c =
-    let v = c.before in
-    let z = v.before in
+    let v = c in
+    let z = v in
     let e = c.counted-here.ensures in
     (z.requires.0, z.requires.1, omega (arith, e.0, v.spot_of_lem.ensures.early), omega (arith, v.spot_of_lem.ensures.inside, z.requires.0.unit), e.1.free)
 
 pub all_need-needed-requires : goal.all_need-needed-requires
 all_need-needed-requires c =
-    let k = c.before in
-    let v = k.before in
-    (v.before.requires.0, omega (arith, k.counted-here.ensures.0, v.spot_of_lem.ensures.early), k.counted-here.ensures.1.small)
+    let k = c in
+    let v = k in
+    (v.requires.0, omega (arith, k.counted-here.ensures.0, v.spot_of_lem.ensures.early), k.counted-here.ensures.1.small)
 
 pub monus-last-requires : goal.monus-last-requires
 monus-last-requires c = tt
@@ -107,21 +107,21 @@ pub is_allowed-allowed-requires : goal.is_allowed-allowed-requires
 is_allowed-allowed-requires c = (s c).requires.1.regular
 
 pub overflow_add-result : goal.overflow_add-result
-overflow_add-result c = let q = c.before.before in omega (arith, last_small q, (h q).counted-here.ensures.2)
+overflow_add-result c = let q = c in omega (arith, last_small q.before.before, (h q.before.before).counted-here.ensures.2)
 
 pub overflow_sub-result : goal.overflow_sub-result
 overflow_sub-result c = enough c.before.before.before
 
 pub returns : goal.returns
 returns c =
-    let q = c.before.before.before in (
-      omega (arith, last_small q, (h q).counted-here.ensures.2),
-      (h q).counted-here.ensures.1,
-      (h q).counted-here.ensures.2,
-      omega (arith, begins q),
+    let q = c in (
+      omega (arith, last_small q.before.before.before, (h q.before.before.before).counted-here.ensures.2),
+      (h q.before.before.before).counted-here.ensures.1,
+      (h q.before.before.before).counted-here.ensures.2,
+      omega (arith, begins q.before.before.before),
       λ ms S X. record {
-        before = omega (arith, reached q ms S X, enough q);
-        remains = remains q ms S X _ c.before.before.is_allowed-allowed.ensures;
-        here = (h q).counted-here.ensures.3 ms S X;
+        before = omega (arith, reached q.before.before.before ms S X, enough q.before.before.before);
+        remains = remains q.before.before.before ms S X _ c.is_allowed-allowed.ensures;
+        here = (h q.before.before.before).counted-here.ensures.3 ms S X;
       },
     )

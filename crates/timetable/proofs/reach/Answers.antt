@@ -8,7 +8,7 @@ use Rattle.timetable.proofs.reach.Goals as goal
 
 pub returns-then-far : goal.returns-then-far
 returns-then-far c =
-    let d = c.before in
+    let d = c in
     let e = d.scan-far.ensures in (
       e.0,
       e.1,
@@ -20,8 +20,8 @@ returns-then-far c =
 
 pub returns : goal.returns
 returns c =
-    let d = c.before.before in
-    let s = d.before in
+    let d = c in
+    let s = d in
     let a = s.args in
     let e = d.scan-far.ensures in
     let f = c.scan.ensures in (
@@ -40,4 +40,4 @@ pub scan-far-requires : goal.scan-far-requires
 scan-far-requires c = c.requires
 
 pub scan-requires : goal.scan-requires
-scan-requires c = let s = c.before.before in let e = c.before.scan-far.ensures in (s.requires.0, s.requires.1, e.1, e.0, s.requires.4, e.5)
+scan-requires c = let s = c in let e = c.scan-far.ensures in (s.requires.0, s.requires.1, e.1, e.0, s.requires.4, e.5)

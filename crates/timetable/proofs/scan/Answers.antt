@@ -17,8 +17,8 @@ wanted a b c d = record { w1 = a; w2 = b; w3 = c; w4 = d }
 
 pub returns-then-found : goal.returns-then-found
 returns-then-found c =
-    let d = c.before.before.before in
-    let v = d.before.before.loop-n.invariant in
+    let d = c in
+    let v = d.loop-n.invariant in
     let e = d.leap_from-f.ensures in
     let L = e.0 in (
       L.most,
@@ -35,8 +35,8 @@ returns-then-found c =
 
 pub loop-n-preserved : goal.loop-n-preserved
 loop-n-preserved c =
-    let d = c.before.before.before in
-    let v = d.before.before.loop-n.invariant in
+    let d = c in
+    let v = d.loop-n.invariant in
     let e = d.leap_from-f.ensures in
     let L = e.0 in (
       L.most,
@@ -49,7 +49,7 @@ loop-n-preserved c =
 
 pub returns : goal.returns
 returns c =
-    let v = c.before.loop-n.invariant in (
+    let v = c.loop-n.invariant in (
       v.0,
       record { small = v.1; free = v.2 },
       v.3,
@@ -64,11 +64,11 @@ loop-n-init c = (c.requires.3, c.requires.2.small, c.requires.2.free, omega arit
 
 pub leap_from-f-requires : goal.leap_from-f-requires
 leap_from-f-requires c =
-    let v = c.before.loop-n.invariant in
-    let s = c.before.before in
+    let v = c.loop-n.invariant in
+    let s = c in
     (s.requires.0, s.requires.1, record { small = v.1; free = v.2 }, c.loop-n-test.true, s.requires.4, v.4)
 
 pub loop-n-smaller : goal.loop-n-smaller
 loop-n-smaller c =
-    let d = c.before.before.before in
-    omega (arith, d.before.loop-n-test.true, d.leap_from-f.ensures.0.on c.if-found.false)
+    let d = c in
+    omega (arith, d.loop-n-test.true, d.leap_from-f.ensures.0.on c.if-found.false)

@@ -6,8 +6,8 @@ use Rattle.timetable.proofs.seek_from.Goals as goal
 
 pub returns : goal.returns
 returns c =
-    let k = c.before.before in
-    let z = k.before in
+    let k = c in
+    let z = k in
     let ms = z.args.ms in
     let p = z.args.p in
     let T = k.timetable_of-table.ensures in
@@ -28,13 +28,13 @@ pub timetable_of-table-requires : goal.timetable_of-table-requires
 timetable_of-table-requires c = c.requires.0
 
 pub overflow_mul-period : goal.overflow_mul-period
-overflow_mul-period c = omega (arith, c.before.timetable_of-table.ensures.1.all)
+overflow_mul-period c = omega (arith, c.timetable_of-table.ensures.1.all)
 
 pub nonzero_rem-from : goal.nonzero_rem-from
-nonzero_rem-from c = omega (arith, c.before.timetable_of-table.ensures.1.long)
+nonzero_rem-from c = omega (arith, c.timetable_of-table.ensures.1.long)
 
 pub sight_of-sight-requires : goal.sight_of-sight-requires
 sight_of-sight-requires c =
-    let k = c.before in
-    let z = k.before in
+    let k = c in
+    let z = k in
     (k.timetable_of-table.ensures.1, allows_some z.args.ms z.requires.0 z.args.p z.requires.1 z.requires.2, mod-lt z.args.from (omega (arith, k.timetable_of-table.ensures.1.long)))

@@ -10,11 +10,11 @@ use Rattle.timetable.proofs.sight_of.Goals as goal
 
 pub returns : goal.returns
 returns c =
-    let d = c.before in
-    let f = d.before in
-    let v = f.before in
-    let o = v.before in
-    let s = o.before in
+    let d = c in
+    let f = d in
+    let v = f in
+    let o = v in
+    let s = o in
     let u = allows s.args.p in
     let tb = s.args.table in
     let r = v.sight_at-s.result in
@@ -34,20 +34,20 @@ pub spot_of-spot-requires : goal.spot_of-spot-requires
 spot_of-spot-requires c = (c.requires.0, omega (arith, c.requires.2))
 
 pub sight_at-s-requires : goal.sight_at-s-requires
-sight_at-s-requires c = let s = c.before in (s.requires.0, s.requires.1, c.spot_of_lem.ensures.late, omega (arith, c.spot_of_lem.ensures.early))
+sight_at-s-requires c = let s = c in (s.requires.0, s.requires.1, c.spot_of_lem.ensures.late, omega (arith, c.spot_of_lem.ensures.early))
 
 pub free_first-free-requires : goal.free_first-free-requires
 free_first-free-requires c =
-    let o = c.before in
-    let s = o.before in
+    let o = c in
+    let s = o in
     let e = c.sight_at-s.ensures in
     (s.requires.0, s.requires.1, omega (arith, e.0, o.spot_of_lem.ensures.early), omega (arith, o.spot_of_lem.ensures.inside, s.requires.0.unit), e.2.free)
 
 pub all_need-requires : goal.all_need-requires
 all_need-requires c =
-    let v = c.before in
-    let o = v.before in
-    (o.before.requires.0, omega (arith, v.sight_at-s.ensures.0, o.spot_of_lem.ensures.early), v.sight_at-s.ensures.2.small)
+    let v = c in
+    let o = v in
+    (o.requires.0, omega (arith, v.sight_at-s.ensures.0, o.spot_of_lem.ensures.early), v.sight_at-s.ensures.2.small)
 
 pub monus-requires : goal.monus-requires
 monus-requires c = tt

@@ -9,4 +9,4 @@ pub element_lent-requires : goal.element_lent-requires
 element_lent-requires c = tt
 
 pub returns : goal.returns
-returns c = rw (c.before.before.numbers-si.ensures, lent_again _) at c.element_lent.ensures
+returns c = rw (c.numbers-si.ensures, lent_again _) at c.element_lent.ensures

@@ -11,22 +11,22 @@ use Rattle.transmitted.proofs.element_lent.Goals as goal
 prepared : (c : After-layout) → let j = c.before.before.before in
     Prepared c.layout.result j.judged-call.result.first j.before.before.before.before.before.args.bits.now
 prepared c =
-    let j = c.before.before.before in
-    subst (λ (g : Layout). Prepared g j.judged-call.result.first j.before.before.before.before.before.args.bits.now) (sym c.layout.ensures) (j.judged-call.ensures.prepared c.before.if-call-ne0.false)
+    let j = c in
+    subst (λ (g : Layout). Prepared g j.judged-call.result.first j.args.bits.now) (sym c.layout.ensures) (j.judged-call.ensures.prepared c.if-call-ne0.false)
 
 pub returns-then-call-ne0 : goal.returns-then-call-ne0
 returns-then-call-ne0 c =
-    let j = c.before.before in
-    let a = j.before.before.before.before.before.args in
+    let j = c in
+    let a = j.args in
     element_refused (lent_cell a.c a.si.now) a.anchor.now a.other.now a.g a.i a.bits.now a.level a.slot a.l a.k j.judged-call.result j.judged-call.ensures c.if-call-ne0.true
 
 pub returns : goal.returns
 returns c =
-    let o = c.before in
-    let y = o.before in
-    let e = y.before in
-    let j = e.before.before in
-    let a = j.before.before.before.before.before.args in
+    let o = c in
+    let y = o in
+    let e = y in
+    let j = e in
+    let a = j.args in
     c.answer.ensures
     ∙ element_answered (lent_cell a.c a.si.now) a.anchor.now a.other.now a.g a.i a.bits.now a.level a.slot a.l a.k j.judged-call.result j.judged-call.ensures
     y.layout.result o.outgoing-o.result e.if-call-ne0.false y.layout.ensures o.outgoing-o.ensures
@@ -35,13 +35,13 @@ pub judged-call-requires : goal.judged-call-requires
 judged-call-requires c = tt
 
 pub layout-requires : goal.layout-requires
-layout-requires c = c.before.before.judged-call.ensures.shift c.if-call-ne0.false
+layout-requires c = c.judged-call.ensures.shift c.if-call-ne0.false
 
 pub outgoing-o-requires : goal.outgoing-o-requires
 outgoing-o-requires c =
-    let e = c.before in
-    let j = e.before.before in
-    let a = j.before.before.before.before.before.args in
+    let e = c in
+    let j = e in
+    let a = j.args in
     let i = element_inside (lent_cell a.c a.si.now) a.anchor.now a.other.now a.g a.i a.bits.now a.level a.slot a.l a.k j.judged-call.result j.judged-call.ensures e.if-call-ne0.false in
     let p = prepared c in
     (p.valid, p.small, i.0, i.1, i.2)

@@ -23,36 +23,36 @@ cell q = lent_cell (args q).args.c (args q).args.si.now
 asked : (q : After-ready-q) → ReadyFor (cell q) (bitmap_in (args q).args.c (own_buffer (args q).args.c (args q).args.anchor.now (args q).args.other.now))
     (refusal_of (cell q) (args q).args.anchor.now (args q).args.other.now (args q).args.g) (burst_of (args q).args.c (args q).args.g)
     q.ready-q.result q.before.judged_lent-v.result.pattern q.before.judged_lent-v.result.laid
-asked q = question _ _ _ _ q.before.judged_lent-v.result q.before.judged_lent-v.ensures q.ready-q.result q.ready-q.ensures
+asked q = question _ _ _ _ q.judged_lent-v.result q.judged_lent-v.ensures q.ready-q.result q.ready-q.ensures
 
 fits : (c : Else-q-ne0) → Fits c.before.before.ready-q.result.burst
 fits c = (asked c.before.before).answerable.fits c.if-q-ne0.false
 
 pub returns-then-q-ne0 : goal.returns-then-q-ne0
 returns-then-q-ne0 c =
-    let q = c.before.before.before in
-    let a = (args q).args in
-    refused_early (cell q) a.anchor.now a.other.now a.g a.i a.outside a.bits.now a.wrong a.level q.ready-q.result _ _ (asked q)
-    c.refused.result c.refused.ensures c.before.if-q-ne0.true
+    let q = c in
+    let a = (args q.before.before.before).args in
+    refused_early (cell q) a.anchor.now a.other.now a.g a.i a.outside a.bits.now a.wrong a.level q.ready-q.result _ _ (asked q.before.before.before)
+    c.refused.result c.refused.ensures c.if-q-ne0.true
 
 pub returns-then-no-ne0 : goal.returns-then-no-ne0
 returns-then-no-ne0 c =
-    let l = c.before.before in
-    let e = l.before.before.before in
-    let q = e.before.before in
-    let a = (args q).args in
-    refused_late (cell q) a.anchor.now a.other.now a.g a.i a.outside a.bits.now a.wrong a.level q.ready-q.result _ _ (asked q)
-    c.refused-then-no-ne0.result l.late_refusal-no.result l.late_refusal-no.ensures e.if-q-ne0.false c.refused-then-no-ne0.ensures c.before.if-no-ne0.true
+    let l = c in
+    let e = l in
+    let q = e in
+    let a = (args q.before.before.before.before.before.before.before).args in
+    refused_late (cell q) a.anchor.now a.other.now a.g a.i a.outside a.bits.now a.wrong a.level q.ready-q.result _ _ (asked q.before.before.before.before.before.before.before)
+    c.refused-then-no-ne0.result l.late_refusal-no.result l.late_refusal-no.ensures e.if-q-ne0.false c.refused-then-no-ne0.ensures c.if-no-ne0.true
 
 pub returns : goal.returns
 returns c =
-    let l = c.before.before in
-    let w = l.before in
-    let e = w.before.before in
-    let q = e.before.before in
-    let a = (args q).args in
-    accepted (cell q) a.anchor.now a.other.now a.g a.i a.outside a.bits.now a.wrong a.level q.ready-q.result _ _ (asked q)
-    l.late_refusal-no.result w.used_elements-w.result c.carried_by-unit.result e.if-q-ne0.false l.late_refusal-no.ensures c.before.if-no-ne0.false
+    let l = c in
+    let w = l in
+    let e = w in
+    let q = e in
+    let a = (args q.before.before.before.before.before.before.before).args in
+    accepted (cell q) a.anchor.now a.other.now a.g a.i a.outside a.bits.now a.wrong a.level q.ready-q.result _ _ (asked q.before.before.before.before.before.before.before)
+    l.late_refusal-no.result w.used_elements-w.result c.carried_by-unit.result e.if-q-ne0.false l.late_refusal-no.ensures c.if-no-ne0.false
     w.used_elements-w.ensures.0 c.carried_by-unit.ensures.0
 
 pub judged_lent-v-requires : goal.judged_lent-v-requires
@@ -77,4 +77,4 @@ pub carried_by-unit-requires : goal.carried_by-unit-requires
 carried_by-unit-requires c = fits c.before.before.before.before
 
 pub overflow_mul-result : goal.overflow_mul-result
-overflow_mul-result c = let w = c.before.before.before in omega (arith, mul-le-mul c.carried_by-unit.ensures.1 w.used_elements-w.ensures.2)
+overflow_mul-result c = let w = c in omega (arith, mul-le-mul c.carried_by-unit.ensures.1 w.used_elements-w.ensures.2)

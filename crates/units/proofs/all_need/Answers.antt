@@ -33,26 +33,26 @@ pub need-requires : goal.need-requires
 need-requires c = (c.requires.0.r1, c.requires.1, c.requires.2.s1)
 
 pub need-requires-2 : goal.need-requires-2
-need-requires-2 c = let s = c.before in (s.requires.0.r2, s.requires.1, s.requires.2.s2)
+need-requires-2 c = let s = c in (s.requires.0.r2, s.requires.1, s.requires.2.s2)
 
 pub overflow_add-front : goal.overflow_add-front
-overflow_add-front c = let z = small c.before.before in omega (arith, c.before.need.ensures.1, c.need-2.ensures.1, z.0, z.1)
+overflow_add-front c = let z = small c.before.before.before.before in omega (arith, c.need.ensures.1, c.need-2.ensures.1, z.0, z.1)
 
 pub need-requires-3 : goal.need-requires-3
-need-requires-3 c = let s = c.before.before in (s.requires.0.r3, s.requires.1, s.requires.2.s3)
+need-requires-3 c = let s = c in (s.requires.0.r3, s.requires.1, s.requires.2.s3)
 
 pub overflow_add-result : goal.overflow_add-result
 overflow_add-result c =
-    let c2 = c.before in
-    let z = small c2.before.before in
-    omega (arith, c2.before.need.ensures.1, c2.need-2.ensures.1, c.need-3.ensures.1, z.0, z.1, z.2)
+    let c2 = c in
+    let z = small c2.before.before.before.before.before.before in
+    omega (arith, c2.need.ensures.1, c2.need-2.ensures.1, c.need-3.ensures.1, z.0, z.1, z.2)
 
 pub need-requires-4 : goal.need-requires-4
-need-requires-4 c = let s = c.before.before.before in (s.requires.0.r4, s.requires.1, s.requires.2.s4)
+need-requires-4 c = let s = c in (s.requires.0.r4, s.requires.1, s.requires.2.s4)
 
 pub overflow_add-result-2 : goal.overflow_add-result-2
 overflow_add-result-2 c =
-    let c3 = c.before in
-    let c2 = c3.before in
-    let z = small c2.before.before in
-    omega (arith, c2.before.need.ensures.1, c2.need-2.ensures.1, c3.need-3.ensures.1, c.need-4.ensures.1, z.0, z.1, z.2, z.3)
+    let c3 = c in
+    let c2 = c3 in
+    let z = small c2.before.before.before.before.before.before.before.before in
+    omega (arith, c2.need.ensures.1, c2.need-2.ensures.1, c3.need-3.ensures.1, c.need-4.ensures.1, z.0, z.1, z.2, z.3)

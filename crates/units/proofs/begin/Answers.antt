@@ -12,7 +12,7 @@ pub overflow_mul-result : goal.overflow_mul-result
 overflow_mul-result c = omega (arith, most c.before)
 
 pub overflow_add-result : goal.overflow_add-result
-overflow_add-result c = omega (arith, most c.before.before, c.before.before.requires.0.first)
+overflow_add-result c = omega (arith, most c.before.before, c.requires.0.first)
 
 pub returns : goal.returns
-returns c = (refl, omega (arith, most c.before.before, c.before.before.requires.0.first))
+returns c = (refl, omega (arith, most c.before.before, c.requires.0.first))

@@ -7,7 +7,7 @@ pub ones_of-b-requires : goal.ones_of-b-requires
 ones_of-b-requires c = tt
 
 pub rank_of-requires : goal.rank_of-requires
-rank_of-requires c = let s = c.before.before in (s.requires.0.regular, record { sib1 = c.before.ones_of-a.ensures; usual = c.ones_of-b.ensures })
+rank_of-requires c = let s = c in (s.requires.0.regular, record { sib1 = c.ones_of-a.ensures; usual = c.ones_of-b.ensures })
 
 pub returns : goal.returns
 returns c = c.rank_of.ensures

@@ -11,20 +11,20 @@ use Rattle.units.proofs.free_first.Goals as goal
 counted : (c : After-free_before) → c.free_before.result ≡ c.before.before.args.free
     + count (allows c.before.before.args.p) (begin_of c.before.before.args.table c.before.before.args.n) c.before.before.args.y
 counted c =
-    let b = c.before in
-    let a = b.before.args in
+    let b = c in
+    let a = b.args in
     let u = allows a.p in
     c.free_before.ensures ∙ ap (λ (x : ℕ). rank u (x + a.y)) b.begin.ensures.0
-    ∙ omega (arith, rank_count u a.y (begin_of a.table a.n), b.before.requires.4)
+    ∙ omega (arith, rank_count u a.y (begin_of a.table a.n), b.requires.4)
 
 pub begin-requires : goal.begin-requires
 begin-requires c = (c.requires.0, c.requires.2)
 
 pub overflow_add-begin : goal.overflow_add-begin
-overflow_add-begin c = omega (arith, c.begin.ensures.1, c.before.requires.3)
+overflow_add-begin c = omega (arith, c.begin.ensures.1, c.requires.3)
 
 pub free_before-requires : goal.free_before-requires
-free_before-requires c = (c.before.requires.1, omega (arith, c.begin.ensures.1, c.before.requires.3))
+free_before-requires c = (c.requires.1, omega (arith, c.begin.ensures.1, c.requires.3))
 
 pub overflow_sub-result : goal.overflow_sub-result
 overflow_sub-result c = omega (arith, counted c)

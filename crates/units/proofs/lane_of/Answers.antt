@@ -7,7 +7,7 @@ use Rattle.units.proofs.lane_of.Goals.{Then-read}
 use Rattle.units.proofs.lane_of.Goals as goal
 
 known : (c : Then-read) → InUnits c.before.args.s c.before.args.k
-known c = c.before.requires.3 c.if-read.true
+known c = c.requires.3 c.if-read.true
 
 pub returns-then-read : goal.returns-then-read
 unfolding lane_of
@@ -36,7 +36,7 @@ pub overflow_sub-log : goal.overflow_sub-log
 overflow_sub-log c = omega (arith, c.log_of.ensures, (known c.before).period_units)
 
 pub overflow_mul-before : goal.overflow_mul-before
-overflow_mul-before c = let s = c.before.before in let h : s.args.before * s.args.window ≤ 3 * 160 = mul-le-mul s.requires.0 s.requires.1 in omega (arith, h)
+overflow_mul-before c = let s = c in let h : s.args.before * s.args.window ≤ 3 * 160 = mul-le-mul s.requires.0 s.requires.1 in omega (arith, h)
 
 pub low-requires : goal.low-requires
 low-requires c = omega (arith, c.log_of.ensures, (known c.before).period_small)
@@ -48,4 +48,4 @@ pub overflow_sub-result : goal.overflow_sub-result
 overflow_sub-result c = omega (arith, c.log_of-then-read.ensures, (known c.before.before.before).every_units)
 
 pub overflow_sub-result-2 : goal.overflow_sub-result-2
-overflow_sub-result-2 c = omega (arith, c.before.requires.2)
+overflow_sub-result-2 c = omega (arith, c.requires.2)

@@ -22,26 +22,26 @@ made s w f a b = λ i. record { want = a i; free = b i }
 
 closes : (c : After-monus) → ◌≡◌ {A = LaneStep} (record { want = 0; free = c.monus.result }) (lane_step_of c.before.before.before.before.args.l c.before.before.before.before.args.n c.before.before.before.before.args.want c.before.before.before.before.args.free)
 closes c =
-    let t = c.before in
-    let s = t.before.before.before in
-    made s 0 c.monus.result
-    (rw (le-ltb (place_of s.args.l s.args.n + 1) s.args.l.window (omega (arith, t.before.place.ensures.0, t.if-place-window.true))) refl)
-    (c.monus.ensures ∙ ap (λ (x : ℕ). s.args.free - x) t.before.before.need-b.ensures.0)
+    let t = c in
+    let s = t in
+    made s.before.before.before.before 0 c.monus.result
+    (rw (le-ltb (place_of s.args.l s.args.n + 1) s.args.l.window (omega (arith, t.place.ensures.0, t.if-place-window.true))) refl)
+    (c.monus.ensures ∙ ap (λ (x : ℕ). s.args.free - x) t.need-b.ensures.0)
 
 goes_on : (c : After-monus-3) → ◌≡◌ {A = LaneStep} (record { want = c.before.monus-2.result; free = c.monus-3.result }) (lane_step_of c.before.before.before.before.before.args.l c.before.before.before.before.before.args.n c.before.before.before.before.before.args.want c.before.before.before.before.before.args.free)
 goes_on c =
-    let t = c.before.before in
-    let s = t.before.before.before in
-    made s c.before.monus-2.result c.monus-3.result
-    (rw (lt-ltb (place_of s.args.l s.args.n + 1) s.args.l.window (omega (arith, t.before.place.ensures.0, t.if-place-window.false)))
-    (c.before.monus-2.ensures ∙ ap (λ (x : ℕ). x - s.args.free) t.before.before.need-b.ensures.0))
-    (c.monus-3.ensures ∙ ap (λ (x : ℕ). s.args.free - x) t.before.before.need-b.ensures.0)
+    let t = c in
+    let s = t in
+    made s.before.before.before.before.before c.monus-2.result c.monus-3.result
+    (rw (lt-ltb (place_of s.args.l s.args.n + 1) s.args.l.window (omega (arith, t.place.ensures.0, t.if-place-window.false)))
+    (c.monus-2.ensures ∙ ap (λ (x : ℕ). x - s.args.free) t.need-b.ensures.0))
+    (c.monus-3.ensures ∙ ap (λ (x : ℕ). s.args.free - x) t.need-b.ensures.0)
 
 pub need-b-requires : goal.need-b-requires
 need-b-requires c = c.requires
 
 pub place-requires : goal.place-requires
-place-requires c = let s = c.before in (s.requires.0.log, s.requires.0.start, s.requires.1)
+place-requires c = let s = c in (s.requires.0.log, s.requires.0.start, s.requires.1)
 
 pub overflow_add-place : goal.overflow_add-place
 overflow_add-place c = omega (arith, c.place.ensures.2)

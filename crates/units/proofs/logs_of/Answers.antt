@@ -29,10 +29,10 @@ pub with_schedule-one-requires : goal.with_schedule-one-requires
 with_schedule-one-requires c = λ r. has_logs c.args.ms c.requires c.args.ms.s1 ((listed c.args.ms c.requires).l1 r)
 
 pub with_schedule-two-requires : goal.with_schedule-two-requires
-with_schedule-two-requires c = λ r. let z = c.before in let m = z.args.ms in has_logs m z.requires m.s2 ((listed m z.requires).l2 r)
+with_schedule-two-requires c = λ r. let z = c in let m = z.args.ms in has_logs m z.requires m.s2 ((listed m z.requires).l2 r)
 
 pub with_schedule-three-requires : goal.with_schedule-three-requires
-with_schedule-three-requires c = λ r. let z = c.before.before in let m = z.args.ms in has_logs m z.requires m.s3 ((listed m z.requires).l3 r)
+with_schedule-three-requires c = λ r. let z = c in let m = z.args.ms in has_logs m z.requires m.s3 ((listed m z.requires).l3 r)
 
 pub with_schedule-requires : goal.with_schedule-requires
-with_schedule-requires c = λ r. let z = c.before.before.before in let m = z.args.ms in has_logs m z.requires m.s4 ((listed m z.requires).l4 r)
+with_schedule-requires c = λ r. let z = c in let m = z.args.ms in has_logs m z.requires m.s4 ((listed m z.requires).l4 r)

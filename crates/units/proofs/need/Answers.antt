@@ -16,25 +16,25 @@ place_is : (c : After-place-x) → c.place-x.result ≡ place_of c.before.args.l
 place_is c = c.place-x.ensures.0
 
 low_is : (c : After-low) → c.low.result ≡ place_of c.before.before.before.args.l c.before.before.before.args.n % 2 ^ c.before.before.before.args.l.every
-low_is c = c.low.ensures ∙ ap (λ (x : ℕ). x % 2 ^ c.before.before.before.args.l.every) (place_is c.before.before)
+low_is c = c.low.ensures ∙ ap (λ (x : ℕ). x % 2 ^ c.args.l.every) (place_is c.before.before)
 
 closed : (c : Then-x-window) → 0 ≡ need_of c.before.before.args.l c.before.before.args.n c.before.before.args.want
 unfolding need_of
-closed c = let a = c.before.before.args in rw (le-ltb (place_of a.l a.n) a.l.window (omega (arith, place_is c.before, c.if-x-window.true))) refl
+closed c = let a = c.args in rw (le-ltb (place_of a.l a.n) a.l.window (omega (arith, place_is c.before, c.if-x-window.true))) refl
 
 inside : (c : Else-x-window) → ltb (place_of c.before.before.args.l c.before.before.args.n) c.before.before.args.l.window ≡ true
-inside c = let a = c.before.before.args in lt-ltb (place_of a.l a.n) a.l.window (omega (arith, place_is c.before, c.if-x-window.false))
+inside c = let a = c.args in lt-ltb (place_of a.l a.n) a.l.window (omega (arith, place_is c.before, c.if-x-window.false))
 
 begins : (c : Then-low-eq0) → c.before.before.before.before.args.want + c.before.before.before.before.args.l.size ≡ need_of c.before.before.before.before.args.l c.before.before.before.before.args.n c.before.before.before.before.args.want
 unfolding need_of
 begins c =
-    let a = c.before.before.before.before.args in
+    let a = c.args in
     rw (inside c.before.before, eq-eqb (place_of a.l a.n % 2 ^ a.l.every) 0 (sym (low_is c.before) ∙ c.if-low-eq0.true)) refl
 
 goes_on : (c : Else-low-eq0) → c.before.before.before.before.args.want ≡ need_of c.before.before.before.before.args.l c.before.before.before.before.args.n c.before.before.before.before.args.want
 unfolding need_of
 goes_on c =
-    let a = c.before.before.before.before.args in
+    let a = c.args in
     rw (inside c.before.before, ne_eqb (place_of a.l a.n % 2 ^ a.l.every) 0 (λ e. c.if-low-eq0.false (low_is c.before ∙ e))) (omega arith)
 
 pub place-x-requires : goal.place-x-requires
@@ -44,10 +44,10 @@ pub returns-then-x-window : goal.returns-then-x-window
 returns-then-x-window c = (closed c, omega arith)
 
 pub low-requires : goal.low-requires
-low-requires c = omega (arith, c.before.before.requires.0.every)
+low-requires c = omega (arith, c.requires.0.every)
 
 pub overflow_add-result : goal.overflow_add-result
-overflow_add-result c = let s = c.before.before.before.before in omega (arith, begins c, most s, place_is c.before.before.before, c.before.before.before.place-x.ensures.2)
+overflow_add-result c = let s = c in omega (arith, begins c, most s.before.before.before.before, place_is c.before.before.before, c.place-x.ensures.2)
 
 pub returns-then-low-eq0 : goal.returns-then-low-eq0
 returns-then-low-eq0 c = (begins c, omega (arith, begins c, most c.before.before.before.before))

@@ -28,10 +28,10 @@ pub lay-a-requires : goal.lay-a-requires
 lay-a-requires c = (c.requires.0.r1, c.requires.1, c.requires.2.s1)
 
 pub lay-b-requires : goal.lay-b-requires
-lay-b-requires c = let s = c.before in (s.requires.0.r2, s.requires.1, s.requires.2.s2)
+lay-b-requires c = let s = c in (s.requires.0.r2, s.requires.1, s.requires.2.s2)
 
 pub lay-c-requires : goal.lay-c-requires
-lay-c-requires c = let s = c.before.before in (s.requires.0.r3, s.requires.1, s.requires.2.s3)
+lay-c-requires c = let s = c in (s.requires.0.r3, s.requires.1, s.requires.2.s3)
 
 pub lay-d-requires : goal.lay-d-requires
-lay-d-requires c = let s = c.before.before.before in (s.requires.0.r4, s.requires.1, s.requires.2.s4)
+lay-d-requires c = let s = c in (s.requires.0.r4, s.requires.1, s.requires.2.s4)

@@ -14,16 +14,16 @@ short c = pow_mono {i = c.args.l.log} {j = 11} c.requires.0
 exact : (c : After-low) → c.low.result ≡ place_of c.before.before.before.args.l c.before.before.before.args.n
 unfolding place_of
 exact c =
-    let a = c.before.before.before.args in
-    c.low.ensures ∙ ap (λ (x : ℕ). (a.n + x - a.l.start) % 2 ^ a.l.log) c.before.before.power_of_two.ensures
+    let a = c.args in
+    c.low.ensures ∙ ap (λ (x : ℕ). (a.n + x - a.l.start) % 2 ^ a.l.log) c.power_of_two.ensures
 
 pub returns : goal.returns
 returns c =
-    let s = c.before.before.before in
-    (exact c, omega (arith, exact c, place_below s.args.l s.args.n), omega (arith, exact c, place_below s.args.l s.args.n, short s))
+    let s = c in
+    (exact c, omega (arith, exact c, place_below s.args.l s.args.n), omega (arith, exact c, place_below s.args.l s.args.n, short s.before.before.before))
 
 pub overflow_add-n : goal.overflow_add-n
-overflow_add-n c = omega (arith, c.power_of_two.ensures, short c.before, c.before.requires.2)
+overflow_add-n c = omega (arith, c.power_of_two.ensures, short c.before, c.requires.2)
 
 pub overflow_sub-n : goal.overflow_sub-n
-overflow_sub-n c = omega (arith, c.before.power_of_two.ensures, c.before.before.requires.1)
+overflow_sub-n c = omega (arith, c.power_of_two.ensures, c.requires.1)

@@ -17,10 +17,10 @@ use Rattle.units.proofs.sight_at.Goals as goal
 from_is : (c : After-opened-a1) → c.opened-a1.result ≡ walk_from c.before.before.before.before.args.table c.before.before.before.before.args.n
 unfolding walk_from
 from_is c =
-    let o2 = c.before in
-    let o3 = o2.before in
-    let o4 = o3.before in
-    let t = o4.before.args.table in
+    let o2 = c in
+    let o3 = o2 in
+    let o4 = o3 in
+    let t = o4.args.table in
     c.opened-a1.ensures.0
     ∙ ap (opened_of t.l1) (o2.opened-a2.ensures.0 ∙ ap (opened_of t.l2) (o3.opened-a3.ensures.0 ∙ ap (opened_of t.l3) o4.opened-a4.ensures.0))
 
@@ -29,13 +29,13 @@ module _ (c : After-no_wants-wants) where
   o4 = c.before
 
   abbrev s : Start
-  s = o4.before.before.before.before
+  s = o4.before.before.before.before.before.before.before.before
 
   below : o4.opened-a1.result ≤ s.args.n
   below =
-      let o3 = o4.before in
-      let o2 = o3.before in
-      omega (arith, o2.before.opened-a4.ensures.1, o2.opened-a3.ensures.1, o3.opened-a2.ensures.1, o4.opened-a1.ensures.1)
+      let o3 = o4 in
+      let o2 = o3 in
+      omega (arith, o2.opened-a4.ensures.1, o2.opened-a3.ensures.1, o3.opened-a2.ensures.1, o4.opened-a1.ensures.1)
 
 -- where it begins
 module _ (c : After-free_before-free) where
@@ -46,7 +46,7 @@ module _ (c : After-free_before-free) where
       (record { n = (o4 at).opened-a1.result; wants = at.no_wants-wants.result; free = c.free_before-free.result; k = 2 ^ 31 })
   begun = record {
     small = subst (Small (s at).args.table (o4 at).opened-a1.result) (sym at.no_wants-wants.ensures) (none_small (s at).args.table (o4 at).opened-a1.result);
-    free = c.free_before-free.ensures ∙ ap (rank (allows (s at).args.p)) c.before.begin.ensures.0;
+    free = c.free_before-free.ensures ∙ ap (rank (allows (s at).args.p)) c.begin.ensures.0;
   }
 
 -- nothing to walk
@@ -112,12 +112,12 @@ pub opened-a4-requires : goal.opened-a4-requires
 opened-a4-requires c = (c.requires.0.r4, omega (arith, c.requires.3), omega (arith, c.requires.0.t4, c.requires.2))
 
 pub opened-a3-requires : goal.opened-a3-requires
-opened-a3-requires c = let s = c.before in (s.requires.0.r3, omega (arith, s.requires.3, c.opened-a4.ensures.1), omega (arith, s.requires.0.t3, s.requires.0.t4, s.requires.2, c.opened-a4.ensures.2))
+opened-a3-requires c = let s = c in (s.requires.0.r3, omega (arith, s.requires.3, c.opened-a4.ensures.1), omega (arith, s.requires.0.t3, s.requires.0.t4, s.requires.2, c.opened-a4.ensures.2))
 
 pub opened-a2-requires : goal.opened-a2-requires
 opened-a2-requires c =
-    let o = c.before in
-    let s = o.before in (
+    let o = c in
+    let s = o in (
       s.requires.0.r2,
       omega (arith, s.requires.3, o.opened-a4.ensures.1, c.opened-a3.ensures.1),
       omega (arith, s.requires.0.t2, s.requires.0.t3, s.requires.0.t4, s.requires.2, o.opened-a4.ensures.2, c.opened-a3.ensures.2),
@@ -125,9 +125,9 @@ opened-a2-requires c =
 
 pub opened-a1-requires : goal.opened-a1-requires
 opened-a1-requires c =
-    let o2 = c.before in
-    let o = o2.before in
-    let s = o.before in (
+    let o2 = c in
+    let o = o2 in
+    let s = o in (
       s.requires.0.r1,
       omega (arith, s.requires.3, o.opened-a4.ensures.1, o2.opened-a3.ensures.1, c.opened-a2.ensures.1),
       omega (arith, s.requires.0.t1, s.requires.0.t2, s.requires.0.t3, s.requires.0.t4, s.requires.2, o.opened-a4.ensures.2, o2.opened-a3.ensures.2, c.opened-a2.ensures.2),
@@ -144,6 +144,6 @@ free_before-free-requires c = ((s c.before).requires.1, omega (arith, c.begin.en
 
 pub run-requires : goal.run-requires
 run-requires c =
-    let f = c.before in
-    let z = s (at f) in
-    (z.requires.0, z.requires.1, begun f, below (at f), z.requires.3)
+    let f = c in
+    let z = s (at f.before) in
+    (z.requires.0, z.requires.1, begun f.before, below (at f.before), z.requires.3)

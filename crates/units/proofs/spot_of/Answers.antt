@@ -18,10 +18,10 @@ pub quotient-n-requires : goal.quotient-n-requires
 quotient-n-requires c = (omega (arith, c.requires.0.all, c.requires.1), omega (arith, c.requires.0.some), omega (arith, c.requires.0.unit))
 
 pub overflow_mul-result : goal.overflow_mul-result
-overflow_mul-result c = let s = c.before in omega (arith, (spotted s.args.table s.requires.0 s.args.t s.requires.1 c.quotient-n.result c.quotient-n.ensures).0, s.requires.0.all, s.requires.1)
+overflow_mul-result c = let s = c in omega (arith, (spotted s.args.table s.requires.0 s.args.t s.requires.1 c.quotient-n.result c.quotient-n.ensures).0, s.requires.0.all, s.requires.1)
 
 pub overflow_sub-result : goal.overflow_sub-result
-overflow_sub-result c = let s = c.before in (spotted s.args.table s.requires.0 s.args.t s.requires.1 c.quotient-n.result c.quotient-n.ensures).0
+overflow_sub-result c = let s = c in (spotted s.args.table s.requires.0 s.args.t s.requires.1 c.quotient-n.result c.quotient-n.ensures).0
 
 pub returns : goal.returns
-returns c = let s = c.before in (spotted s.args.table s.requires.0 s.args.t s.requires.1 c.quotient-n.result c.quotient-n.ensures).2
+returns c = let s = c in (spotted s.args.table s.requires.0 s.args.t s.requires.1 c.quotient-n.result c.quotient-n.ensures).2

@@ -18,16 +18,16 @@ use Rattle.units.proofs.timetable_of.Goals as goal
 -- the shortest distance, and the window in units
 module _ (c : After-power_of_two) where
   abbrev ms : Messages
-  ms = c.before.before.before.args.ms
+  ms = c.args.ms
 
   abbrev k : ℕ
-  k = c.before.before.logs_of-logs.result.shortest
+  k = c.logs_of-logs.result.shortest
 
   k_is : k ≡ shortest_of ms
-  k_is = ap (λ (l : Logs). l.shortest) c.before.before.logs_of-logs.ensures
+  k_is = ap (λ (l : Logs). l.shortest) c.logs_of-logs.ensures
 
   k_small : k ≤ 4
-  k_small = omega (arith, k_is, shortest_to ms c.before.before.before.requires)
+  k_small = omega (arith, k_is, shortest_to ms c.requires)
 
   power_is : c.power_of_two.result ≡ 2 ^ shortest_of ms
   power_is = c.power_of_two.ensures ∙ ap (λ (n : ℕ). 2 ^ n) k_is
@@ -40,7 +40,7 @@ module _ (c : After-power_of_two) where
 
   window_small : w ≤ 160
   window_small =
-      omega (arith, window_is, shr_le (window_frames ms) (shortest_of ms), (window ms.window (listed ms c.before.before.before.requires).is_window).to)
+      omega (arith, window_is, shr_le (window_frames ms) (shortest_of ms), (window ms.window (listed ms c.requires).is_window).to)
 
   ready : (read : Bool) (s : Schedule) (before : ℕ) → before ≤ 3 → (read ≡ true → Entry ms s (shortest_of ms)) → (before ≤ 3) × (w ≤ 160) × (k ≤ 4) × (read ≡ true → InUnits s k)
   ready read s before h e = (h, window_small, k_small, λ r. subst (InUnits s) (sym k_is) (in_units_lem ms s (shortest_of ms) (e r)))
@@ -53,10 +53,10 @@ longest_is c = ap (λ (l : Logs). l.longest) c.logs_of-logs.ensures
 
 units_small_lem : (c : After-power_of_two) → (k c ≤ c.before.before.logs_of-logs.result.longest) × (c.before.before.logs_of-logs.result.longest ≤ 12)
 units_small_lem c =
-    let o = c.before.before in
-    let s = o.before in (
-      omega (arith, k_is c, longest_is o, shortest_to s.args.ms s.requires, longest_from s.args.ms s.requires),
-      omega (arith, longest_is o, longest_to s.args.ms s.requires),
+    let o = c in
+    let s = o in (
+      omega (arith, k_is c, longest_is o.before.before, shortest_to s.args.ms s.requires, longest_from s.args.ms s.requires),
+      omega (arith, longest_is o.before.before, longest_to s.args.ms s.requires),
     )
 
 made : (c : After-lane_of-4) → ◌≡◌ {A = Timetable} (record {
@@ -70,46 +70,46 @@ made : (c : After-lane_of-4) → ◌≡◌ {A = Timetable} (record {
 }) (timetable_of c.before.before.before.before.before.before.before.before.before.before.before.args.ms)
 unfolding timetable_of
 made c =
-    let l3 = c.before in
-    let l2 = l3.before in
-    let l1 = l2.before in
-    let u = l1.before in
-    let g = u.before in
-    let d = g.before in
-    let p = d.before.before in
-    let m = ms p in
+    let l3 = c in
+    let l2 = l3 in
+    let l1 = l2 in
+    let u = l1 in
+    let g = u in
+    let d = g in
+    let p = d in
+    let m = ms p.before.before.before.before.before.before.before.before.before.before.before.before in
     λ i. record {
       first = 10 * m.offset;
-      unit = 10 * (d.power_of_two-2.ensures ∙ ap (λ (n : ℕ). 2 ^ n) (k_is p)) i;
-      units = (u.power_of_two-3.ensures ∙ ap₂ (λ (a b : ℕ). 2 ^ (a - b)) (longest_is p.before.before) (k_is p)) i;
-      l1 = lane_is p _ (is_read m 1) m.s1 0 l1.lane_of_lem.ensures i;
-      l2 = lane_is p _ (is_read m 2) m.s2 1 l2.lane_of-2.ensures i;
-      l3 = lane_is p _ (is_read m 3) m.s3 2 l3.lane_of-3.ensures i;
-      l4 = lane_is p _ (is_read m 4) m.s4 3 c.lane_of-4.ensures i;
+      unit = 10 * (d.power_of_two-2.ensures ∙ ap (λ (n : ℕ). 2 ^ n) (k_is p.before.before.before.before.before.before.before.before.before.before.before.before)) i;
+      units = (u.power_of_two-3.ensures ∙ ap₂ (λ (a b : ℕ). 2 ^ (a - b)) (longest_is p.before.before.before.before.before.before.before.before.before.before.before.before.before.before) (k_is p.before.before.before.before.before.before.before.before.before.before.before.before)) i;
+      l1 = lane_is p.before.before.before.before.before.before.before.before.before.before.before.before _ (is_read m 1) m.s1 0 l1.lane_of_lem.ensures i;
+      l2 = lane_is p.before.before.before.before.before.before.before.before.before.before.before.before _ (is_read m 2) m.s2 1 l2.lane_of-2.ensures i;
+      l3 = lane_is p.before.before.before.before.before.before.before.before.before.before.before.before _ (is_read m 3) m.s3 2 l3.lane_of-3.ensures i;
+      l4 = lane_is p.before.before.before.before.before.before.before.before.before.before.before.before _ (is_read m 4) m.s4 3 c.lane_of-4.ensures i;
     }
 
 pub returns : goal.returns
 returns c =
-    let s = c.before.before.before.before.before.before.before.before.before.before.before in
+    let s = c in
     (made c, subst Sized (sym (made c)) (sized s.args.ms s.requires))
 
 pub logs_of-logs-requires : goal.logs_of-logs-requires
 logs_of-logs-requires c = c.requires
 
 pub power_of_two-requires : goal.power_of_two-requires
-power_of_two-requires c = let o = c.before in omega (arith, ap (λ (l : Logs). l.shortest) o.logs_of-logs.ensures, shortest_to o.before.args.ms o.before.requires)
+power_of_two-requires c = let o = c in omega (arith, ap (λ (l : Logs). l.shortest) o.logs_of-logs.ensures, shortest_to o.args.ms o.requires)
 
 pub nonzero_div-window-2 : goal.nonzero_div-window-2
 nonzero_div-window-2 c = omega (arith, power_is c, pow_pos (shortest_of (ms c)))
 
 pub overflow_mul-result : goal.overflow_mul-result
-overflow_mul-result c = let s = c.before.before.before.before in omega (arith, (listed s.args.ms s.requires).offset_to)
+overflow_mul-result c = let s = c in omega (arith, (listed s.args.ms s.requires).offset_to)
 
 pub power_of_two-requires-2 : goal.power_of_two-requires-2
 power_of_two-requires-2 c = omega (arith, k_small c.before)
 
 pub overflow_mul-result-2 : goal.overflow_mul-result-2
-overflow_mul-result-2 c = let p = c.before.before in omega (arith, c.power_of_two-2.ensures, pow_mono {i = k p} {j = 4} (k_small p))
+overflow_mul-result-2 c = let p = c in omega (arith, c.power_of_two-2.ensures, pow_mono {i = k p.before.before} {j = 4} (k_small p.before.before))
 
 pub overflow_sub-logs : goal.overflow_sub-logs
 overflow_sub-logs c = (units_small_lem c.before.before.before).0
@@ -118,13 +118,13 @@ pub power_of_two-requires-3 : goal.power_of_two-requires-3
 power_of_two-requires-3 c = omega (arith, (units_small_lem c.before.before.before).1)
 
 pub lane_of-requires : goal.lane_of-requires
-lane_of-requires c = let p = c.before.before.before.before in ready p (is_read (ms p) 1) (ms p).s1 0 (omega arith) (entry_1 (ms p) p.before.before.before.requires)
+lane_of-requires c = let p = c in ready p.before.before.before.before.before (is_read (ms p.before.before.before.before.before) 1) (ms p.before.before.before.before.before).s1 0 (omega arith) (entry_1 (ms p.before.before.before.before.before) p.requires)
 
 pub lane_of-requires-2 : goal.lane_of-requires-2
-lane_of-requires-2 c = let p = c.before.before.before.before.before in ready p (is_read (ms p) 2) (ms p).s2 1 (omega arith) (entry_2 (ms p) p.before.before.before.requires)
+lane_of-requires-2 c = let p = c in ready p.before.before.before.before.before.before.before (is_read (ms p.before.before.before.before.before.before.before) 2) (ms p.before.before.before.before.before.before.before).s2 1 (omega arith) (entry_2 (ms p.before.before.before.before.before.before.before) p.requires)
 
 pub lane_of-requires-3 : goal.lane_of-requires-3
-lane_of-requires-3 c = let p = c.before.before.before.before.before.before in ready p (is_read (ms p) 3) (ms p).s3 2 (omega arith) (entry_3 (ms p) p.before.before.before.requires)
+lane_of-requires-3 c = let p = c in ready p.before.before.before.before.before.before.before.before.before (is_read (ms p.before.before.before.before.before.before.before.before.before) 3) (ms p.before.before.before.before.before.before.before.before.before).s3 2 (omega arith) (entry_3 (ms p.before.before.before.before.before.before.before.before.before) p.requires)
 
 pub lane_of-requires-4 : goal.lane_of-requires-4
-lane_of-requires-4 c = let p = c.before.before.before.before.before.before.before in ready p (is_read (ms p) 4) (ms p).s4 3 (omega arith) (entry_4 (ms p) p.before.before.before.requires)
+lane_of-requires-4 c = let p = c in ready p.before.before.before.before.before.before.before.before.before.before.before (is_read (ms p.before.before.before.before.before.before.before.before.before.before.before) 4) (ms p.before.before.before.before.before.before.before.before.before.before.before).s4 3 (omega arith) (entry_4 (ms p.before.before.before.before.before.before.before.before.before.before.before) p.requires)

@@ -26,13 +26,13 @@ returns c =
     rw c.if-read.false (λ i. record { shortest = a i; longest = b i })
 
 pub log_of-requires : goal.log_of-requires
-log_of-requires c = (c.before.requires c.if-read.true).0
+log_of-requires c = (c.requires c.if-read.true).0
 
 pub least-requires : goal.least-requires
 least-requires c = tt
 
 pub log_of-requires-then-read : goal.log_of-requires-then-read
-log_of-requires-then-read c = let t = c.before.before in (t.before.requires t.if-read.true).1
+log_of-requires-then-read c = let t = c in (t.requires t.if-read.true).1
 
 pub most-requires : goal.most-requires
 most-requires c = tt

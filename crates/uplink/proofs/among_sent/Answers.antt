@@ -7,5 +7,5 @@ sent_slots-many-requires c = c.requires
 
 pub returns : goal.returns
 returns c =
-    let t = c.before.before.args.found in
-    λ j. record { sent = t.sent && ltb t.i (c.before.sent_slots-many.ensures.0 j); i = t.i }
+    let t = c.args.found in
+    λ j. record { sent = t.sent && ltb t.i (c.sent_slots-many.ensures.0 j); i = t.i }

@@ -3,4 +3,4 @@ use borrow.Author.Rules.{rules}
 use Rattle.uplink.proofs.carried_by.Goals as goal
 
 pub returns : goal.returns
-returns c = (c.carried.ensures.0, omega (arith, c.carried.ensures.1, c.before.requires.codeword_small))
+returns c = (c.carried.ensures.0, omega (arith, c.carried.ensures.1, c.requires.codeword_small))

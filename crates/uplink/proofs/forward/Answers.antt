@@ -19,7 +19,7 @@ module _ (c : After-slot_data-w) where
   start = c.before.before.before.before
 
   unit : start.args.at.i < sent_slots start.args.s
-  unit = omega (arith, c.before.if-at-sent_slots.false, c.before.before.before.sent_slots.ensures.0)
+  unit = omega (arith, c.if-at-sent_slots.false, c.sent_slots.ensures.0)
 
   held : start.args.p < places start.args.s
   held =
@@ -44,29 +44,29 @@ refused_place-requires c = tt
 pub returns-then-at-sent_slots : goal.returns-then-at-sent_slots
 returns-then-at-sent_slots c =
     λ is_open h.
-    let t = c.before in
-    let a = t.before.before in
-    let b = a.before in
+    let t = c in
+    let a = t in
+    let b = a in
     c.refused_place.ensures
     ∙ sym (past_at refused_place (place_of b.args.s.subcarriers) (sending_of b.args.s is_open) b.args.p
     ((le-div_iff_mul-le (some_data b.args.s b.requires.0)).0
     (omega (arith, t.if-at-sent_slots.true, a.sent_slots.ensures.0, ap (λ (x : Split). x.i) b.requires.1))))
 
 pub slot_data-w-requires : goal.slot_data-w-requires
-slot_data-w-requires c = c.before.before.before.requires.0
+slot_data-w-requires c = c.requires.0
 
 pub carried_by-unit-requires : goal.carried_by-unit-requires
 carried_by-unit-requires c = (start c).requires.0
 
 pub item-requires : goal.item-requires
 item-requires c =
-    let w = c.before in
-    (omega (arith, c.carried_by-unit.ensures.1), w.slot_data_lem.ensures.2, rest w)
+    let w = c in
+    (omega (arith, c.carried_by-unit.ensures.1), w.slot_data_lem.ensures.2, rest w.before)
 
 pub returns : goal.returns
 returns c =
     λ is_open h.
-    let w = c.before.before in
-    let a = start w in
-    forward_is a.args.s is_open a.args.p _ _ _ _ _ (held w) w.slot_data_lem.ensures.0 a.requires.1
-    (h (unit w)) c.before.carried_by-unit.ensures.0 c.item.ensures
+    let w = c in
+    let a = start w.before.before in
+    forward_is a.args.s is_open a.args.p _ _ _ _ _ (held w.before.before) w.slot_data_lem.ensures.0 a.requires.1
+    (h (unit w.before.before)) c.carried_by-unit.ensures.0 c.item.ensures

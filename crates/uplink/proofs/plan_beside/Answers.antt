@@ -7,8 +7,8 @@ use Rattle.uplink.proofs.plan_beside.Goals as goal
 
 pub returns : goal.returns
 returns c =
-    let e = c.before.open_ends-ends.ensures in
-    let n = c.before.before.before in
-    let a = n.before.args in
+    let e = c.open_ends-ends.ensures in
+    let n = c in
+    let a = n.args in
     c.planned.ensures (clear a.nested.closures) e.0
     (e.1 ∙ ap (λ (x : ℕ). slot_at a.s (clear a.nested.closures) (x - 1)) n.sent_slots-last.ensures.0)

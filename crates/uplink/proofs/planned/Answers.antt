@@ -6,7 +6,7 @@ places-requires c = c.requires
 pub returns : goal.returns
 returns c =
     λ is_open first last.
-    let a = c.before in
+    let a = c in
     λ j. record {
       no = 0;
       first = first j;

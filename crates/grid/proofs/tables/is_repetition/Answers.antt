@@ -9,4 +9,4 @@ pub ones_of-requires : goal.ones_of-requires
 ones_of-requires c = tt
 
 pub returns : goal.returns
-returns c = ap (λ (n : ℕ). leb c.before.args.x 2048 && eqb n 1) c.ones_of.ensures ∙ one_digit c.before.args.x
+returns c = ap (λ (n : ℕ). leb c.args.x 2048 && eqb n 1) c.ones_of.ensures ∙ one_digit c.args.x

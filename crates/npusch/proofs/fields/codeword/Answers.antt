@@ -11,9 +11,9 @@ unit_slots-requires c = tt
 
 pub overflow_mul-result : goal.overflow_mul-result
 overflow_mul-result c =
-    let a : c.before.length.result ≤ 10 =
-    omega (arith, c.before.length.ensures, (length_bounds c.before.before.args.units c.before.before.requires).1) in
+    let a : c.length.result ≤ 10 =
+    omega (arith, c.length.ensures, (length_bounds c.args.units c.requires).1) in
     omega (arith, mul-le-mul a c.unit_slots.ensures.1)
 
 pub returns : goal.returns
-returns c = ap₂ (λ (a b : ℕ). a * b) c.before.length.ensures c.unit_slots.ensures.0
+returns c = ap₂ (λ (a b : ℕ). a * b) c.length.ensures c.unit_slots.ensures.0

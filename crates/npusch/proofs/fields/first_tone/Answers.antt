@@ -15,8 +15,8 @@ made : (c : After-tones) →
     let a = c.before.before.args in
     c.tones.result * (a.field - c.before.first_field-from.result) ≡ first_tone a.spacing a.field
 made c =
-    let a = c.before.before in
-    ap₂ (λ (x y : ℕ). x * (a.args.field - y)) c.tones.ensures c.before.first_field-from.ensures ∙ (field a).first
+    let a = c in
+    ap₂ (λ (x y : ℕ). x * (a.args.field - y)) c.tones.ensures c.first_field-from.ensures ∙ (field a.before.before).first
 
 pub first_field-from-requires : goal.first_field-from-requires
 first_field-from-requires c = tt
@@ -25,12 +25,12 @@ pub tones-requires : goal.tones-requires
 tones-requires c = tt
 
 pub overflow_sub-result : goal.overflow_sub-result
-overflow_sub-result c = omega (arith, c.before.first_field-from.ensures, (field c.before.before).from)
+overflow_sub-result c = omega (arith, c.first_field-from.ensures, (field c.before.before).from)
 
 pub overflow_mul-result : goal.overflow_mul-result
 overflow_mul-result c =
-    let a = c.before.before in
-    omega (arith, made c, (field a).inside, (by_spacing_bounds a.args.spacing (uplink_subcarriers 0) (uplink_subcarriers 1)).1)
+    let a = c in
+    omega (arith, made c, (field a.before.before).inside, (by_spacing_bounds a.args.spacing (uplink_subcarriers 0) (uplink_subcarriers 1)).1)
 
 pub returns : goal.returns
 returns c = made c

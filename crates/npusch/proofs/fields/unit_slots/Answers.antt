@@ -7,7 +7,7 @@ use Rattle.npusch.proofs.fields.unit_slots.Goals as goal
 
 made : (c : After-choose-2) → c.choose-2.result ≡ unit_slots c.before.before.before.args.tones
 unfolding unit_slots
-made c = simp (c.choose-2.ensures, c.before.choose.ensures, c.before.before.choose-several.ensures)
+made c = simp (c.choose-2.ensures, c.choose.ensures, c.choose-several.ensures)
 
 pub choose-several-requires : goal.choose-several-requires
 choose-several-requires c = tt
@@ -21,4 +21,4 @@ choose-requires-2 c = tt
 pub returns : goal.returns
 returns c =
     let e = made c in
-    (e, omega (arith, e, slots_small_lem c.before.before.before.args.tones))
+    (e, omega (arith, e, slots_small_lem c.args.tones))

@@ -17,8 +17,8 @@ use Rattle.plain_uplink.proofs.elements.nth.Goals as goal
 inside : (c : At-loop-s) → c.loop-s.l < symbols
 unfolding slot_data
 inside c =
-    let s = c.before.args.s in
-    let h = rank_later (carries_data s) (c.loop-s.l * s.subcarriers) (symbols * s.subcarriers) (omega (arith, c.loop-s.invariant, c.before.requires.1)) in
+    let s = c.args.s in
+    let h = rank_later (carries_data s) (c.loop-s.l * s.subcarriers) (symbols * s.subcarriers) (omega (arith, c.loop-s.invariant, c.requires.1)) in
     ⊎_elim (λ q. q) (λ q. absurd (omega (arith, h, mul-le-mul_right s.subcarriers q))) (order c.loop-s.l symbols)
 
 pub returns-then-k-subcarriers : goal.returns-then-k-subcarriers
@@ -38,9 +38,9 @@ returns-then-k-subcarriers c =
 
 pub loop-s-preserved : goal.loop-s-preserved
 loop-s-preserved c =
-    let d = c.before in
-    let l = d.before.loop-s in
-    let a = d.before.before in
+    let d = c in
+    let l = d.loop-s in
+    let a = d in
     let T = a.args.s.subcarriers in
     let e : uplink_element_of T l.l d.pass-at.result.k ≡ (l.l + 1) * T =
     omega (arith, d.pass-at.ensures.within, c.if-k-subcarriers.false, add-mul l.l 1 T, one-mul T) in
@@ -52,7 +52,7 @@ loop-s-init c =
     omega (arith, ap (rank (carries_data s)) (zero-mul s.subcarriers), rank_zero (carries_data s))
 
 pub pass-at-requires : goal.pass-at-requires
-pass-at-requires c = (c.before.requires.0, inside c)
+pass-at-requires c = (c.requires.0, inside c)
 
 pub overflow_add-l : goal.overflow_add-l
 overflow_add-l c = omega (arith, inside c.before.before)

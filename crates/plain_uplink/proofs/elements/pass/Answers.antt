@@ -17,27 +17,27 @@ loop-k-init c =
     (omega arith, omega (arith, ap (rank (carries_data c.args.s)) z))
 
 pub carries_data-d-requires : goal.carries_data-d-requires
-carries_data-d-requires c = let s = c.before.before in (s.requires.0, s.requires.1, c.loop-k-test.true)
+carries_data-d-requires c = let s = c in (s.requires.0, s.requires.1, c.loop-k-test.true)
 
 pub returns-then-left-d : goal.returns-then-left-d
 returns-then-left-d c =
-    let d = c.before in
-    let l = d.before.before.loop-k in
+    let d = c in
+    let l = d.loop-k in
     let w = byte_some d.carries_data-d.result l.left c.if-left-d.true in
     record { within = l.invariant.0; counted = l.invariant.1; found = λ h. (sym d.carries_data-d.ensures ∙ w.0, w.1) }
 
 pub overflow_add-k : goal.overflow_add-k
-overflow_add-k c = let i = c.before.before in omega (arith, i.loop-k-test.true, i.before.before.requires.0.subcarriers_small)
+overflow_add-k c = let i = c in omega (arith, i.loop-k-test.true, i.requires.0.subcarriers_small)
 
 pub loop-k-smaller : goal.loop-k-smaller
-loop-k-smaller c = omega (arith, c.before.before.loop-k-test.true)
+loop-k-smaller c = omega (arith, c.loop-k-test.true)
 
 pub loop-k-preserved : goal.loop-k-preserved
 loop-k-preserved c =
-    let d = c.before in
-    let i = d.before in
-    let s = i.before.before in
-    let l = i.before.loop-k in
+    let d = c in
+    let i = d in
+    let s = i in
+    let l = i.loop-k in
     let u = carries_data s.args.s in
     let T = s.args.s.subcarriers in
     let n : uplink_element_of T s.args.l (l.k + 1) ≡ uplink_element_of T s.args.l l.k + 1 = omega arith in (
@@ -47,5 +47,5 @@ loop-k-preserved c =
 
 pub returns : goal.returns
 returns c =
-    let l = c.before.loop-k in
+    let l = c.loop-k in
     record { within = l.invariant.0; counted = l.invariant.1; found = λ h. absurd (omega (arith, c.loop-k-test.false)) }

@@ -18,13 +18,13 @@ loop-k-init c =
     (omega arith, omega (arith, ap (rank (carries_data c.args.s)) z))
 
 pub carries_data-requires : goal.carries_data-requires
-carries_data-requires c = let s = c.before.before in (s.requires.0, s.requires.1, c.loop-k-test.true)
+carries_data-requires c = let s = c in (s.requires.0, s.requires.1, c.loop-k-test.true)
 
 pub overflow_add-found : goal.overflow_add-found
 overflow_add-found c =
-    let i = c.before in
-    let s = i.before.before in
-    let l = i.before.loop-k in
+    let i = c in
+    let s = i in
+    let l = i.loop-k in
     let T = s.args.s.subcarriers in
     omega (
       arith,
@@ -37,16 +37,16 @@ overflow_add-found c =
     )
 
 pub overflow_add-k : goal.overflow_add-k
-overflow_add-k c = omega (arith, c.before.loop-k-test.true, c.before.before.before.requires.0.subcarriers_small)
+overflow_add-k c = omega (arith, c.loop-k-test.true, c.requires.0.subcarriers_small)
 
 pub loop-k-smaller : goal.loop-k-smaller
-loop-k-smaller c = omega (arith, c.before.loop-k-test.true)
+loop-k-smaller c = omega (arith, c.loop-k-test.true)
 
 pub loop-k-preserved : goal.loop-k-preserved
 loop-k-preserved c =
-    let i = c.before in
-    let s = i.before.before in
-    let l = i.before.loop-k in
+    let i = c in
+    let s = i in
+    let l = i.loop-k in
     let u = carries_data s.args.s in
     let T = s.args.s.subcarriers in
     let n : uplink_element_of T s.args.l (l.k + 1) ≡ uplink_element_of T s.args.l l.k + 1 = omega arith in (
@@ -56,8 +56,8 @@ loop-k-preserved c =
 
 pub returns : goal.returns
 returns c =
-    let l = c.before.loop-k in
-    let s = c.before.before in
+    let l = c.loop-k in
+    let s = c in
     let T = s.args.s.subcarriers in
     let e : uplink_element_of T s.args.l l.k ≡ (s.args.l + 1) * T =
     omega (arith, l.invariant.0, c.loop-k-test.false, add-mul s.args.l 1 T, one-mul T) in

@@ -7,21 +7,21 @@ pub one-w1-requires : goal.one-w1-requires
 one-w1-requires c = (c.requires.1, c.requires.2, c.requires.3, listed_1 c.args.ws c.requires.4)
 
 pub one-w2-requires : goal.one-w2-requires
-one-w2-requires c = let s = c.before in (s.requires.1, s.requires.2, s.requires.3, listed_2 s.args.ws s.requires.4)
+one-w2-requires c = let s = c in (s.requires.1, s.requires.2, s.requires.3, listed_2 s.args.ws s.requires.4)
 
 pub one-w3-requires : goal.one-w3-requires
-one-w3-requires c = let s = c.before.before in (s.requires.1, s.requires.2, s.requires.3, listed_3 s.args.ws s.requires.4)
+one-w3-requires c = let s = c in (s.requires.1, s.requires.2, s.requires.3, listed_3 s.args.ws s.requires.4)
 
 pub one-w4-requires : goal.one-w4-requires
-one-w4-requires c = let s = c.before.before.before in (s.requires.1, s.requires.2, s.requires.3, listed_4 s.args.ws s.requires.4)
+one-w4-requires c = let s = c in (s.requires.1, s.requires.2, s.requires.3, listed_4 s.args.ws s.requires.4)
 
 pub returns : goal.returns
 returns c =
-    let c4 = c.before.before.before.before in
-    let c3 = c4.before in
-    let c2 = c3.before in
-    let c1 = c2.before in
-    let s = c1.before in (
+    let c4 = c in
+    let c3 = c4 in
+    let c2 = c3 in
+    let c1 = c2 in
+    let s = c1 in (
       (λ j. all_of s.args.ms (c1.one-w1.ensures.0 j) (c2.one-w2.ensures.0 j) (c3.one-w3.ensures.0 j) (c4.one-w4.ensures.0 j)),
       record {
         ms_from = s.requires.0;

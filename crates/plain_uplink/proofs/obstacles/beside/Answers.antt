@@ -10,8 +10,8 @@ within : (c : After-group_ms-ms)
     → let a = c.before.before.args in
     (1 ≤ c.group_ms-ms.result) × (c.group_ms-ms.result ≤ 2) × (c.before.narrow_tones-scale.result * a.s.tone ≤ 48) × (c.before.narrow_tones-scale.result * a.s.tones ≤ 48)
 within c =
-    let a = c.before.before in
-    scaled a.args.spacing _ _ _ _ c.before.narrow_tones-scale.ensures c.group_ms-ms.ensures (omega (arith, a.requires.0.within_tones, a.requires.1.subcarriers))
+    let a = c in
+    scaled a.args.spacing _ _ _ _ c.narrow_tones-scale.ensures c.group_ms-ms.ensures (omega (arith, a.requires.0.within_tones, a.requires.1.subcarriers))
 
 pub narrow_tones-scale-requires : goal.narrow_tones-scale-requires
 narrow_tones-scale-requires c = tt
@@ -26,13 +26,13 @@ pub overflow_mul-scale-2 : goal.overflow_mul-scale-2
 overflow_mul-scale-2 c = omega (arith, (within c).3)
 
 pub all-requires : goal.all-requires
-all-requires c = ((within c).0, (within c).1, (within c).2, (within c).3, c.before.before.requires.2)
+all-requires c = ((within c).0, (within c).1, (within c).2, (within c).3, c.requires.2)
 
 pub returns : goal.returns
 returns c =
-    let m = c.before in
-    let a = m.before.before.args in (
+    let m = c in
+    let a = m.args in (
       c.all.ensures.0
-          ∙ ap₂ (λ (ms scale : ℕ). obstacles_of ms (scale * a.s.tone) (scale * a.s.tones) a.ws) m.group_ms-ms.ensures m.before.narrow_tones-scale.ensures,
+          ∙ ap₂ (λ (ms scale : ℕ). obstacles_of ms (scale * a.s.tone) (scale * a.s.tones) a.ws) m.group_ms-ms.ensures m.narrow_tones-scale.ensures,
       c.all.ensures.1,
     )

@@ -13,13 +13,13 @@ use Rattle.plain_uplink.proofs.obstacles.blocks.Goals as goal
 -- the window stands, so its numbers are small
 module _ (c : Else-not-o) where
   stands : c.before.before.args.o.stands ≡ true
-  stands = not-false c.before.before.args.o.stands c.if-not-o.false
+  stands = not-false c.args.o.stands c.if-not-o.false
 
   small : (0 < c.before.before.args.o.period) × (c.before.before.args.o.period ≤ 2560) × (c.before.before.args.o.start ≤ 1024)
-  small = c.before.before.requires.0 stands
+  small = c.requires.0 stands
 
   since : (c.before.before.args.end + all_periods - 1 - c.before.before.args.o.start) % c.before.before.args.o.period < c.before.before.args.o.period
-  since = mod-lt (c.before.before.args.end + all_periods - 1 - c.before.before.args.o.start) small.0
+  since = mod-lt (c.args.end + all_periods - 1 - c.args.o.start) small.0
 
 pub returns-then-not-o : goal.returns-then-not-o
 unfolding blocks

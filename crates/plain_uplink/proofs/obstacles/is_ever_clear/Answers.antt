@@ -12,37 +12,37 @@ use Rattle.plain_uplink.proofs.obstacles.is_ever_clear.Goals as goal
 
 pub returns-then-is_clear : goal.returns-then-is_clear
 returns-then-is_clear c =
-    let l = c.before.before in
-    let os = l.before.before.before.args.os in
-    let h = rank_strict (clear_of os) _ _ (sym c.before.is_clear.ensures ∙ c.if-is_clear.true) l.loop-u-test.true in
+    let l = c in
+    let os = l.args.os in
+    let h = rank_strict (clear_of os) _ _ (sym c.is_clear.ensures ∙ c.if-is_clear.true) l.loop-u-test.true in
     sym (lt-ltb 0 (rank (clear_of os) (all_periods / os.ms)) (omega (arith, h)))
 
 pub loop-u-preserved : goal.loop-u-preserved
 loop-u-preserved c =
-    let l = c.before.before in
-    let os = l.before.before.before.args.os in (
+    let l = c in
+    let os = l.args.os in (
       omega (arith, l.loop-u-test.true),
-      omega (arith, l.before.loop-u.invariant.1, rank_on (clear_of os) l.before.loop-u.u, ap bool_byte (sym c.before.is_clear.ensures ∙ c.if-is_clear.false)),
+      omega (arith, l.loop-u.invariant.1, rank_on (clear_of os) l.loop-u.u, ap bool_byte (sym c.is_clear.ensures ∙ c.if-is_clear.false)),
     )
 
 pub returns : goal.returns
 returns c =
-    let l = c.before in
-    let os = l.before.before.args.os in
+    let l = c in
+    let os = l.args.os in
     let e : l.loop-u.u ≡ all_periods / os.ms = omega (arith, l.loop-u.invariant.0, c.loop-u-test.false) in
     sym (le-ltb 0 (rank (clear_of os) (all_periods / os.ms)) (omega (arith, l.loop-u.invariant.1, ap (rank (clear_of os)) e)))
 
 pub nonzero_div-many : goal.nonzero_div-many
-nonzero_div-many c = omega (arith, c.before.requires.ms_from)
+nonzero_div-many c = omega (arith, c.requires.ms_from)
 
 pub loop-u-init : goal.loop-u-init
-loop-u-init c = (omega arith, rank_zero (clear_of c.before.args.os))
+loop-u-init c = (omega arith, rank_zero (clear_of c.args.os))
 
 pub is_clear-requires : goal.is_clear-requires
-is_clear-requires c = let s = c.before.before.before in (s.requires, omega (arith, c.loop-u-test.true, div-le_self all_periods s.args.os.ms))
+is_clear-requires c = let s = c in (s.requires, omega (arith, c.loop-u-test.true, div-le_self all_periods s.args.os.ms))
 
 pub overflow_add-u : goal.overflow_add-u
-overflow_add-u c = let l = c.before.before in omega (arith, l.loop-u-test.true, div-le_self all_periods l.before.before.before.args.os.ms)
+overflow_add-u c = let l = c in omega (arith, l.loop-u-test.true, div-le_self all_periods l.args.os.ms)
 
 pub loop-u-smaller : goal.loop-u-smaller
-loop-u-smaller c = omega (arith, c.before.before.loop-u-test.true)
+loop-u-smaller c = omega (arith, c.loop-u-test.true)

@@ -13,11 +13,11 @@ use Rattle.plain_uplink.proofs.obstacles.one.Goals as goal
 -- the window stands in the way, so it is listed
 module _ (c : Else-not-concerns) where
   concerned : let a = c.before.before.args in (a.read && shares_tone a.tone a.tones a.w) ≡ true
-  concerned = sym c.before.concerns.ensures ∙ not-false _ c.if-not-concerns.false
+  concerned = sym c.concerns.ensures ∙ not-false _ c.if-not-concerns.false
 
   numbered : Numbers c.before.before.args.w
   numbered =
-      let s = c.before.before in
+      let s = c in
       numbers s.args.w (s.requires.3 (both_parts s.args.read (shares_tone s.args.tone s.args.tones s.args.w) concerned).0)
 
 pub concerns-requires : goal.concerns-requires

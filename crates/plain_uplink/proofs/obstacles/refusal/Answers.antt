@@ -13,15 +13,15 @@ use Rattle.plain_uplink.proofs.obstacles.refusal.Goals.{Else-not-are_listed, Aft
 use Rattle.plain_uplink.proofs.obstacles.refusal.Goals as goal
 
 listed : (c : Else-not-are_listed) → are_listed c.before.before.args.ws ≡ true
-listed c = sym c.before.are_listed.ensures ∙ not-false _ c.if-not-are_listed.false
+listed c = sym c.are_listed.ensures ∙ not-false _ c.if-not-are_listed.false
 
 -- whether some group is open
 ever : (c : After-is_ever_clear)
     → let a = c.before.before.before.before.args in
     c.is_ever_clear.result ≡ ltb 0 (rank (open_beside a.spacing a.s a.ws) (all_periods / group_ms a.spacing))
 ever c =
-    let b = c.before in
-    let a = b.before.before.before.args in
+    let b = c in
+    let a = b.args in
     c.is_ever_clear.ensures
     ∙ ap₂ (λ (u : ℕ → Bool) (ms : ℕ). ltb 0 (rank u (all_periods / ms)))
     (clear_beside a.spacing a.s a.ws b.beside.result b.beside.ensures.0)

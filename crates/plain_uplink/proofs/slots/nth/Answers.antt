@@ -27,14 +27,14 @@ loop-left-init c =
 -- the slot at hand
 module _ (l : At-loop-left) where
   abbrev u : ℕ → Bool
-  u = active l.before.args.s (clear_of l.before.args.os)
+  u = active l.args.s (clear_of l.args.os)
 
   abbrev x : ℕ
-  x = l.loop-left.slot - l.before.args.s.first
+  x = l.loop-left.slot - l.args.s.first
 
   small : l.loop-left.slot < 2 ^ 61
   small =
-      let a = l.before in
+      let a = l in
       omega (
         arith,
         goal_small a.args.s _ a.requires.0 a.requires.2 a.args.i a.requires.3,
@@ -47,51 +47,51 @@ module _ (l : At-loop-left) where
 module _ (c : After-may_be_sent-d) where
   test : c.may_be_sent-d.result ≡ u c.before (x c.before)
   test =
-      let l = c.before in
-      c.may_be_sent-d.ensures ∙ tested l.before.args.s l.loop-left.slot l.loop-left.invariant.0 l.loop-left.r l.loop-left.invariant.1 (clear_of l.before.args.os)
+      let l = c in
+      c.may_be_sent-d.ensures ∙ tested l.args.s l.loop-left.slot l.loop-left.invariant.0 l.loop-left.r l.loop-left.invariant.1 (clear_of l.args.os)
 
 short : (c : Else-left-d) → let l = c.before.before in x l < goal l.before.args.s (clear_of l.before.args.os) l.before.args.i
 short c =
-    let l = c.before.before in
-    let a = l.before in
-    not_yet a.args.s _ a.requires.0 a.requires.2 a.args.i (x l) l.loop-left.left l.loop-left.invariant.2 l.loop-left.invariant.3
+    let l = c in
+    let a = l in
+    not_yet a.args.s _ a.requires.0 a.requires.2 a.args.i (x l.before.before) l.loop-left.left l.loop-left.invariant.2 l.loop-left.invariant.3
     (λ y z. omega (arith, ap bool_byte (test c.before ∙ y), c.if-left-d.false))
 
 pub returns-then-left-d : goal.returns-then-left-d
 returns-then-left-d c =
-    let l = c.before.before in
-    let a = l.before in
-    let w = byte_some c.before.may_be_sent-d.result l.loop-left.left c.if-left-d.true in
-    let e : l.loop-left.slot ≡ a.args.s.first + x l = omega (arith, l.loop-left.invariant.0) in
-    e ∙ arrived a.args.s _ a.requires.0 a.requires.2 a.args.i (x l) l.loop-left.left l.loop-left.invariant.2 (sym (test c.before) ∙ w.0) w.1
+    let l = c in
+    let a = l in
+    let w = byte_some c.may_be_sent-d.result l.loop-left.left c.if-left-d.true in
+    let e : l.loop-left.slot ≡ a.args.s.first + x l.before.before = omega (arith, l.loop-left.invariant.0) in
+    e ∙ arrived a.args.s _ a.requires.0 a.requires.2 a.args.i (x l.before.before) l.loop-left.left l.loop-left.invariant.2 (sym (test c.before) ∙ w.0) w.1
 
 pub loop-left-preserved : goal.loop-left-preserved
 loop-left-preserved c =
-    let e = c.before in
-    let l = e.before.before in
-    let s = l.before.args.s in
+    let e = c in
+    let l = e in
+    let s = l.args.s in
     let n = next_slot s l.loop-left.slot l.loop-left.invariant.0 in (
       omega (arith, l.loop-left.invariant.0),
       next_rest s l.loop-left.slot l.loop-left.invariant.0 l.loop-left.r l.loop-left.invariant.1 _ c.next_remainder-r.ensures,
-      omega (arith, ap (rank (u l)) n, rank_on (u l) (x l), ap bool_byte (test e.before), l.loop-left.invariant.2, e.if-left-d.false),
-      omega (arith, n, short e),
+      omega (arith, ap (rank (u l.before.before.before)) n, rank_on (u l.before.before.before) (x l.before.before.before), ap bool_byte (test e.before.before), l.loop-left.invariant.2, e.if-left-d.false),
+      omega (arith, n, short e.before),
     )
 
 pub overflow_add-period : goal.overflow_add-period
 overflow_add-period c = omega (arith, c.requires.0.block_small, c.requires.0.gap_small)
 
 pub may_be_sent-d-requires : goal.may_be_sent-d-requires
-may_be_sent-d-requires c = let a = c.before in (a.requires.0, a.requires.1, small c)
+may_be_sent-d-requires c = let a = c in (a.requires.0, a.requires.1, small c)
 
 pub overflow_add-slot : goal.overflow_add-slot
 overflow_add-slot c = omega (arith, small c.before.before)
 
 pub next_remainder-r-requires : goal.next_remainder-r-requires
 next_remainder-r-requires c =
-    let l = c.before.before in
-    omega (arith, l.loop-left.invariant.1, l.before.requires.0.block, mod-lt (x l) {m = gap_period l.before.args.s} (omega (arith, l.before.requires.0.block)))
+    let l = c in
+    omega (arith, l.loop-left.invariant.1, l.requires.0.block, mod-lt (x l.before.before) {m = gap_period l.args.s} (omega (arith, l.requires.0.block)))
 
 pub loop-left-smaller : goal.loop-left-smaller
 loop-left-smaller c =
-    let l = c.before.before.before in
+    let l = c in
     omega (arith, short c.before, l.loop-left.invariant.0)

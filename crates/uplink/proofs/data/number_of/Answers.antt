@@ -11,18 +11,18 @@ module _ (c : After-data_symbols_before) where
   number : c.data_symbols_before.result * c.before.args.s.tones + (c.before.args.k - c.before.args.s.tone)
       ≡ number_of c.before.args.s (uplink_element_of c.before.args.s.subcarriers c.before.args.l c.before.args.k)
   number =
-      let a = c.before.args in
-      let h = c.before.requires in
+      let a = c.args in
+      let h = c.requires in
       let p = data_parts_at a.s h.0 a.l a.k h.1 h.2 in
       ap (λ (n : ℕ). n * a.s.tones + (a.k - a.s.tone)) c.data_symbols_before.ensures
       ∙ number_at a.s h.0 a.l a.k h.1 p.0 p.1
 
   below : number_of c.before.args.s (uplink_element_of c.before.args.s.subcarriers c.before.args.l c.before.args.k)
       < slot_data c.before.args.s
-  below = (elements_listed c.before.args.s c.before.requires.0).below _ c.before.requires.2
+  below = (elements_listed c.args.s c.requires.0).below _ c.requires.2
 
   small : slot_data c.before.args.s < 2 ^ 19
-  small = slot_data_small c.before.args.s c.before.requires.0
+  small = slot_data_small c.args.s c.requires.0
 
 pub data_symbols_before-requires : goal.data_symbols_before-requires
 data_symbols_before-requires c = (c.requires.0, (data_parts_at c.args.s c.requires.0 c.args.l c.args.k c.requires.1 c.requires.2).0)
@@ -32,8 +32,8 @@ overflow_mul-result c = omega (arith, number c, below c, small c)
 
 pub overflow_sub-result : goal.overflow_sub-result
 overflow_sub-result c =
-    let a = c.before.args in
-    let h = c.before.requires in
+    let a = c.args in
+    let h = c.requires in
     (granted_parts a.s h.0 a.k (data_parts_at a.s h.0 a.l a.k h.1 h.2).1).0
 
 pub overflow_add-result : goal.overflow_add-result

@@ -6,7 +6,7 @@ pub returns-then-line-reference : goal.returns-then-line-reference
 returns-then-line-reference c = simp (lt-ltb _ _ c.if-line-reference.true)
 
 pub overflow_add-result : goal.overflow_add-result
-overflow_add-result c = omega (arith, c.before.requires.1)
+overflow_add-result c = omega (arith, c.requires.1)
 
 pub returns : goal.returns
 returns c = simp (le-ltb _ _ c.if-line-reference.false)

@@ -10,16 +10,16 @@ use Rattle.uplink.proofs.timing.open_ends.Goals as goal
 
 module _ (c : After-first_and_last-ends) where
   abbrev s : Start
-  s = c.before.before
+  s = c.before.before.before.before
 
   first : c.first_and_last-ends.result.first * s.args.s.group ≡ slot_at s.args.s (clear s.args.nested.closures) 0
   first = first_found s.args.s s.requires.0 s.args.nested s.requires.1 _ s.requires.3 _ c.first_and_last-ends.ensures.0
 
   last : c.first_and_last-ends.result.last * s.args.s.group + (s.args.i - c.before.over_group-j.result * s.args.s.group) ≡ slot_at s.args.s (clear s.args.nested.closures) s.args.i
-  last = slot_found s.args.s s.requires.0 s.args.nested s.requires.1 _ s.requires.3 s.args.i _ _ c.before.over_group-j.ensures c.first_and_last-ends.ensures.1
+  last = slot_found s.args.s s.requires.0 s.args.nested s.requires.1 _ s.requires.3 s.args.i _ _ c.over_group-j.ensures c.first_and_last-ends.ensures.1
 
   within : c.before.over_group-j.result * s.args.s.group ≤ s.args.i
-  within = groups_within s.args.s s.requires.0 s.args.nested s.requires.1 _ s.requires.3 s.args.i _ c.before.over_group-j.ensures
+  within = groups_within s.args.s s.requires.0 s.args.nested s.requires.1 _ s.requires.3 s.args.i _ c.over_group-j.ensures
 
   small : (i : ℕ) → i < 2 ^ 32 → slot_at s.args.s (clear s.args.nested.closures) i < 2 ^ 60
   small = slot_small s.args.s s.requires.0 s.args.nested.closures s.requires.1
@@ -29,7 +29,7 @@ over_group-j-requires c = c.requires.0.group
 
 pub first_and_last-ends-requires : goal.first_and_last-ends-requires
 first_and_last-ends-requires c =
-    let a = c.before in
+    let a = c in
     let s = a.args.s in (
       usable s a.requires.0 a.args.nested a.requires.1 _ a.requires.3,
       begins s a.requires.0 a.args.nested a.requires.1 _ a.requires.3,
@@ -40,19 +40,19 @@ first_and_last-ends-requires c =
     )
 
 pub overflow_mul-result : goal.overflow_mul-result
-overflow_mul-result c = let b = c.before in omega (arith, first b, small b 0 (omega arith))
+overflow_mul-result c = let b = c in omega (arith, first b.before, small b.before 0 (omega arith))
 
 pub overflow_mul-result-2 : goal.overflow_mul-result-2
-overflow_mul-result-2 c = let b = c.before.before in omega (arith, last b, small b (s b).args.i (s b).requires.4)
+overflow_mul-result-2 c = let b = c in omega (arith, last b.before.before, small b.before.before (s b.before.before).args.i (s b.before.before).requires.4)
 
 pub overflow_mul-result-3 : goal.overflow_mul-result-3
-overflow_mul-result-3 c = let b = c.before.before in omega (arith, within b, (s b).requires.4)
+overflow_mul-result-3 c = let b = c in omega (arith, within b.before.before, (s b.before.before).requires.4)
 
 pub overflow_sub-result : goal.overflow_sub-result
 overflow_sub-result c = within c.before.before
 
 pub overflow_add-result : goal.overflow_add-result
-overflow_add-result c = let b = c.before.before in omega (arith, last b, small b (s b).args.i (s b).requires.4)
+overflow_add-result c = let b = c in omega (arith, last b.before.before, small b.before.before (s b.before.before).args.i (s b.before.before).requires.4)
 
 pub returns : goal.returns
-returns c = let b = c.before.before in (first b, last b)
+returns c = let b = c in (first b.before.before, last b.before.before)

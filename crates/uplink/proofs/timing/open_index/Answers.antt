@@ -6,20 +6,20 @@ use Rattle.uplink.proofs.timing.open_index.Goals as goal
 
 module _ (c : After-free_index-at) where
   abbrev s : Start
-  s = c.before.before
+  s = c.before.before.before.before
 
   within : c.before.over_group-y.result * s.args.s.group ≤ s.args.x
-  within = groups_within s.args.s s.requires.0 s.args.nested s.requires.1 _ s.requires.3 s.args.x _ c.before.over_group-y.ensures
+  within = groups_within s.args.s s.requires.0 s.args.nested s.requires.1 _ s.requires.3 s.args.x _ c.over_group-y.ensures
 
   fits : c.free_index-at.result.index * s.args.s.group + (s.args.x - c.before.over_group-y.result * s.args.s.group) ≤ s.args.x
-  fits = index_found_fits s.args.s s.requires.0 s.args.nested s.requires.1 _ s.requires.3 s.args.x _ _ c.before.over_group-y.ensures c.free_index-at.ensures
+  fits = index_found_fits s.args.s s.requires.0 s.args.nested s.requires.1 _ s.requires.3 s.args.x _ _ c.over_group-y.ensures c.free_index-at.ensures
 
 pub over_group-y-requires : goal.over_group-y-requires
 over_group-y-requires c = c.requires.0.group
 
 pub free_index-at-requires : goal.free_index-at-requires
 free_index-at-requires c =
-    let a = c.before in
+    let a = c in
     let s = a.args.s in (
       usable s a.requires.0 a.args.nested a.requires.1 _ a.requires.3,
       begins s a.requires.0 a.args.nested a.requires.1 _ a.requires.3,
@@ -29,19 +29,19 @@ free_index-at-requires c =
     )
 
 pub overflow_mul-result : goal.overflow_mul-result
-overflow_mul-result c = omega (arith, fits c.before, c.before.before.before.ranges.x)
+overflow_mul-result c = omega (arith, fits c.before, c.ranges.x)
 
 pub overflow_mul-result-2 : goal.overflow_mul-result-2
-overflow_mul-result-2 c = omega (arith, within c.before, c.before.before.before.ranges.x)
+overflow_mul-result-2 c = omega (arith, within c.before, c.ranges.x)
 
 pub overflow_sub-result : goal.overflow_sub-result
 overflow_sub-result c = within c.before
 
 pub overflow_add-result : goal.overflow_add-result
-overflow_add-result c = omega (arith, fits c.before, c.before.before.before.ranges.x)
+overflow_add-result c = omega (arith, fits c.before, c.ranges.x)
 
 pub returns : goal.returns
 returns c =
-    let n = c.before in
-    let a = s n in
-    index_found a.args.s a.requires.0 a.args.nested a.requires.1 _ a.requires.3 a.args.x _ _ n.before.over_group-y.ensures n.free_index-at.ensures
+    let n = c in
+    let a = s n.before in
+    index_found a.args.s a.requires.0 a.args.nested a.requires.1 _ a.requires.3 a.args.x _ _ n.over_group-y.ensures n.free_index-at.ensures

@@ -10,13 +10,13 @@ use Rattle.uplink.proofs.timing.open_slot_at.Goals as goal
 
 module _ (c : After-nth-at) where
   abbrev s : Start
-  s = c.before.before
+  s = c.before.before.before.before
 
   found : c.nth-at.result * s.args.s.group + (s.args.i - c.before.over_group-j.result * s.args.s.group) ≡ slot_at s.args.s (clear s.args.nested.closures) s.args.i
-  found = slot_found s.args.s s.requires.0 s.args.nested s.requires.1 _ s.requires.3 s.args.i _ _ c.before.over_group-j.ensures c.nth-at.ensures
+  found = slot_found s.args.s s.requires.0 s.args.nested s.requires.1 _ s.requires.3 s.args.i _ _ c.over_group-j.ensures c.nth-at.ensures
 
   within : c.before.over_group-j.result * s.args.s.group ≤ s.args.i
-  within = groups_within s.args.s s.requires.0 s.args.nested s.requires.1 _ s.requires.3 s.args.i _ c.before.over_group-j.ensures
+  within = groups_within s.args.s s.requires.0 s.args.nested s.requires.1 _ s.requires.3 s.args.i _ c.over_group-j.ensures
 
   small : slot_at s.args.s (clear s.args.nested.closures) s.args.i < 2 ^ 60
   small = slot_small s.args.s s.requires.0 s.args.nested.closures s.requires.1 s.args.i s.requires.4
@@ -26,7 +26,7 @@ over_group-j-requires c = c.requires.0.group
 
 pub nth-at-requires : goal.nth-at-requires
 nth-at-requires c =
-    let a = c.before in
+    let a = c in
     let s = a.args.s in (
       usable s a.requires.0 a.args.nested a.requires.1 _ a.requires.3,
       begins s a.requires.0 a.args.nested a.requires.1 _ a.requires.3,

@@ -5,7 +5,7 @@ use borrow.Author.Rules.{rules}
 use Rattle.uplink.proofs.timing.over_gap_period.Goals as goal
 
 pub returns-then-period-eq148 : goal.returns-then-period-eq148
-returns-then-period-eq148 c = div-div-eq-div-mul c.before.args.n 37 4 ∙ ap (λ (x : ℕ). c.before.args.n / x) (sym c.if-period-eq148.true)
+returns-then-period-eq148 c = div-div-eq-div-mul c.args.n 37 4 ∙ ap (λ (x : ℕ). c.args.n / x) (sym c.if-period-eq148.true)
 
 pub returns-then-period-eq592 : goal.returns-then-period-eq592
-returns-then-period-eq592 c = div-div-eq-div-mul c.before.before.args.n 37 16 ∙ ap (λ (x : ℕ). c.before.before.args.n / x) (sym c.if-period-eq592.true)
+returns-then-period-eq592 c = div-div-eq-div-mul c.args.n 37 16 ∙ ap (λ (x : ℕ). c.args.n / x) (sym c.if-period-eq592.true)

@@ -5,7 +5,7 @@ use borrow.Author.Rules.{rules}
 use Rattle.uplink.proofs.timing.over_group.Goals as goal
 
 pub returns-then-group-eq1 : goal.returns-then-group-eq1
-returns-then-group-eq1 c = sym (ap (λ (x : ℕ). c.before.args.n / x) c.if-group-eq1.true ∙ div-one c.before.args.n)
+returns-then-group-eq1 c = sym (ap (λ (x : ℕ). c.args.n / x) c.if-group-eq1.true ∙ div-one c.args.n)
 
 pub returns-then-group-eq2 : goal.returns-then-group-eq2
-returns-then-group-eq2 c = ap (λ (x : ℕ). c.before.before.args.n / x) (sym c.if-group-eq2.true)
+returns-then-group-eq2 c = ap (λ (x : ℕ). c.args.n / x) (sym c.if-group-eq2.true)
