@@ -52,9 +52,9 @@ module _ (ms : Messages) (j : ℕ) (s : Schedule) (w : is_one_of windows ms.wind
       let e : t + all_periods - since ms j s t + y ≡ o + y = omega (arith, since_is t o x h, h.place) in
       ap u e
 
-  in_window : (t o x : ℕ) → InWindow ms j s t o x → remains ms j s u t ≡ still_free ms.window step s.size (λ y. u (o + y)) (ms.window / step) x
+  in_window_lem : (t o x : ℕ) → InWindow ms j s t o x → remains ms j s u t ≡ still_free ms.window step s.size (λ y. u (o + y)) (ms.window / step) x
   unfolding remains
-  in_window t o x h =
+  in_window_lem t o x h =
       let here : u t ≡ u (o + x) = sym (again t) ∙ ap u (sym h.place) in
       let whole : ms.window / step * step ≡ ms.window = omega (arith, div-add-mod' ms.window step, W.copies s.every N.in_distances) in
       rw (read, window_is t o x h, since_is t o x h, lt-ltb x ms.window h.inside, here)
@@ -90,7 +90,7 @@ module _ (ms : Messages) (j : ℕ) (s : Schedule) (w : is_one_of windows ms.wind
 
   -- an entry that is read and listed, over what repeats after 4,096 frames
   pub meant : Meant ms j s u
-  meant = record { in_window = in_window; elsewhere = elsewhere }
+  meant = record { in_window = in_window_lem; elsewhere = elsewhere }
 
 -- ---- all entries of listed messages
 

@@ -14,4 +14,4 @@ returns c =
     let w3 = w4.before in
     let w2 = w3.before in
     let w1 = w2.before in
-    simp (w4.window_at-w4.ensures, w3.window_at-w3.ensures, w2.window_at-w2.ensures, w1.window_at_lem.ensures, le-ltb _ _ w1.before.if-windows-lt-WINDOWS.false)
+    simp (w4.window_at-w4.ensures, w3.window_at-w3.ensures, w2.window_at-w2.ensures, w1.window_at-w1.ensures, le-ltb _ _ w1.before.if-windows-lt-WINDOWS.false)

@@ -52,7 +52,7 @@ few c =
     let m : r ≤ 84 = omega (
       arith,
       c.row_with-spot.ensures.reached,
-      (row-requires c.before c.row_with-spot.lifetimes).2,
+      (row_with-spot-requires c.before).2,
       rows_second s.args.g s.requires.0 rows (omega arith),
       six_few s.args.g s.requires.0 symbols (omega arith),
     ) in
@@ -78,8 +78,8 @@ nth c =
     let b = free_some a.g s.requires.0 l w.row_with-spot.ensures.symbol in
     let e : c.nth_in-k.result ≡ nth_in (marks_of a.g.v l (6 - free)) free a.from (on w) =
     c.nth_in-k.ensures
-    ∙ ap (λ (x : Marks). nth_in x f.Free-in.result a.from (on w)) m.marks_on.ensures
-    ∙ ap (λ (x : ℕ). nth_in (marks_of a.g.v l (6 - x)) x a.from (on w)) f.Free-in.ensures.0 in
+    ∙ ap (λ (x : Marks). nth_in x f.free_in-free.result a.from (on w)) m.marks_on.ensures
+    ∙ ap (λ (x : ℕ). nth_in (marks_of a.g.v l (6 - x)) x a.from (on w)) f.free_in-free.ensures.0 in
     subst (Nth (marks_of a.g.v l (6 - free)) a.from a.width (on w)) (sym e)
     (row_nth a.from a.width s.requires.1 a.g.v l free s.requires.0.shift b.0 b.1 (on w)
     (subst (λ (n : ℕ). on w.before.before.before.before < n * free) w.ncces-n.ensures.0 (inside w.before.before.before.before).below))
@@ -130,16 +130,16 @@ pub overflow_add-j : goal.overflow_add-j
 overflow_add-j c = omega (arith, small c.before.before)
 
 pub overflow_sub-free : goal.overflow_sub-free
-overflow_sub-free c = omega (arith, c.Free-in.ensures.2)
+overflow_sub-free c = omega (arith, c.free_in-free.ensures.2)
 
 pub marks_on-requires : goal.marks_on-requires
-marks_on-requires c = let s = start c.before.before in (s.requires.0.shift, omega (arith, c.Free-in.ensures.1))
+marks_on-requires c = let s = start c.before.before in (s.requires.0.shift, omega (arith, c.free_in-free.ensures.1))
 
 pub nth_in-k-requires : goal.nth_in-k-requires
 nth_in-k-requires c =
     let w = c in
     let p = (start w.before.before.before).requires.1 in
-    (c.Free-in.ensures.2, omega (arith, p.inside, p.some, p.whole), omega (arith, small w.before.before.before))
+    (c.free_in-free.ensures.2, omega (arith, p.inside, p.some, p.whole), omega (arith, small w.before.before.before))
 
 pub element-requires : goal.element-requires
 element-requires c = let w = c in (w.row_with-spot.ensures.slot, w.row_with-spot.ensures.symbol, (nth c).inside)

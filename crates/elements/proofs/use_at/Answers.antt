@@ -21,7 +21,7 @@ start c = c.before.before.before.before
 marks : (c : After-one) → c.before.marks_on-m.result ≡ marks_in (start c).args.g (start c).requires.0 (start c).args.l (start c).requires.3
 marks c =
     let s = start c in
-    c.marks_on-m.ensures ∙ ap (λ (f : ℕ). marks_of s.args.g.v s.args.l (6 - f)) c.Free-in.ensures.0
+    c.marks_on-m.ensures ∙ ap (λ (f : ℕ). marks_of s.args.g.v s.args.l (6 - f)) c.free_in-free.ensures.0
 
 six : (c : After-one) → (start c).args.k - 6 * c.one.result ≡ (start c).args.k % 6
 six c = ap (λ (b : ℕ). (start c).args.k - 6 * b) c.one.ensures.0 ∙ six_of (start c).args.k (start c).requires.4
@@ -67,8 +67,8 @@ returns c =
     stands_used a.g s.requires.0 a.from a.width s.requires.1 a.slot a.l a.k s.requires.2 s.requires.3 s.requires.4 (plain o.before.before.before.before.before.before.before.before false e.if-six-m.false)
     (sym i.in_control.ensures ∙ (apart f.before.before).0) (sym i.in_part.ensures ∙ not-false i.in_part.result (apart f.before.before).1) _ _ r.row_start-start.ensures.0
     (c.before_in.ensures.0
-    ∙ ap (λ (m : Marks). place_in m o.Free-in.result a.from a.k (a.k - 6 * o.one.result)) (marks o.before.before.before.before.before.before.before.before)
-    ∙ ap₂ (λ (f x : ℕ). place_in (marks_in a.g s.requires.0 a.l s.requires.3) f a.from a.k x) o.Free-in.ensures.0 (six o.before.before.before.before.before.before.before.before))
+    ∙ ap (λ (m : Marks). place_in m o.free_in-free.result a.from a.k (a.k - 6 * o.one.result)) (marks o.before.before.before.before.before.before.before.before)
+    ∙ ap₂ (λ (f x : ℕ). place_in (marks_in a.g s.requires.0 a.l s.requires.3) f a.from a.k x) o.free_in-free.ensures.0 (six o.before.before.before.before.before.before.before.before))
 
 pub sums-s-requires : goal.sums-s-requires
 sums-s-requires c = c.requires.0
@@ -77,10 +77,10 @@ pub free_in-free-requires : goal.free_in-free-requires
 free_in-free-requires c = let s = c in (s.requires.0, c.sums-s.ensures, s.requires.3)
 
 pub overflow_sub-free : goal.overflow_sub-free
-overflow_sub-free c = omega (arith, c.Free-in.ensures.2)
+overflow_sub-free c = omega (arith, c.free_in-free.ensures.2)
 
 pub marks_on-m-requires : goal.marks_on-m-requires
-marks_on-m-requires c = let s = c in (s.requires.0.shift, omega (arith, c.Free-in.ensures.1))
+marks_on-m-requires c = let s = c in (s.requires.0.shift, omega (arith, c.free_in-free.ensures.1))
 
 pub one-requires : goal.one-requires
 one-requires c = tt
@@ -112,7 +112,7 @@ before_in-requires c =
     let o = c in
     let s = start o.before.before.before.before.before.before.before in
     let p = s.requires.1 in (
-      o.Free-in.ensures.2,
+      o.free_in-free.ensures.2,
       omega (arith, p.inside, p.some, p.whole),
       omega (arith, six o.before.before.before.before.before.before.before),
       omega (arith, ap (λ (m : Marks). m.high) o.marks_on-m.ensures),

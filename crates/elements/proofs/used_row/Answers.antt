@@ -11,7 +11,7 @@ use Rattle.elements.proofs.used_row.Goals as goal
 marks : (c : After-marks_on-m) → c.marks_on-m.result ≡ marks_in c.before.before.before.args.g c.before.before.before.requires.0 c.before.before.before.args.l c.before.before.before.requires.2
 marks c =
     let s = c in
-    c.marks_on-m.ensures ∙ ap (λ (f : ℕ). marks_of s.args.g.v s.args.l (6 - f)) c.Free-in.ensures.0
+    c.marks_on-m.ensures ∙ ap (λ (f : ℕ). marks_of s.args.g.v s.args.l (6 - f)) c.free_in-free.ensures.0
 
 pub returns : goal.returns
 returns c =
@@ -28,10 +28,10 @@ pub free_in-free-requires : goal.free_in-free-requires
 free_in-free-requires c = let s = c in (s.requires.0, c.sums.ensures, s.requires.2)
 
 pub overflow_sub-free : goal.overflow_sub-free
-overflow_sub-free c = omega (arith, c.Free-in.ensures.2)
+overflow_sub-free c = omega (arith, c.free_in-free.ensures.2)
 
 pub marks_on-m-requires : goal.marks_on-m-requires
-marks_on-m-requires c = let s = c in (s.requires.0.shift, omega (arith, c.Free-in.ensures.1))
+marks_on-m-requires c = let s = c in (s.requires.0.shift, omega (arith, c.free_in-free.ensures.1))
 
 pub in_control-requires : goal.in_control-requires
 in_control-requires c = tt

@@ -54,7 +54,7 @@ returns c =
     let b = a.args.b in
     c.place.ensures
     ∙ forward_is (u a) all_periods b a.args.position _ _ _ _ _ (held e.before.before.before.before.before.before.before) (w e.before.before.before.before.before.before.before).count_used-w.ensures.0
-    (t.Usable-at.ensures
+    (t.usable_at-t.ensures
     ∙ sym (select_from (u a) all_periods (left_again a.args.p a.args.laid (messages_in a.args.si.now) a.requires.0.on) a.requires.0.some b.from b.skip _))
     k.used_at-x.ensures k.carried_by-unit.ensures.0 c.item.ensures
 

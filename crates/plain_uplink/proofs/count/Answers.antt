@@ -21,7 +21,7 @@ pub slot_data-requires : goal.slot_data-requires
 slot_data-requires c = c.requires.0
 
 pub total-requires : goal.total-requires
-total-requires c = (c.requires.0, c.slot_data_lem.ensures.0)
+total-requires c = (c.requires.0, c.slot_data.ensures.0)
 
 pub returns : goal.returns
 returns c =

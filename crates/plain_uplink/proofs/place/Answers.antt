@@ -24,25 +24,25 @@ module _ (c : Else-p-total) where
   p = start.args.p
 
   abbrev w : ℕ
-  w = c.slot_data_lem.result
+  w = c.slot_data-w.result
 
   counted : w ≡ slot_data start.args.s
-  counted = c.slot_data_lem.ensures.0
+  counted = c.slot_data-w.ensures.0
 
   held : p < places start.args.s
   held = omega (arith, c.if-p-total.false, c.total.ensures)
 
   unit : p / w < sent_slots start.args.s
-  unit = (div-lt_iff_lt-mul c.slot_data_lem.ensures.1).1 (omega (arith, held, ap (λ (n : ℕ). sent_slots start.args.s * n) counted))
+  unit = (div-lt_iff_lt-mul c.slot_data-w.ensures.1).1 (omega (arith, held, ap (λ (n : ℕ). sent_slots start.args.s * n) counted))
 
   rest : p % w < w
-  rest = mod-lt p c.slot_data_lem.ensures.1
+  rest = mod-lt p c.slot_data-w.ensures.1
 
 pub slot_data-w-requires : goal.slot_data-w-requires
 slot_data-w-requires c = c.requires.0
 
 pub total-requires : goal.total-requires
-total-requires c = (c.requires.0, c.slot_data_lem.ensures.0)
+total-requires c = (c.requires.0, c.slot_data-w.ensures.0)
 
 pub refused_place-requires : goal.refused_place-requires
 refused_place-requires c = tt
@@ -56,10 +56,10 @@ returns-then-p-total c =
     (omega (arith, t.if-p-total.true, t.total.ensures)))
 
 pub nonzero_div-i : goal.nonzero_div-i
-nonzero_div-i c = omega (arith, c.slot_data_lem.ensures.1)
+nonzero_div-i c = omega (arith, c.slot_data-w.ensures.1)
 
 pub nonzero_rem-e : goal.nonzero_rem-e
-nonzero_rem-e c = omega (arith, c.slot_data_lem.ensures.1)
+nonzero_rem-e c = omega (arith, c.slot_data-w.ensures.1)
 
 pub nth-at-requires : goal.nth-at-requires
 nth-at-requires c = ((start c).requires.0, omega (arith, rest c, counted c))
@@ -86,7 +86,7 @@ nth-requires c =
 pub item-requires : goal.item-requires
 item-requires c =
     let e = c in
-    (omega (arith, c.carried-unit.ensures.1, (start e.before.before.before).requires.0.codeword_small), e.slot_data_lem.ensures.2, rest e.before.before.before)
+    (omega (arith, c.carried-unit.ensures.1, (start e.before.before.before).requires.0.codeword_small), e.slot_data-w.ensures.2, rest e.before.before.before)
 
 pub returns : goal.returns
 returns c =

@@ -9,7 +9,7 @@ use Rattle.units.specs.declared.Lane.{Lane}
 use Rattle.strides.specs.declared.Leap.{Leap}
 use Rattle.strides.specs.declared.Stride.{Stride}
 use Rattle.strides.specs.declared.Kept.{Kept}
-use Rattle.strides.specs.declared.Whose.{Whose}
+use Rattle.strides.specs.declared.whose-1.{Whose}
 use Rattle.strides.specs.declared.Stretch.TheVariants.{Alone, Busy}
 use Rattle.strides.specs.declared.Stretch.TheVariants as stretch
 use Rattle.strides.specs.Quick.{lane_at, Apart, Keeps, Quiet, Stretches, Strode, past_of, Leapt}

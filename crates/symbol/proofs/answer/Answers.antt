@@ -8,13 +8,10 @@ pub returns-in-Ours : goal.returns-in-Ours
 returns-in-Ours c =
     let k = c in
     let a = k.args in
-    ap sent_of (c.symbol_at-s.ensures ∙ picked a.bits.now a.level _ _ c.symbols.ensures) ∙ sym (ap (answer_of a.bits.now a.level) k.o-in-Ours-1.given.1)
+    ap sent_of (c.symbol_at-s.ensures ∙ picked a.bits.now a.level _ _ c.symbols.ensures) ∙ sym (ap (answer_of a.bits.now a.level) c.in-Ours.is)
 
 pub symbols-requires : goal.symbols-requires
 symbols-requires c = tt
 
 pub symbol_at-s-requires : goal.symbol_at-s-requires
-symbol_at-s-requires c = let k = c in k.requires.has _ k.o-in-Ours-1.given.1
-
-pub returns-in-Reference : goal.returns-in-Reference
-returns-in-Reference c = simp c.o-1.given.1
+symbol_at-s-requires c = let k = c in k.requires.has _ c.in-Ours.is

@@ -33,4 +33,4 @@ pub returns : goal.returns
 unfolding picked_of
 returns c =
     let a = c.before.before.args in
-    ap (λ (i : ℕ). get_or a.t1 i unset) (pair a.bits.now a.c)
+    ap (λ (i : ℕ). get_or a.four i unset) (pair a.bits.now a.c)

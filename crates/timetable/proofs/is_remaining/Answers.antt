@@ -32,14 +32,14 @@ returns-then-is_allowed c =
     let tb = k.timetable_of-table.result in
     let S : Serves s.args.ms tb = (s.requires.0, k.timetable_of-table.ensures.0) in
     let r = v.sight_at-s.result in
-    let y = o.spot_of_lem.result.y in
+    let y = o.spot_of-spot.result.y in
     let e = v.sight_at-s.ensures in
     let X : Exact s.args.ms (allows p) tb r.n r.wants =
     subst (Exact s.args.ms (allows p) tb r.n) (ap (wants_in tb (allows p)) e.0 ∙ sym e.1)
-    (walk_exact s.args.ms (allows p) (far p s.requires.1) tb S r.n (omega (arith, e.0, o.spot_of_lem.ensures.late))) in
+    (walk_exact s.args.ms (allows p) (far p s.requires.1) tb S r.n (omega (arith, e.0, o.spot_of-spot.ensures.late))) in
     ap₂ leb a.all_need-needed.ensures.0 c.free_first-free.ensures
-    ∙ remains_found s.args.ms p s.requires.1 tb S s.args.t r.n y r.wants X o.spot_of_lem.ensures.inside
-    (ap (λ (n : ℕ). begin_of tb n + y) e.0 ∙ o.spot_of_lem.ensures.there) (sym k.is_allowed.ensures ∙ k.if-is_allowed.true)
+    ∙ remains_found s.args.ms p s.requires.1 tb S s.args.t r.n y r.wants X o.spot_of-spot.ensures.inside
+    (ap (λ (n : ℕ). begin_of tb n + y) e.0 ∙ o.spot_of-spot.ensures.there) (sym k.is_allowed.ensures ∙ k.if-is_allowed.true)
 
 pub returns : goal.returns
 returns c =
@@ -62,16 +62,16 @@ pub spot_of-spot-requires : goal.spot_of-spot-requires
 spot_of-spot-requires c = let z = c.timetable_of-table.ensures.1 in (z, omega (arith, mod-lt (start c.before).args.t (long z)))
 
 pub sight_at-s-requires : goal.sight_at-s-requires
-sight_at-s-requires c = let k = c in (k.timetable_of-table.ensures.1, some k.before.before, c.spot_of_lem.ensures.late, omega (arith, c.spot_of_lem.ensures.early))
+sight_at-s-requires c = let k = c in (k.timetable_of-table.ensures.1, some k.before.before, c.spot_of-spot.ensures.late, omega (arith, c.spot_of-spot.ensures.early))
 
 pub all_need-needed-requires : goal.all_need-needed-requires
 all_need-needed-requires c =
     let o = c in
-    (o.timetable_of-table.ensures.1, omega (arith, c.sight_at-s.ensures.0, o.spot_of_lem.ensures.early), c.sight_at-s.ensures.2.small)
+    (o.timetable_of-table.ensures.1, omega (arith, c.sight_at-s.ensures.0, o.spot_of-spot.ensures.early), c.sight_at-s.ensures.2.small)
 
 pub free_first-free-requires : goal.free_first-free-requires
 free_first-free-requires c =
     let e = c.sight_at-s.ensures in
     let o = c in
     let k = o in
-    (k.timetable_of-table.ensures.1, some k.before.before.before.before.before, omega (arith, e.0, o.spot_of_lem.ensures.early), omega (arith, o.spot_of_lem.ensures.inside, k.timetable_of-table.ensures.1.unit), e.2.free)
+    (k.timetable_of-table.ensures.1, some k.before.before.before.before.before, omega (arith, e.0, o.spot_of-spot.ensures.early), omega (arith, o.spot_of-spot.ensures.inside, k.timetable_of-table.ensures.1.unit), e.2.free)

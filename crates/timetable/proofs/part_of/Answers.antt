@@ -18,16 +18,16 @@ use Rattle.timetable.proofs.part_of.Goals.{After-spot_of-spot, After-monus-last,
 use Rattle.timetable.proofs.part_of.Goals as goal
 
 -- the unit of t is not before the sight's
-later : (c : After-spot_of-spot) → c.before.args.s.n ≤ c.spot_of_lem.result.n
+later : (c : After-spot_of-spot) → c.before.args.s.n ≤ c.spot_of-spot.result.n
 later c =
     let s = c in
     let U : ℕ = s.args.table.unit in
     let n : ℕ = s.args.s.n in
-    let m : ℕ = c.spot_of_lem.result.n in
+    let m : ℕ = c.spot_of-spot.result.n in
     ⊎_elim
     (λ (h : m < n).
     let k : m + 1 ≤ n = omega (arith, h) in
-    absurd (omega (arith, mul-le-mul_left U k, mul-add U m 1, mul-one U, c.spot_of_lem.ensures.there, c.spot_of_lem.ensures.inside, s.requires.4)))
+    absurd (omega (arith, mul-le-mul_left U k, mul-add U m 1, mul-one U, c.spot_of-spot.ensures.there, c.spot_of-spot.ensures.inside, s.requires.4)))
     (λ h. h) (order m n)
 
 module _ (c : After-monus-last) where
@@ -43,14 +43,14 @@ module _ (c : After-monus-last) where
   abbrev m : ℕ
   m = h.counted-here.result.n
 
-  last_is : c.monus-last.result ≡ count (allows s.args.p) (begin_of s.args.table m) o.spot_of_lem.result.y - unit_need s.args.table m h.counted-here.result.wants
+  last_is : c.monus-last.result ≡ count (allows s.args.p) (begin_of s.args.table m) o.spot_of-spot.result.y - unit_need s.args.table m h.counted-here.result.wants
   last_is = c.monus-last.ensures ∙ ap₂ (λ (a b : ℕ). a - b) c.free_first-free.ensures c.all_need-needed.ensures.0
 
   last_small : c.monus-last.result ≤ 160
-  last_small = omega (arith, last_is, count_most (allows s.args.p) o.spot_of_lem.result.y (begin_of s.args.table m), o.spot_of_lem.ensures.inside, s.requires.0.unit)
+  last_small = omega (arith, last_is, count_most (allows s.args.p) o.spot_of-spot.result.y (begin_of s.args.table m), o.spot_of-spot.ensures.inside, s.requires.0.unit)
 
-  begins : begin_of s.args.table m + o.spot_of_lem.result.y ≡ s.args.t + 5 * (s.args.table.unit * s.args.table.units)
-  begins = ap (λ (n : ℕ). begin_of s.args.table n + o.spot_of_lem.result.y) h.counted-here.ensures.0 ∙ o.spot_of_lem.ensures.there
+  begins : begin_of s.args.table m + o.spot_of-spot.result.y ≡ s.args.t + 5 * (s.args.table.unit * s.args.table.units)
+  begins = ap (λ (n : ℕ). begin_of s.args.table n + o.spot_of-spot.result.y) h.counted-here.ensures.0 ∙ o.spot_of-spot.ensures.there
 
   module _ (ms : Messages) (S : Serves ms s.args.table) (X : Exact ms (allows s.args.p) s.args.table s.args.s.n s.args.s.wants) where
     there : Exact ms (allows s.args.p) s.args.table m h.counted-here.result.wants
@@ -65,7 +65,7 @@ module _ (c : After-monus-last) where
           arith,
           (h.counted-here.ensures.3 ms S X).count,
           last_is,
-          first_count ms s.args.p s.requires.1.regular tb S m o.spot_of_lem.result.y h.counted-here.result.wants there (omega (arith, o.spot_of_lem.ensures.inside)),
+          first_count ms s.args.p s.requires.1.regular tb S m o.spot_of-spot.result.y h.counted-here.result.wants there (omega (arith, o.spot_of-spot.ensures.inside)),
           ap (rank (remaining ms u)) begins,
         )
 
@@ -73,8 +73,8 @@ module _ (c : After-monus-last) where
     remains : (a : Bool) → a ≡ allows s.args.p s.args.t → (a && leb c.before.all_need-needed.result c.before.before.free_first-free.result) ≡ remaining ms (allows s.args.p) s.args.t
     remains a e =
         ap₂ (λ (x y : Bool). x && y) e (ap₂ leb c.all_need-needed.ensures.0 c.free_first-free.ensures)
-        ∙ remains_here ms s.args.p s.requires.1.regular s.args.table S m o.spot_of_lem.result.y s.args.t h.counted-here.result.wants there
-        o.spot_of_lem.ensures.inside begins
+        ∙ remains_here ms s.args.p s.requires.1.regular s.args.table S m o.spot_of-spot.result.y s.args.t h.counted-here.result.wants there
+        o.spot_of-spot.ensures.inside begins
 
   enough : s.args.s.k ≤ h.counted-here.result.k + c.monus-last.result
   enough = omega (arith, reached s.requires.5.ms s.requires.5.serves s.requires.5.exact, s.requires.5.early)
@@ -85,20 +85,20 @@ spot_of-spot-requires c = (c.requires.0, c.requires.3)
 pub counted-here-requires : goal.counted-here-requires
 counted-here-requires c =
     let z = c in
-    (z.requires.0, z.requires.1, z.requires.2, later c, omega (arith, c.spot_of_lem.ensures.early), record { ms = z.requires.5.ms; serves = z.requires.5.serves; exact = z.requires.5.exact })
+    (z.requires.0, z.requires.1, z.requires.2, later c, omega (arith, c.spot_of-spot.ensures.early), record { ms = z.requires.5.ms; serves = z.requires.5.serves; exact = z.requires.5.exact })
 
 pub free_first-free-requires : goal.free_first-free-requires
 free_first-free-requires c =
     let v = c in
     let z = v in
     let e = c.counted-here.ensures in
-    (z.requires.0, z.requires.1, omega (arith, e.0, v.spot_of_lem.ensures.early), omega (arith, v.spot_of_lem.ensures.inside, z.requires.0.unit), e.1.free)
+    (z.requires.0, z.requires.1, omega (arith, e.0, v.spot_of-spot.ensures.early), omega (arith, v.spot_of-spot.ensures.inside, z.requires.0.unit), e.1.free)
 
 pub all_need-needed-requires : goal.all_need-needed-requires
 all_need-needed-requires c =
     let k = c in
     let v = k in
-    (v.requires.0, omega (arith, k.counted-here.ensures.0, v.spot_of_lem.ensures.early), k.counted-here.ensures.1.small)
+    (v.requires.0, omega (arith, k.counted-here.ensures.0, v.spot_of-spot.ensures.early), k.counted-here.ensures.1.small)
 
 pub monus-last-requires : goal.monus-last-requires
 monus-last-requires c = tt

@@ -32,7 +32,7 @@ returns-then-not-in_range c =
     let r = c.before in
     let o = r.before in
     let p = o.before in
-    simp (← p.before.sent_subframes.ensures.0, p.if-i-sent_subframes.false, ← p.before.before.before.requires.1, o.if-bits-codeword.false, ← r.in_range_lem.ensures, c.if-not-in_range.true)
+    simp (← p.before.sent_subframes.ensures.0, p.if-i-sent_subframes.false, ← p.before.before.before.requires.1, o.if-bits-codeword.false, ← r.in_range.ensures, c.if-not-in_range.true)
 
 pub returns-then-b-eq2 : goal.returns-then-b-eq2
 unfolding late_refusal
@@ -41,7 +41,7 @@ returns-then-b-eq2 c =
     let r = e.before in
     let o = r.before in
     let p = o.before in
-    simp (← p.before.sent_subframes.ensures.0, p.if-i-sent_subframes.false, ← p.before.before.before.requires.1, o.if-bits-codeword.false, ← r.in_range_lem.ensures, e.if-not-in_range.false, eq-eqb _ _ c.if-b-eq2.true)
+    simp (← p.before.sent_subframes.ensures.0, p.if-i-sent_subframes.false, ← p.before.before.before.requires.1, o.if-bits-codeword.false, ← r.in_range.ensures, e.if-not-in_range.false, eq-eqb _ _ c.if-b-eq2.true)
 
 pub returns : goal.returns
 unfolding late_refusal
@@ -50,7 +50,7 @@ returns c =
     let r = e.before in
     let o = r.before in
     let p = o.before in
-    simp (← p.before.sent_subframes.ensures.0, p.if-i-sent_subframes.false, ← p.before.before.before.requires.1, o.if-bits-codeword.false, ← r.in_range_lem.ensures, e.if-not-in_range.false, ne_eqb _ _ c.if-b-eq2.false)
+    simp (← p.before.sent_subframes.ensures.0, p.if-i-sent_subframes.false, ← p.before.before.before.requires.1, o.if-bits-codeword.false, ← r.in_range.ensures, e.if-not-in_range.false, ne_eqb _ _ c.if-b-eq2.false)
 
 pub overflow_mul-codeword : goal.overflow_mul-codeword
 overflow_mul-codeword c = omega (arith, symbols c.before.before.before)

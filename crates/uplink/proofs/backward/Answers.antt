@@ -116,12 +116,12 @@ carried_by-unit-requires c = (start c.before.before.before.before.before.before)
 pub item-requires : goal.item-requires
 item-requires c =
     let w = c in
-    (omega (arith, c.carried_by-unit.ensures.1), w.slot_data_lem.ensures.2, omega (arith, c.number_of-e.ensures.1, w.slot_data_lem.ensures.0))
+    (omega (arith, c.carried_by-unit.ensures.1), w.slot_data-w.ensures.2, omega (arith, c.number_of-e.ensures.1, w.slot_data-w.ensures.0))
 
 pub item-requires-2 : goal.item-requires-2
 item-requires-2 c =
     let w = c in
-    (index_small w.before.before.before.before.before.before.before.before, w.slot_data_lem.ensures.2, omega (arith, c.number_of-e.ensures.1, w.slot_data_lem.ensures.0))
+    (index_small w.before.before.before.before.before.before.before.before, w.slot_data-w.ensures.2, omega (arith, c.number_of-e.ensures.1, w.slot_data-w.ensures.0))
 
 pub returns : goal.returns
 returns c =
@@ -131,6 +131,6 @@ returns c =
     let o = w in
     let a = (start o.before.before.before.before.before.before.before.before.before.before).args in
     c.ours.ensures
-    ∙ backward_ours a.s is_open a.slot a.l a.k (inside (within o.before.before.before.before.before.before.before.before.before.before)) _ _ _ _ _ _ (sent o.before.before.before.before.before.before.before.before.before.before is_open at) (data_element w.before.before.before.before.before.before) w.slot_data_lem.ensures.0
+    ∙ backward_ours a.s is_open a.slot a.l a.k (inside (within o.before.before.before.before.before.before.before.before.before.before)) _ _ _ _ _ _ (sent o.before.before.before.before.before.before.before.before.before.before is_open at) (data_element w.before.before.before.before.before.before) w.slot_data-w.ensures.0
     (index o.before.before.before.before.before.before.before.before.before.before is_open at) u.number_of-e.ensures.0 u.carried_by-unit.ensures.0 c.item.ensures
     c.item-2.ensures

@@ -26,13 +26,13 @@ module _ (c : After-slot_data-w) where
       (div-lt_iff_lt-mul (some_data start.args.s start.requires.0)).0
       (omega (arith, unit, ap (λ (a : Split). a.i) start.requires.1))
 
-  rest : start.args.at.e < c.slot_data_lem.result
+  rest : start.args.at.e < c.slot_data-w.result
   rest =
       omega (
         arith,
         ap (λ (a : Split). a.e) start.requires.1,
         mod-lt start.args.p (some_data start.args.s start.requires.0),
-        c.slot_data_lem.ensures.0,
+        c.slot_data-w.ensures.0,
       )
 
 pub sent_slots-requires : goal.sent_slots-requires
@@ -61,12 +61,12 @@ carried_by-unit-requires c = (start c).requires.0
 pub item-requires : goal.item-requires
 item-requires c =
     let w = c in
-    (omega (arith, c.carried_by-unit.ensures.1), w.slot_data_lem.ensures.2, rest w.before)
+    (omega (arith, c.carried_by-unit.ensures.1), w.slot_data-w.ensures.2, rest w.before)
 
 pub returns : goal.returns
 returns c =
     λ is_open h.
     let w = c in
     let a = start w.before.before in
-    forward_is a.args.s is_open a.args.p _ _ _ _ _ (held w.before.before) w.slot_data_lem.ensures.0 a.requires.1
+    forward_is a.args.s is_open a.args.p _ _ _ _ _ (held w.before.before) w.slot_data-w.ensures.0 a.requires.1
     (h (unit w.before.before)) c.carried_by-unit.ensures.0 c.item.ensures
