@@ -7,13 +7,13 @@ use Rattle.bitmap.proofs.is_bad.Goals as goal
 
 pub returns-then-not-listed : goal.returns-then-not-listed
 unfolding bad_bitmap
-returns-then-not-listed c = simp (← c.before.listed.ensures, c.if-not-listed.true)
+returns-then-not-listed c = simp (← c.listed.ensures, c.if-not-listed.true)
 
 pub returns-then-b-bytes : goal.returns-then-b-bytes
 unfolding bad_bitmap
 returns-then-b-bytes c =
-    let e1 = c.before.before in
-    simp (← e1.before.listed.ensures, e1.if-not-listed.false, ← c.before.bytes.ensures, lt-ltb _ _ c.if-b-bytes.true)
+    let e1 = c in
+    simp (← e1.listed.ensures, e1.if-not-listed.false, ← c.bytes.ensures, lt-ltb _ _ c.if-b-bytes.true)
 
 pub bounds-b-1 : goal.bounds-b-1
 bounds-b-1 c =
@@ -23,17 +23,17 @@ bounds-b-1 c =
 pub returns-then-bits-eq10 : goal.returns-then-bits-eq10
 unfolding bad_bitmap
 returns-then-bits-eq10 c =
-    let t3 = c.before.before in
-    let e2 = t3.before in
-    let e1 = e2.before.before in
-    simp (← e1.before.listed.ensures, e1.if-not-listed.false, ← e2.before.bytes.ensures, le-ltb _ _ e2.if-b-bytes.false, eq-eqb _ _ t3.if-bits-eq10.true, c.wide.ensures.0)
+    let t3 = c in
+    let e2 = t3 in
+    let e1 = e2 in
+    simp (← e1.listed.ensures, e1.if-not-listed.false, ← e2.bytes.ensures, le-ltb _ _ e2.if-b-bytes.false, eq-eqb _ _ t3.if-bits-eq10.true, c.wide.ensures.0)
 
 pub returns : goal.returns
 unfolding bad_bitmap
 returns c =
-    let e2 = c.before in
-    let e1 = e2.before.before in
-    simp (← e1.before.listed.ensures, e1.if-not-listed.false, ← e2.before.bytes.ensures, le-ltb _ _ e2.if-b-bytes.false, ne_eqb _ _ c.if-bits-eq10.false)
+    let e2 = c in
+    let e1 = e2 in
+    simp (← e1.listed.ensures, e1.if-not-listed.false, ← e2.bytes.ensures, le-ltb _ _ e2.if-b-bytes.false, ne_eqb _ _ c.if-bits-eq10.false)
 
 pub listed-requires : goal.listed-requires
 listed-requires c = tt

@@ -11,16 +11,17 @@ use Rattle.downlink.proofs.Joined.{inside_parts, use_below}
 use Rattle.broadcast.specs.Channels.{npbch_of}
 use Rattle.broadcast.proofs.Channels.{npbch_sent, fits, backward_refused, backward_outside, backward_not, backward_at}
 use Rattle.broadcast.proofs.Frames.{npbch_before}
-use Rattle.broadcast.proofs.backward_npbch.Goals.{After-is_inside, Start, Else-not-is_inside, After-npbch_burst-b, Else-not-is_npbch}
+use Rattle.broadcast.proofs.backward_npbch.Goals.{Start}
+use Rattle.broadcast.proofs.backward_npbch.Tie as tie
 use Rattle.broadcast.proofs.backward_npbch.Goals as goal
 
-abbrev start : After-is_inside → Start
+abbrev start : tie.After-is_inside → Start
 start c = c.before.before.before.before.before
 
-inside : (c : Else-not-is_inside) → inside_grid (start c.before).args.slot (start c.before).args.l (start c.before).args.k ≡ true
+inside : (c : tie.Else-not-is_inside) → inside_grid (start c.before).args.slot (start c.before).args.l (start c.before).args.k ≡ true
 inside c = sym c.is_inside.ensures ∙ not-false _ c.if-not-is_inside.false
 
-fit : (c : After-npbch_burst-b) → Fits c.npbch_burst-b.result
+fit : (c : tie.After-npbch_burst-b) → Fits c.npbch_burst-b.result
 fit c =
     let i = c in
     let r = i in
@@ -28,7 +29,7 @@ fit c =
     fits a.c _ _ (npbch_of a.c.config) (npbch_sent a.c.config) (sym r.refusal-no.ensures ∙ i.if-no-ne0.false) _ c.npbch_burst-b.ensures
 
 -- the subframe is the channel's
-is_own_lem : (c : Else-not-is_npbch) → npbch ((start c.before.before.before).args.t % 640) ≡ true
+is_own_lem : (c : tie.Else-not-is_npbch) → npbch ((start c.before.before.before).args.t % 640) ≡ true
 is_own_lem c = sym c.is_npbch.ensures ∙ not-false _ c.if-not-is_npbch.false
 
 pub refusal-no-requires : goal.refusal-no-requires
@@ -54,7 +55,7 @@ pub returns-then-not-is_inside : goal.returns-then-not-is_inside
 returns-then-not-is_inside c =
     let i = c in
     let r = i in
-    let a = (start i.before.before).args in
+    let a = (start i.before.before.before).args in
     c.refused-then-not-is_inside.ensures
     ∙ backward_outside a.c _ _ (npbch_of a.c.config) (npbch_sent a.c.config) (sym r.refusal-no.ensures ∙ i.if-no-ne0.false)
     (npbch_of a.c.config).burst refl a.t a.slot a.l a.k (sym i.is_inside.ensures ∙ not-true _ c.if-not-is_inside.true)
@@ -70,10 +71,10 @@ returns-then-not-is_npbch c =
     let o = c in
     let i = o in
     let r = i in
-    let a = (start i.before.before.before.before).args in
+    let a = (start i.before.before.before.before.before).args in
     c.not_ours.ensures
     ∙ backward_not a.c _ _ (npbch_of a.c.config) (npbch_sent a.c.config) (sym r.refusal-no.ensures ∙ i.if-no-ne0.false)
-    (npbch_of a.c.config).burst refl a.t a.slot a.l a.k (inside o.before.before.before) (sym o.is_npbch.ensures ∙ not-true _ c.if-not-is_npbch.true)
+    (npbch_of a.c.config).burst refl a.t a.slot a.l a.k (inside o.before.before.before.before) (sym o.is_npbch.ensures ∙ not-true _ c.if-not-is_npbch.true)
 
 pub npbch_burst-b-requires : goal.npbch_burst-b-requires
 npbch_burst-b-requires c = tt
@@ -82,12 +83,12 @@ pub use_at-x-requires : goal.use_at-x-requires
 use_at-x-requires c =
     let d = c in
     let e = d in
-    let a = (start e.before.before.before.before.before.before).args in
-    let g = inside_parts a.slot a.l a.k (inside e.before.before.before.before.before) in
-    ((fit d.before).layout, (fit d.before).part, g.0, g.1, g.2)
+    let a = (start e.before.before.before.before.before.before.before).args in
+    let g = inside_parts a.slot a.l a.k (inside e.before.before.before.before.before.before) in
+    ((fit d.before.before).layout, (fit d.before.before).part, g.0, g.1, g.2)
 
 pub in_use-requires : goal.in_use-requires
-in_use-requires c = let d = c in (fit d.before.before, omega arith, use_below d.npbch_burst-b.result _ _ c.use_at-x.ensures)
+in_use-requires c = let d = c in (fit d.before.before.before, omega arith, use_below d.npbch_burst-b.result _ _ c.use_at-x.ensures)
 
 pub returns : goal.returns
 returns c =
@@ -95,7 +96,7 @@ returns c =
     let e = d in
     let i = e in
     let r = i in
-    let a = (start i.before.before.before.before.before.before.before.before).args in
+    let a = (start i.before.before.before.before.before.before.before.before.before).args in
     backward_at a.c _ _ (npbch_of a.c.config) (npbch_sent a.c.config) (sym r.refusal-no.ensures ∙ i.if-no-ne0.false) _ d.npbch_burst-b.ensures
-    a.t a.slot a.l a.k (inside e.before.before.before.before.before.before.before) (is_own_lem d.before.before.before.before.before) (omega arith) _ (sym (npbch_before (a.t % 640) (omega arith) (is_own_lem d.before.before.before.before.before))) _
+    a.t a.slot a.l a.k (inside e.before.before.before.before.before.before.before.before) (is_own_lem d.before.before.before.before.before.before) (omega arith) _ (sym (npbch_before (a.t % 640) (omega arith) (is_own_lem d.before.before.before.before.before.before))) _
     (c.in_use.ensures _ c.use_at-x.ensures)

@@ -11,24 +11,24 @@ use Rattle.sync.specs.Sync.{sib1_copies, sib1}
 use Rattle.broadcast.specs.Channels.{sib1_of}
 use Rattle.broadcast.proofs.Channels.{sib1_sent, fits, forward_refused, forward_past, forward_at}
 use Rattle.broadcast.proofs.Frames.{sib1_below, sib1_at}
-use Rattle.broadcast.proofs.forward_sib1.Goals.{After-sib1_burst-b, After-sent_subframes, Else-p-total, After-quotient-i, After-sib1_frame-frame}
+use Rattle.broadcast.proofs.forward_sib1.Tie as tie
 use Rattle.broadcast.proofs.forward_sib1.Goals as goal
 
-fit : (c : After-sib1_burst-b) → Fits c.sib1_burst-b.result
+fit : (c : tie.After-sib1_burst-b) → Fits c.sib1_burst-b.result
 fit c =
     let r = c in
     let a = r.args in
     fits a.c _ _ (sib1_of a.c.config) (sib1_sent a.c.config) (sym r.refusal-no.ensures ∙ c.if-no-ne0.false) _ c.sib1_burst-b.ensures
 
-all : (c : After-sent_subframes) → c.sent_subframes.result * c.before.used_elements-w.result ≡ places c.before.before.sib1_burst-b.result
+all : (c : tie.After-sent_subframes) → c.sent_subframes.result * c.used_elements-w.result ≡ places c.sib1_burst-b.result
 all c = ap₂ (λ (x y : ℕ). x * y) c.sent_subframes.ensures.0 c.used_elements-w.ensures.0
 
-own : After-sib1_burst-b → ℕ → Bool
+own : tie.After-sib1_burst-b → ℕ → Bool
 own c = let a = c.args.c.config in sib1 a.identity a.sib1
 
 -- how many places there are, and that the position is one of them
-module _ (c : Else-p-total) where
-  abbrev b : After-sib1_burst-b
+module _ (c : tie.Else-p-total) where
+  abbrev b : tie.After-sib1_burst-b
   b = c.before.before.before
 
   abbrev p : ℕ
@@ -55,7 +55,7 @@ module _ (c : Else-p-total) where
   rest = rest_below (own b) 2560 b.sib1_burst-b.result p (fit b) w held c.used_elements-w.ensures.0
 
 -- unit and element of it
-module _ (c : After-quotient-i) where
+module _ (c : tie.After-quotient-i) where
   split : p c.before % w c.before + c.quotient-i.result * w c.before ≡ p c.before
   split =
       ap (λ (i : ℕ). p c.before % w c.before + i * w c.before) c.quotient-i.ensures
@@ -67,7 +67,7 @@ module _ (c : After-quotient-i) where
   below : c.quotient-i.result < sib1_copies (b c.before).before.before.before.before.before.args.c.config.sib1 * 8
   below = omega (arith, c.quotient-i.ensures, unit c.before, ap sent_subframes (b c.before).sib1_burst-b.ensures)
 
-in_period : (c : After-sib1_frame-frame) → c.sib1_frame-frame.result < 256
+in_period : (c : tie.After-sib1_frame-frame) → c.sib1_frame-frame.result < 256
 in_period c =
     let a = (b c.before.before).args.c.config in
     omega (arith, c.sib1_frame-frame.ensures, sib1_below a.identity a.sib1 c.quotient-i.result (below c.before))
@@ -89,10 +89,10 @@ pub sib1_burst-b-requires : goal.sib1_burst-b-requires
 sib1_burst-b-requires c = tt
 
 pub used_elements-w-requires : goal.used_elements-w-requires
-used_elements-w-requires c = fit c
+used_elements-w-requires c = fit c.before
 
 pub sent_subframes-requires : goal.sent_subframes-requires
-sent_subframes-requires c = fit c.before
+sent_subframes-requires c = fit c.before.before
 
 pub overflow_mul-total : goal.overflow_mul-total
 overflow_mul-total c = omega (arith, places_small c.sent_subframes.result c.used_elements-w.result c.sent_subframes.ensures.2 c.used_elements-w.ensures.2)
@@ -108,39 +108,39 @@ returns-then-p-total c =
     let a = r.args in
     c.refused_place-then-p-total.ensures
     ∙ forward_past a.c _ _ (sib1_of a.c.config) (sib1_sent a.c.config) (sym r.refusal-no.ensures ∙ d.if-no-ne0.false) _ d.sib1_burst-b.ensures
-    a.p (omega (arith, all t.before.before, t.if-p-total.true))
+    a.p (omega (arith, all t.before.before.before, t.if-p-total.true))
 
 pub quotient-i-requires : goal.quotient-i-requires
-quotient-i-requires c = (omega (arith, small c), omega (arith, c.used_elements-w.ensures.1), omega (arith, c.used_elements-w.ensures.2))
+quotient-i-requires c = (omega (arith, small c.before), omega (arith, c.used_elements-w.ensures.1), omega (arith, c.used_elements-w.ensures.2))
 
 pub overflow_mul-e : goal.overflow_mul-e
-overflow_mul-e c = omega (arith, split c, small c.before)
+overflow_mul-e c = omega (arith, split c.before, small c.before.before)
 
 pub overflow_sub-e : goal.overflow_sub-e
-overflow_sub-e c = omega (arith, split c)
+overflow_sub-e c = omega (arith, split c.before)
 
 pub sib1_frame-frame-requires : goal.sib1_frame-frame-requires
-sib1_frame-frame-requires c = below c
+sib1_frame-frame-requires c = below c.before
 
 pub element_at-x-requires : goal.element_at-x-requires
 element_at-x-requires c =
-    let f = fit (b c.before.before.before) in
-    (f.layout, f.part, omega (arith, element c.before.before, rest c.before.before.before))
+    let f = fit (b c.before.before.before.before) in
+    (f.layout, f.part, omega (arith, element c.before.before.before, rest c.before.before.before.before))
 
 pub carried_by-unit-requires : goal.carried_by-unit-requires
-carried_by-unit-requires c = fit (b c.before.before.before.before)
+carried_by-unit-requires c = fit (b c.before.before.before.before.before)
 
 pub overflow_mul-frame : goal.overflow_mul-frame
-overflow_mul-frame c = omega (arith, in_period c.before.before.before)
+overflow_mul-frame c = omega (arith, in_period c.before.before.before.before)
 
 pub overflow_add-frame : goal.overflow_add-frame
-overflow_add-frame c = omega (arith, in_period c.before.before.before)
+overflow_add-frame c = omega (arith, in_period c.before.before.before.before)
 
 pub item-requires : goal.item-requires
 item-requires c =
     let q = c in
     let u = q.used_elements-w.ensures in
-    (omega (arith, c.carried_by-unit.ensures.1), omega (arith, u.2), omega (arith, element q.before.before.before.before, rest q.before.before.before.before.before, u.0))
+    (omega (arith, c.carried_by-unit.ensures.1), omega (arith, u.2), omega (arith, element q.before.before.before.before.before, rest q.before.before.before.before.before.before, u.0))
 
 pub place-requires : goal.place-requires
 place-requires c = tt
@@ -149,10 +149,10 @@ pub returns : goal.returns
 returns c =
     let k = c in
     let q = k in
-    let d = b q.before.before.before.before.before.before.before in
+    let d = b q.before.before.before.before.before.before.before.before in
     let r = d.before.before in
     let a = r.before.before.before.args in
     c.place.ensures
     ∙ forward_at a.c _ _ (sib1_of a.c.config) (sib1_sent a.c.config) (sym r.refusal-no.ensures ∙ d.before.if-no-ne0.left) _ d.sib1_burst-b.ensures
-    a.p _ _ _ _ _ _ _ (held q.before.before.before.before.before.before.before) q.used_elements-w.ensures.0 q.quotient-i.ensures (element q.before.before.before.before.before.before)
-    (ap (λ (f : ℕ). 10 * f + 4) k.sib1_frame-frame.ensures ∙ sym (sib1_at a.c.config.identity a.c.config.sib1 q.quotient-i.result (below q.before.before.before.before.before.before))) k.element_at-x.ensures k.carried_by-unit.ensures.0 c.item.ensures
+    a.p _ _ _ _ _ _ _ (held q.before.before.before.before.before.before.before.before) q.used_elements-w.ensures.0 q.quotient-i.ensures (element q.before.before.before.before.before.before.before)
+    (ap (λ (f : ℕ). 10 * f + 4) k.sib1_frame-frame.ensures ∙ sym (sib1_at a.c.config.identity a.c.config.sib1 q.quotient-i.result (below q.before.before.before.before.before.before.before))) k.element_at-x.ensures k.carried_by-unit.ensures.0 c.item.ensures

@@ -26,21 +26,21 @@ module _ (no cell own : ℕ) (e : no ≡ cell) where
 
 pub returns-then-no-ne0 : goal.returns-then-no-ne0
 unfolding question_refusal
-returns-then-no-ne0 c = by_cell _ _ _ c.before.judge-no.ensures c.if-no-ne0.true
+returns-then-no-ne0 c = by_cell _ _ _ c.judge-no.ensures c.if-no-ne0.true
 
 pub returns-then-c-ne0 : goal.returns-then-c-ne0
 unfolding question_refusal
 returns-then-c-ne0 c =
-    let e = c.before.before in
-    let j = e.before in
-    by_carrier _ _ _ j.judge-no.ensures e.if-no-ne0.false _ (elsewhere j.before.before.before.args.c.config c.if-c-ne0.true)
+    let e = c in
+    let j = e in
+    by_carrier _ _ _ j.judge-no.ensures e.if-no-ne0.false _ (elsewhere j.args.c.config c.if-c-ne0.true)
 
 pub returns : goal.returns
 unfolding question_refusal
 returns c =
-    let e = c.before.before in
-    let j = e.before in
-    by_carrier _ _ _ j.judge-no.ensures e.if-no-ne0.false _ (on_anchor_lem j.before.before.before.args.c.config c.if-c-ne0.false)
+    let e = c in
+    let j = e in
+    by_carrier _ _ _ j.judge-no.ensures e.if-no-ne0.false _ (on_anchor_lem j.args.c.config c.if-c-ne0.false)
 
 pub judge-no-requires : goal.judge-no-requires
 judge-no-requires c = tt

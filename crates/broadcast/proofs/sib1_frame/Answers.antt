@@ -16,7 +16,7 @@ frame : (s : Start) (r : ℕ) → s.args.schedule % 3 ≡ r → frame_by r s.arg
 frame s r e = ap (λ (r : ℕ). frame_by r s.args.identity s.args.i) (sym e)
 
 -- neither 0 nor 1
-two : (c : Else-k-eq1) → c.before.before.args.schedule % 3 ≡ 2
+two : (c : Else-k-eq1) → c.args.schedule % 3 ≡ 2
 two c = omega (arith, c.if-k-eq0.false, c.if-k-eq1.false)
 
 pub overflow_mul-result : goal.overflow_mul-result

@@ -20,7 +20,7 @@ module _ (s : Start) (r : ℕ) (e : s.args.schedule % 3 ≡ r) where
       ∙ sym (sib1_before s.args.identity s.args.schedule s.args.t s.requires.0 s.requires.1)
 
 -- neither 0 nor 1
-two : (c : Else-k-eq1) → c.before.before.args.schedule % 3 ≡ 2
+two : (c : Else-k-eq1) → c.args.schedule % 3 ≡ 2
 two c = omega (arith, c.if-k-eq0.false, c.if-k-eq1.false)
 
 pub overflow_mul-x : goal.overflow_mul-x

@@ -9,8 +9,8 @@ use Rattle.buffers.proofs.messages_from.Goals as goal
 pub returns-then-s-j : goal.returns-then-s-j
 unfolding messages_in
 returns-then-s-j c =
-    let a = c.before.before.before.args in
-    simp (c.none.ensures, lt-ltb (length (drop a.j a.s.now)) 15 (omega (arith, c.before.if-s-j.true, length-drop a.j a.s.now)))
+    let a = c.args in
+    simp (c.none.ensures, lt-ltb (length (drop a.j a.s.now)) 15 (omega (arith, c.if-s-j.true, length-drop a.j a.s.now)))
 
 pub none-requires : goal.none-requires
 none-requires c = tt

@@ -10,7 +10,7 @@ use Rattle.buffers.proofs.put_candidates.Goals.{After-x-1}
 use Rattle.buffers.proofs.put_candidates.Goals as goal
 
 -- room for three more
-room : (c : After-x-1) → 3 * c.before.before.loop-k.k + 5 < length c.before.before.loop-k.s
+room : (c : After-x-1) → 3 * c.loop-k.k + 5 < length c.loop-k.s
 room c = omega (arith, c.loop-k-test.true, c.loop-k.invariant.1)
 
 pub loop-k-preserved : goal.loop-k-preserved

@@ -7,44 +7,44 @@ use Rattle.cell.proofs.band_refusal.Goals as goal
 
 pub returns-then-not-c : goal.returns-then-not-c
 unfolding band_refusal
-returns-then-not-c c = simp (lt-ltb _ _ c.before.before.before.before.if-c-lt2.true, c.if-not-c.true)
+returns-then-not-c c = simp (lt-ltb _ _ c.if-c-lt2.true, c.if-not-c.true)
 
 pub returns-then-not-c-2 : goal.returns-then-not-c-2
 unfolding band_refusal
 returns-then-not-c-2 c =
-    let e2 = c.before.before.before in
-    simp (lt-ltb _ _ e2.before.before.before.before.if-c-lt2.true, e2.if-not-c.false, c.if-not-c-2.true)
+    let e2 = c in
+    simp (lt-ltb _ _ e2.if-c-lt2.true, e2.if-not-c.false, c.if-not-c-2.true)
 
 pub returns-then-c : goal.returns-then-c
 unfolding band_refusal
 returns-then-c c =
-    let e3 = c.before.before.before in
-    let e2 = e3.before.before.before in
-    simp (lt-ltb _ _ e2.before.before.before.before.if-c-lt2.true, e2.if-not-c.false, e3.if-not-c-2.false, c.if-c.true)
+    let e3 = c in
+    let e2 = e3 in
+    simp (lt-ltb _ _ e2.if-c-lt2.true, e2.if-not-c.false, e3.if-not-c-2.false, c.if-c.true)
 
 pub returns-then-c-lt2 : goal.returns-then-c-lt2
 unfolding band_refusal
 returns-then-c-lt2 c =
-    let e3 = c.before.before.before in
-    let e2 = e3.before.before.before in
-    simp (lt-ltb _ _ e2.before.before.before.before.if-c-lt2.true, e2.if-not-c.false, e3.if-not-c-2.false, c.if-c.false)
+    let e3 = c in
+    let e2 = e3 in
+    simp (lt-ltb _ _ e2.if-c-lt2.true, e2.if-not-c.false, e3.if-not-c-2.false, c.if-c.false)
 
 pub returns-then-c-ne0 : goal.returns-then-c-ne0
 unfolding band_refusal
-returns-then-c-ne0 c = simp (le-ltb _ _ c.before.before.if-c-lt2.false, ne_eqb _ _ c.if-c-ne0.true)
+returns-then-c-ne0 c = simp (le-ltb _ _ c.if-c-lt2.false, ne_eqb _ _ c.if-c-ne0.true)
 
 pub returns-then-c-ne0-2 : goal.returns-then-c-ne0-2
 unfolding band_refusal
 returns-then-c-ne0-2 c =
-    let e5 = c.before.before in
-    simp (le-ltb _ _ e5.before.before.if-c-lt2.false, eq-eqb _ _ e5.if-c-ne0.false, ne_eqb _ _ c.if-c-ne0-2.true)
+    let e5 = c in
+    simp (le-ltb _ _ e5.if-c-lt2.false, eq-eqb _ _ e5.if-c-ne0.false, ne_eqb _ _ c.if-c-ne0-2.true)
 
 pub returns : goal.returns
 unfolding band_refusal
 returns c =
-    let e5 = c.before.before in
-    let e1 = e5.before.before in
-    let mode = e1.before.before.args.c.mode in
+    let e5 = c in
+    let e1 = e5 in
+    let mode = e1.args.c.mode in
     simp (
       le-ltb _ _ e1.if-c-lt2.false,
       eq-eqb _ _ e5.if-c-ne0.false,

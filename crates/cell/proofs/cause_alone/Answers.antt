@@ -8,7 +8,7 @@ cause_own-requires c = tt
 
 pub returns-then-c-eq0 : goal.returns-then-c-eq0
 unfolding judge_of cause_of
-returns-then-c-eq0 c = λ ms silent. rw (eq-eqb _ _ c.before.if-c-eq0.true) (c.cause_own.ensures ms silent)
+returns-then-c-eq0 c = λ ms silent. rw (eq-eqb _ _ c.if-c-eq0.true) (c.cause_own.ensures ms silent)
 
 pub cause_own-requires-2 : goal.cause_own-requires-2
 unfolding judge_of cause_of
@@ -16,4 +16,4 @@ cause_own-requires-2 c = tt
 
 pub returns : goal.returns
 unfolding judge_of cause_of
-returns c = λ ms silent. rw (ne_eqb _ _ c.before.if-c-eq0.false) (c.cause_own-2.ensures ms silent)
+returns c = λ ms silent. rw (ne_eqb _ _ c.if-c-eq0.false) (c.cause_own-2.ensures ms silent)

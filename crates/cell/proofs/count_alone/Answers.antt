@@ -10,7 +10,7 @@ count_own-requires c = tt
 
 pub returns-then-c-eq0 : goal.returns-then-c-eq0
 unfolding judge_of element_count_of count_after
-returns-then-c-eq0 c = λ ms silent. rw (eq-eqb _ _ c.before.if-c-eq0.true) (c.count_own.ensures ms silent)
+returns-then-c-eq0 c = λ ms silent. rw (eq-eqb _ _ c.if-c-eq0.true) (c.count_own.ensures ms silent)
 
 pub count_own-requires-2 : goal.count_own-requires-2
 unfolding judge_of element_count_of count_after
@@ -18,4 +18,4 @@ count_own-requires-2 c = tt
 
 pub returns : goal.returns
 unfolding judge_of element_count_of count_after
-returns c = λ ms silent. rw (ne_eqb _ _ c.before.if-c-eq0.false) (c.count_own-2.ensures ms silent)
+returns c = λ ms silent. rw (ne_eqb _ _ c.if-c-eq0.false) (c.count_own-2.ensures ms silent)

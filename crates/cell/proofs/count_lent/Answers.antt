@@ -15,7 +15,7 @@ count_alone-requires c = tt
 
 pub returns-then-is_silent : goal.returns-then-is_silent
 unfolding judge_of element_count_of count_after
-returns-then-is_silent c = let t = c.before in c.count_alone.ensures _ (sym t.before.is_silent.ensures ∙ t.if-is_silent.true)
+returns-then-is_silent c = let t = c in c.count_alone.ensures _ (sym t.is_silent.ensures ∙ t.if-is_silent.true)
 
 pub judged_beside-requires : goal.judged_beside-requires
 unfolding judge_of element_count_of count_after
@@ -27,4 +27,4 @@ counted-requires c = λ z. accepted_numbers _ _ _ (sym c.judged_beside.ensures.n
 
 pub returns : goal.returns
 unfolding judge_of element_count_of count_after
-returns c = simp (c.counted.ensures, c.before.judged_beside.ensures.number)
+returns c = simp (c.counted.ensures, c.judged_beside.ensures.number)

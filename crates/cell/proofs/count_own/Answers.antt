@@ -8,7 +8,7 @@ use Rattle.cell.proofs.count_own.Goals as goal
 pub returns-then-no-ne0 : goal.returns-then-no-ne0
 unfolding count_after
 returns-then-no-ne0 c =
-    simp (← config_first _ _ _ c.before.config_refusal-no.ensures c.if-no-ne0.true ms silent, ne_eqb _ _ c.if-no-ne0.true)
+    simp (← config_first _ _ _ c.config_refusal-no.ensures c.if-no-ne0.true ms silent, ne_eqb _ _ c.if-no-ne0.true)
 
 pub config_refusal-no-requires : goal.config_refusal-no-requires
 config_refusal-no-requires c = tt

@@ -21,10 +21,10 @@ valid c = let e = c in subst Valid (sym c.layout.ensures) (layout_valid _ (e.req
 pub returns : goal.returns
 unfolding count_after
 returns c =
-    let l = c.before in
-    let e = l.before in
+    let l = c in
+    let e = l in
     let counted = c.count.ensures ∙ ap (λ (g : Layout). count_of g 0 subcarriers) l.layout.ensures in
-    simp (eq-eqb _ _ e.if-no-ne0.false, counted, all_used (layout_of e.before.args.c))
+    simp (eq-eqb _ _ e.if-no-ne0.false, counted, all_used (layout_of e.args.c))
 
 pub layout-requires : goal.layout-requires
 layout-requires c = tt

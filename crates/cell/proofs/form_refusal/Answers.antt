@@ -4,21 +4,21 @@ use Rattle.cell.proofs.form_refusal.Goals as goal
 
 pub returns-then-no-ne0 : goal.returns-then-no-ne0
 unfolding form_refusal
-returns-then-no-ne0 c = simp (← c.before.config_refusal-no.ensures, ne_eqb _ _ c.if-no-ne0.true)
+returns-then-no-ne0 c = simp (← c.config_refusal-no.ensures, ne_eqb _ _ c.if-no-ne0.true)
 
 pub returns-then-not-are_listed : goal.returns-then-not-are_listed
 unfolding form_refusal
 returns-then-not-are_listed c =
-    let m = c.before.before in
-    let e1 = m.before in
-    simp (← e1.before.config_refusal-no.ensures, eq-eqb _ _ e1.if-no-ne0.false, ← m.messages_in.ensures, ← c.before.are_listed.ensures, c.if-not-are_listed.true)
+    let m = c in
+    let e1 = m in
+    simp (← e1.config_refusal-no.ensures, eq-eqb _ _ e1.if-no-ne0.false, ← m.messages_in.ensures, ← c.are_listed.ensures, c.if-not-are_listed.true)
 
 pub returns : goal.returns
 unfolding form_refusal
 returns c =
-    let m = c.before.before in
-    let e1 = m.before in
-    simp (← e1.before.config_refusal-no.ensures, eq-eqb _ _ e1.if-no-ne0.false, ← m.messages_in.ensures, ← c.before.are_listed.ensures, c.if-not-are_listed.false)
+    let m = c in
+    let e1 = m in
+    simp (← e1.config_refusal-no.ensures, eq-eqb _ _ e1.if-no-ne0.false, ← m.messages_in.ensures, ← c.are_listed.ensures, c.if-not-are_listed.false)
 
 pub config_refusal-no-requires : goal.config_refusal-no-requires
 config_refusal-no-requires c = tt

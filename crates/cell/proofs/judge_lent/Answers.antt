@@ -13,9 +13,9 @@ judge_alone-requires c = tt
 pub returns-then-c-eq0 : goal.returns-then-c-eq0
 unfolding judge_of
 returns-then-c-eq0 c =
-    let b = c.before in
-    let t = b.before.before in
-    rw (eq-eqb _ _ b.if-c-eq0.true) (c.judge_alone.ensures _ (t.before.are_none.ensures t.if-are_none.true))
+    let b = c in
+    let t = b in
+    rw (eq-eqb _ _ b.if-c-eq0.true) (c.judge_alone.ensures _ (t.are_none.ensures t.if-are_none.true))
 
 pub judge_alone-requires-then-are_none : goal.judge_alone-requires-then-are_none
 unfolding judge_of
@@ -24,9 +24,9 @@ judge_alone-requires-then-are_none c = tt
 pub returns-then-are_none : goal.returns-then-are_none
 unfolding judge_of
 returns-then-are_none c =
-    let b = c.before in
-    let t = b.before.before in
-    rw (ne_eqb _ _ b.if-c-eq0.false) (c.judge_alone-then-are_none.ensures _ (t.before.are_none.ensures t.if-are_none.true))
+    let b = c in
+    let t = b in
+    rw (ne_eqb _ _ b.if-c-eq0.false) (c.judge_alone-then-are_none.ensures _ (t.are_none.ensures t.if-are_none.true))
 
 pub judged_with-requires : goal.judged_with-requires
 unfolding judge_of
@@ -34,7 +34,7 @@ judged_with-requires c = tt
 
 pub returns-then-c-eq0-2 : goal.returns-then-c-eq0-2
 unfolding judge_of
-returns-then-c-eq0-2 c = rw (eq-eqb _ _ c.before.if-c-eq0-2.true) c.judged_with.ensures.number
+returns-then-c-eq0-2 c = rw (eq-eqb _ _ c.if-c-eq0-2.true) c.judged_with.ensures.number
 
 pub judged_with-requires-2 : goal.judged_with-requires-2
 unfolding judge_of
@@ -42,4 +42,4 @@ judged_with-requires-2 c = tt
 
 pub returns : goal.returns
 unfolding judge_of
-returns c = rw (ne_eqb _ _ c.before.if-c-eq0-2.false) c.judged_with-2.ensures.number
+returns c = rw (ne_eqb _ _ c.if-c-eq0-2.false) c.judged_with-2.ensures.number

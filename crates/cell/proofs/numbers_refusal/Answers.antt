@@ -12,13 +12,13 @@ use Rattle.cell.proofs.numbers_refusal.Goals as goal
 
 pub returns-then-c-gt503 : goal.returns-then-c-gt503
 unfolding numbers_refusal
-returns-then-c-gt503 c = simp (c.before.before.if-c.false, lt-ltb _ _ c.if-c-gt503.true)
+returns-then-c-gt503 c = simp (c.if-c.false, lt-ltb _ _ c.if-c-gt503.true)
 
 pub returns-then-not-c : goal.returns-then-not-c
 unfolding numbers_refusal
 returns-then-not-c c =
-    let e2 = c.before.before.before in
-    simp (e2.before.before.if-c.false, le-ltb _ _ e2.if-c-gt503.false, c.if-not-c.true)
+    let e2 = c in
+    simp (e2.if-c.false, le-ltb _ _ e2.if-c-gt503.false, c.if-not-c.true)
 
 -- what follows three tests, in two parts
 parted : (a b d : Bool) (x : ℕ) → cond a 4 (cond b 5 (cond d 24 x))

@@ -15,8 +15,8 @@ is_npbch-requires c = tt
 pub returns-then-is_npbch : goal.returns-then-is_npbch
 unfolding why_not_free anchor_cause
 returns-then-is_npbch c =
-    let a = c.before in
-    simp (eq-eqb _ _ a.before.if-c-ne0.false, ← a.is_npbch.ensures, c.if-is_npbch.true)
+    let a = c in
+    simp (eq-eqb _ _ a.if-c-ne0.false, ← a.is_npbch.ensures, c.if-is_npbch.true)
 
 pub is_npss-requires : goal.is_npss-requires
 unfolding why_not_free anchor_cause
@@ -25,9 +25,9 @@ is_npss-requires c = tt
 pub returns-then-is_npss : goal.returns-then-is_npss
 unfolding why_not_free anchor_cause
 returns-then-is_npss c =
-    let b = c.before in
-    let a = b.before.before in
-    simp (eq-eqb _ _ a.before.if-c-ne0.false, ← a.is_npbch.ensures, b.before.if-is_npbch.false, ← b.is_npss.ensures, c.if-is_npss.true)
+    let b = c in
+    let a = b in
+    simp (eq-eqb _ _ a.if-c-ne0.false, ← a.is_npbch.ensures, b.if-is_npbch.false, ← b.is_npss.ensures, c.if-is_npss.true)
 
 pub is_nsss-requires : goal.is_nsss-requires
 unfolding why_not_free anchor_cause
@@ -36,15 +36,15 @@ is_nsss-requires c = tt
 pub returns-then-is_nsss : goal.returns-then-is_nsss
 unfolding why_not_free anchor_cause
 returns-then-is_nsss c =
-    let d = c.before in
-    let b = d.before.before in
-    let a = b.before.before in
+    let d = c in
+    let b = d in
+    let a = b in
     simp (
-      eq-eqb _ _ a.before.if-c-ne0.false,
+      eq-eqb _ _ a.if-c-ne0.false,
       ← a.is_npbch.ensures,
-      b.before.if-is_npbch.false,
+      b.if-is_npbch.false,
       ← b.is_npss.ensures,
-      d.before.if-is_npss.false,
+      d.if-is_npss.false,
       ← d.is_nsss.ensures,
       c.if-is_nsss.true,
     )
@@ -56,18 +56,18 @@ is_sib1-requires c = tt
 pub returns-then-is_sib1 : goal.returns-then-is_sib1
 unfolding why_not_free anchor_cause
 returns-then-is_sib1 c =
-    let e = c.before in
-    let d = e.before.before in
-    let b = d.before.before in
-    let a = b.before.before in
+    let e = c in
+    let d = e in
+    let b = d in
+    let a = b in
     simp (
-      eq-eqb _ _ a.before.if-c-ne0.false,
+      eq-eqb _ _ a.if-c-ne0.false,
       ← a.is_npbch.ensures,
-      b.before.if-is_npbch.false,
+      b.if-is_npbch.false,
       ← b.is_npss.ensures,
-      d.before.if-is_npss.false,
+      d.if-is_npss.false,
       ← d.is_nsss.ensures,
-      e.before.if-is_nsss.false,
+      e.if-is_nsss.false,
       ← e.is_sib1.ensures,
       c.if-is_sib1.true,
     )
@@ -75,18 +75,18 @@ returns-then-is_sib1 c =
 pub returns : goal.returns
 unfolding why_not_free anchor_cause
 returns c =
-    let e = c.before in
-    let d = e.before.before in
-    let b = d.before.before in
-    let a = b.before.before in
+    let e = c in
+    let d = e in
+    let b = d in
+    let a = b in
     simp (
-      eq-eqb _ _ a.before.if-c-ne0.false,
+      eq-eqb _ _ a.if-c-ne0.false,
       ← a.is_npbch.ensures,
-      b.before.if-is_npbch.false,
+      b.if-is_npbch.false,
       ← b.is_npss.ensures,
-      d.before.if-is_npss.false,
+      d.if-is_npss.false,
       ← d.is_nsss.ensures,
-      e.before.if-is_nsss.false,
+      e.if-is_nsss.false,
       ← e.is_sib1.ensures,
       c.if-is_sib1.false,
     )

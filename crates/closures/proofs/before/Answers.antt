@@ -10,7 +10,7 @@ use Rattle.closures.proofs.before.Goals.{After-descend-m1}
 use Rattle.closures.proofs.before.Goals as goal
 
 -- what was counted on the way down, and what is left to count
-counted : (c : After-descend-m1) → c.descend-m1.result.sum + c.descend-m1.result.at ≡ count_before c.before.before.before.before.args.nested c.before.before.before.before.args.t
+counted : (c : After-descend-m1) → c.descend-m1.result.sum + c.descend-m1.result.at ≡ count_before c.args.nested c.args.t
 counted c =
     let c3 = c in
     let c2 = c3 in

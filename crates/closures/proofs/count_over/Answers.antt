@@ -7,7 +7,7 @@ use Rattle.closures.specs.Quick.{count_before}
 use Rattle.closures.proofs.count_over.Goals.{Else-closed-eq0, After-before-2}
 use Rattle.closures.proofs.count_over.Goals as goal
 
-pos : (c : Else-closed-eq0) → 0 < c.before.args.b.closed
+pos : (c : Else-closed-eq0) → 0 < c.args.b.closed
 pos c = omega arith
 
 -- from where a period of the closure begins

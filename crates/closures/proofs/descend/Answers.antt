@@ -10,7 +10,7 @@ use Rattle.closures.proofs.descend.Goals as goal
 
 -- whole periods hold no more than their numbers
 fits : (c : Else-closed-eq0)
-    → let a = c.before.args in
+    → let a = c.args in
     (a.m.at + a.b.phase) / a.b.period * a.c.per ≤ a.m.at + a.b.phase
 fits c =
     let a = c.args in
@@ -20,7 +20,7 @@ fits c =
       mul-le-mul_left ((a.m.at + a.b.phase) / a.b.period) c.requires.0.per_small,
     )
 
-small : (c : After-most) → c.most.result + c.before.before.args.c.shift < 2 ^ 50
+small : (c : After-most) → c.most.result + c.args.c.shift < 2 ^ 50
 small c =
     let s = c in
     omega (
@@ -34,7 +34,7 @@ small c =
 
 pub returns-then-closed-eq0 : goal.returns-then-closed-eq0
 unfolding descend_of
-returns-then-closed-eq0 c = (rw (eq-eqb c.before.args.b.closed 0 c.if-closed-eq0.true) refl, c.before.requires.1, omega arith)
+returns-then-closed-eq0 c = (rw (eq-eqb c.args.b.closed 0 c.if-closed-eq0.true) refl, c.requires.1, omega arith)
 
 pub overflow_add-y : goal.overflow_add-y
 unfolding descend_of
@@ -58,19 +58,19 @@ overflow_add-result c = omega (arith, small c)
 
 pub overflow_mul-result : goal.overflow_mul-result
 unfolding descend_of
-overflow_mul-result c = omega (arith, fits c.before, c.before.before.requires)
+overflow_mul-result c = omega (arith, fits c.before, c.requires)
 
 pub overflow_add-result-2 : goal.overflow_add-result-2
 unfolding descend_of
-overflow_add-result-2 c = omega (arith, fits c.before, c.before.before.requires)
+overflow_add-result-2 c = omega (arith, fits c.before, c.requires)
 
 pub returns : goal.returns
 unfolding descend_of
 returns c = (
-      rw (ne_eqb c.before.before.args.b.closed 0 c.before.if-closed-eq0.false) (let a = c.before.before.args in λ j. record {
+      rw (ne_eqb c.args.b.closed 0 c.if-closed-eq0.false) (let a = c.args in λ j. record {
         at = c.most.ensures j + a.c.shift;
         sum = a.m.sum + (a.m.at + a.b.phase) / a.b.period * a.c.per;
       }),
       small c,
-      omega (arith, fits c.before, c.before.before.requires),
+      omega (arith, fits c.before, c.requires),
     )

@@ -13,7 +13,7 @@ module _ (c : Start) where
 
 index : (c : After-is_free)
     → let s = c.before.before in
-    s.args.y / s.args.cycle.length * s.args.cycle.free + c.before.count_free-before.result ≤ s.args.y
+    s.args.y / s.args.cycle.length * s.args.cycle.free + c.count_free-before.result ≤ s.args.y
 index c = let s = c in index_fits _ _ s.requires.3 s.args.t s.args.y _ c.count_free-before.ensures.1
 
 pub nonzero_div-whole : goal.nonzero_div-whole

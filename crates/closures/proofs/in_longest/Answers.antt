@@ -10,7 +10,7 @@ use Rattle.closures.proofs.in_longest.Goals as goal
 
 -- what the two counts differ by
 by : (c : After-before-3)
-    → let nested = c.before.before.args.nested in
+    → let nested = c.args.nested in
     c.before.before-2.result ≡ c.before-3.result + rank (clear nested.closures) nested.closures.b4.period
 by c =
     let s = c in

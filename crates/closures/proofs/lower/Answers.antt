@@ -5,8 +5,8 @@ use Rattle.closures.proofs.lower.Goals as goal
 
 pub returns-then-p-q : goal.returns-then-p-q
 unfolding lower_of
-returns-then-p-q c = rw (le-leb c.before.args.a.period c.before.args.b.period c.if-p-q.true) refl
+returns-then-p-q c = rw (le-leb c.args.a.period c.args.b.period c.if-p-q.true) refl
 
 pub returns : goal.returns
 unfolding lower_of
-returns c = rw (lt-leb c.before.args.a.period c.before.args.b.period c.if-p-q.false) refl
+returns c = rw (lt-leb c.args.a.period c.args.b.period c.if-p-q.false) refl

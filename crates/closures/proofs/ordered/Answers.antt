@@ -20,10 +20,10 @@ module _ (c : After-upper-high2) where
   abbrev b : Closures
   b = given.args.b
 
-  low_1 : h1.before.before.lower-low1.result ≡ lower_of (capped_of b.b1) (capped_of b.b2)
+  low_1 : h1.lower-low1.result ≡ lower_of (capped_of b.b1) (capped_of b.b2)
   low_1 = h1.lower-low1.ensures ∙ ap₂ lower_of k.capped-b1.ensures k.capped-b2.ensures
 
-  low_2 : h1.before.lower-low2.result ≡ lower_of (capped_of b.b3) (capped_of b.b4)
+  low_2 : h1.lower-low2.result ≡ lower_of (capped_of b.b3) (capped_of b.b4)
   low_2 = h1.lower-low2.ensures ∙ ap₂ lower_of k.capped-b3.ensures k.capped-b4.ensures
 
   high_1 : h1.upper-high1.result ≡ upper_of (capped_of b.b1) (capped_of b.b2)
@@ -38,21 +38,21 @@ longest s r is test p1 p2 p3 p4 = ap (λ (x : Closures). test x.b4.period) is �
 pub returns : goal.returns
 unfolding network_of
 returns c =
-    let c4 = c.before in
-    let c3 = c4.before in
-    let c2 = c3.before in
-    let m2 = c2.before in
-    let m1 = m2.before in
-    let h = m1.before in
-    let s = given h in
-    let mid1 = m1.upper-mid1.ensures ∙ ap₂ upper_of (low_1 h) (low_2 h) in
-    let mid2 = m2.lower-mid2.ensures ∙ ap₂ lower_of (high_1 h) (high_2 h) in
+    let c4 = c in
+    let c3 = c4 in
+    let c2 = c3 in
+    let m2 = c2 in
+    let m1 = m2 in
+    let h = m1 in
+    let s = given h.before.before.before.before.before.before in
+    let mid1 = m1.upper-mid1.ensures ∙ ap₂ upper_of (low_1 h.before.before.before.before.before.before) (low_2 h.before.before.before.before.before.before) in
+    let mid2 = m2.lower-mid2.ensures ∙ ap₂ lower_of (high_1 h.before.before.before.before.before.before) (high_2 h.before.before.before.before.before.before) in
     let is : record { b1 = c2.lower.result; b2 = c3.lower-2.result; b3 = c4.upper.result; b4 = c.upper-2.result } ≡ ordered_of s.args.b =
     λ j. record {
-      b1 = (c2.lower.ensures ∙ ap₂ lower_of (low_1 h) (low_2 h)) j;
+      b1 = (c2.lower.ensures ∙ ap₂ lower_of (low_1 h.before.before.before.before.before.before) (low_2 h.before.before.before.before.before.before)) j;
       b2 = (c3.lower-2.ensures ∙ ap₂ lower_of mid1 mid2) j;
       b3 = (c4.upper.ensures ∙ ap₂ upper_of mid1 mid2) j;
-      b4 = (c.upper-2.ensures ∙ ap₂ upper_of (high_1 h) (high_2 h)) j;
+      b4 = (c.upper-2.ensures ∙ ap₂ upper_of (high_1 h.before.before.before.before.before.before) (high_2 h.before.before.before.before.before.before)) j;
     } in
     (subst Sorted (sym is) (ordered_sorted s.args.b s.requires.0 s.requires.1), λ t. ap (λ (x : Closures). clear x t) is ∙ ordered_clear s.args.b s.requires.0 s.requires.1 t, longest s _ is)
 

@@ -24,7 +24,7 @@ module _ (c : Joined-left-j) where
   free = is_free s.args.gap s.args.nested.closures
 
   -- the i-th of it, as one of all n
-  held : (i j m : ℕ) → i < c.before.gap_period_at-gap_period.result.here → rank free l.loop-at.at + i ≡ rank free s.args.t + j → m ≡ c.before.gap_period_at-gap_period.result.from + i
+  held : (i j m : ℕ) → i < c.gap_period_at-gap_period.result.here → rank free l.loop-at.at + i ≡ rank free s.args.t + j → m ≡ c.gap_period_at-gap_period.result.from + i
       → Held s.args.gap s.args.nested s.args.t (s.args.t + s.args.n) j m
   held i j m h e f =
       let r = c.gap_period_at-gap_period.ensures in
@@ -38,7 +38,7 @@ module _ (c : Joined-left-j) where
       }
 
   -- the first of all: in this period if all j are left, else in one before
-  first : l.loop-at.left < s.args.j + c.before.gap_period_at-gap_period.result.here
+  first : l.loop-at.left < s.args.j + c.gap_period_at-gap_period.result.here
       → Held s.args.gap s.args.nested s.args.t (s.args.t + s.args.n) 0 c.if-left-j.first
   first h =
       ⊎_elim (λ w. held 0 0 c.if-left-j.first (omega (arith, w.0.true)) (omega (arith, w.0.true, l.loop-at.invariant.3)) (omega (arith, w.1)))
@@ -51,7 +51,7 @@ module _ (c : Then-left-here) where
   abbrev b : Joined-left-j
   b = c.before
 
-  last : Held (s b).args.gap (s b).args.nested (s b).args.t ((s b).args.t + (s b).args.n) (s b).args.j (b.before.gap_period_at-gap_period.result.from + (l b).loop-at.left)
+  last : Held (s b).args.gap (s b).args.nested (s b).args.t ((s b).args.t + (s b).args.n) (s b).args.j (b.gap_period_at-gap_period.result.from + (l b).loop-at.left)
   last = held b (l b).loop-at.left (s b).args.j _ c.if-left-here.true (l b).loop-at.invariant.3 refl
 
   small : last.x < 2 ^ 48

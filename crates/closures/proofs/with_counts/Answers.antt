@@ -6,27 +6,27 @@ use Rattle.closures.proofs.with_counts.Goals.{After-count_over-c1, After-count_o
 use Rattle.closures.proofs.with_counts.Goals as goal
 
 -- what each count-over has over those below it
-over1 : (c : After-count_over-c1) → let b = c.before.before.before.before.before.before.before.args.b in 0 < b.b1.closed → CountsOver b.b1 (λ t. t) c.count_over-c1.result
+over1 : (c : After-count_over-c1) → let b = c.args.b in 0 < b.b1.closed → CountsOver b.b1 (λ t. t) c.count_over-c1.result
 unfolding count_over
 over1 c = rw (c.none.ensures, c.no_count-zero.ensures) at c.count_over-c1.ensures.1
 
 over2 : (c : After-count_over-c2)
-    → let b = c.before.before.before.before.before.before.before.before.args.b in
-    0 < b.b2.closed → CountsOver b.b2 (count_over b.b1 c.before.count_over-c1.result (λ t. t)) c.count_over-c2.result
+    → let b = c.args.b in
+    0 < b.b2.closed → CountsOver b.b2 (count_over b.b1 c.count_over-c1.result (λ t. t)) c.count_over-c2.result
 unfolding count_over
 over2 c = rw (c.idle-idle.ensures, c.no_count-zero.ensures) at c.count_over-c2.ensures.1
 
 over3 : (c : After-count_over-c3)
-    → let b = c.before.before.before.before.before.before.before.before.before.args.b in
-    0 < b.b3.closed → CountsOver b.b3 (count_over b.b2 c.before.count_over-c2.result (count_over b.b1 c.before.before.count_over-c1.result (λ t. t))) c.count_over-c3.result
+    → let b = c.args.b in
+    0 < b.b3.closed → CountsOver b.b3 (count_over b.b2 c.count_over-c2.result (count_over b.b1 c.count_over-c1.result (λ t. t))) c.count_over-c3.result
 unfolding count_over
 over3 c = rw (c.idle-idle.ensures, c.no_count-zero.ensures) at c.count_over-c3.ensures.1
 
 over4 : (c : After-count_over-c4)
-    → let b = c.before.before.before.before.before.before.before.before.before.before.args.b in
+    → let b = c.args.b in
     0 < b.b4.closed
     → CountsOver b.b4
-    (count_over b.b3 c.before.count_over-c3.result (count_over b.b2 c.before.before.count_over-c2.result (count_over b.b1 c.before.before.before.count_over-c1.result (λ t. t))))
+    (count_over b.b3 c.count_over-c3.result (count_over b.b2 c.count_over-c2.result (count_over b.b1 c.count_over-c1.result (λ t. t))))
     c.count_over-c4.result
 unfolding count_over
 over4 c = rw (c.idle-idle.ensures, c.no_count-zero.ensures) at c.count_over-c4.ensures.1
@@ -34,16 +34,16 @@ over4 c = rw (c.idle-idle.ensures, c.no_count-zero.ensures) at c.count_over-c4.e
 pub count_over-c1-requires : goal.count_over-c1-requires
 unfolding count_over
 count_over-c1-requires c =
-    let so = c.before.before.before.before.before.before.requires in
-    rw (c.none.ensures, c.before.no_count-zero.ensures)
+    let so = c.requires in
+    rw (c.none.ensures, c.no_count-zero.ensures)
     (so.usable.u1, so.c1, record { r1 = idle_ranged; r2 = idle_ranged; r3 = idle_ranged; r4 = idle_ranged }, count_slow _ _ counts_all)
 
 pub count_over-c2-requires : goal.count_over-c2-requires
 unfolding count_over
 count_over-c2-requires c =
-    let s = c.before.before.before.before.before.before.before in
+    let s = c in
     let so = s.requires in
-    rw (c.before.before.before.idle-idle.ensures, c.before.before.no_count-zero.ensures) (
+    rw (c.idle-idle.ensures, c.no_count-zero.ensures) (
       so.usable.u2,
       so.c2,
       record { r1 = c.count_over-c1.ensures.0; r2 = idle_ranged; r3 = idle_ranged; r4 = idle_ranged },
@@ -53,25 +53,25 @@ count_over-c2-requires c =
 pub count_over-c3-requires : goal.count_over-c3-requires
 unfolding count_over
 count_over-c3-requires c =
-    let s = c.before.before.before.before.before.before.before.before in
+    let s = c in
     let so = s.requires in
-    rw (c.before.before.before.before.idle-idle.ensures, c.before.before.before.no_count-zero.ensures) (
+    rw (c.idle-idle.ensures, c.no_count-zero.ensures) (
       so.usable.u3,
       so.c3,
-      record { r1 = c.before.count_over-c1.ensures.0; r2 = c.count_over-c2.ensures.0; r3 = idle_ranged; r4 = idle_ranged },
+      record { r1 = c.count_over-c1.ensures.0; r2 = c.count_over-c2.ensures.0; r3 = idle_ranged; r4 = idle_ranged },
       count_slow _ _ (counts2 s.args.b so _ (over1 c.before) _ (over2 c)),
     )
 
 pub count_over-c4-requires : goal.count_over-c4-requires
 unfolding count_over
 count_over-c4-requires c =
-    let s = c.before.before.before.before.before.before.before.before.before in
+    let s = c in
     let so = s.requires in
-    rw (c.before.before.before.before.before.idle-idle.ensures, c.before.before.before.before.no_count-zero.ensures) (
+    rw (c.idle-idle.ensures, c.no_count-zero.ensures) (
       so.usable.u4,
       so.c4,
-      record { r1 = c.before.before.count_over-c1.ensures.0; r2 = c.before.count_over-c2.ensures.0; r3 = c.count_over-c3.ensures.0; r4 = idle_ranged },
-      count_slow _ _ (counts3 s.args.b so _ (over1 c.before.before) _ (over2 c.before) _ (over3 c)),
+      record { r1 = c.count_over-c1.ensures.0; r2 = c.count_over-c2.ensures.0; r3 = c.count_over-c3.ensures.0; r4 = idle_ranged },
+      count_slow _ _ (counts3 s.args.b so _ (over1 c.before.before.before) _ (over2 c.before.before) _ (over3 c.before)),
     )
 
 pub returns : goal.returns

@@ -21,15 +21,16 @@ use Rattle.downlink.specs.Mapping.{sent_subframes, first_of, sending_of}
 use Rattle.downlink.specs.Answers.{inside_grid}
 use Rattle.downlink.proofs.Joined.{inside_parts, backward_unsent, backward_sent}
 use Rattle.downlink.proofs.Skipped.{joined, outside_none, unmissed_none, missed_why, sent_none}
-use Rattle.downlink.proofs.burst_backward.Goals.{Else-not-inside, Start, After-locate-found, In-At-2}
+use Rattle.downlink.proofs.burst_backward.Goals.{Start}
+use Rattle.downlink.proofs.burst_backward.Tie as tie
 use Rattle.downlink.proofs.burst_backward.Goals as goal
 
 -- inside the grid
-module _ (c : Else-not-inside) where
-  inside : inside_grid c.before.before.args.slot c.before.before.args.l c.before.before.args.k ≡ true
+module _ (c : tie.Else-not-inside) where
+  inside : inside_grid c.args.slot c.args.l c.args.k ≡ true
   inside = not-false _ c.if-not-inside.false
 
-  parts : (c.before.before.args.slot < slots) × (c.before.before.args.l < symbols) × (c.before.before.args.k < subcarriers)
+  parts : (c.args.slot < slots) × (c.args.l < symbols) × (c.args.k < subcarriers)
   parts = inside_parts c.args.slot c.args.l c.args.k inside
 
 -- the subframes that are searched
@@ -44,13 +45,13 @@ saw s = seen (lent_cell s.args.c s.args.si.now) s.args.p s.args.laid
 abbrev found : Start → Found
 found s = found_among (left s) all_periods (first_of (left s) all_periods s.args.b) (sent_subframes s.args.b) s.args.t
 
-searched : (c : After-locate-found) → c.locate-found.result ≡ found c.before.before.before.before
+searched : (c : tie.After-locate-found) → c.locate-found.result ≡ found c.before.before.before.before
 searched c =
     let s = c in
-    c.locate-found.ensures ∙ ap (λ (n : ℕ). found_among (left s) all_periods (first_of (left s) all_periods s.args.b) n s.args.t) c.sent_subframes-sent.ensures.0
+    c.locate-found.ensures ∙ ap (λ (n : ℕ). found_among (left s.before.before.before.before) all_periods (first_of (left s.before.before.before.before) all_periods s.args.b) n s.args.t) c.sent_subframes-sent.ensures.0
 
 -- at index i
-at : (c : In-At-2) → found c.before.before.before.before.before.before ≡ At c.found-1.given.0.0
+at : (c : tie.In-At-2) → found c.before.before.before.before.before.before ≡ At c.found-1.given.0.0
 at c = sym (searched c.before.before) ∙ c.found-1.given.1
 
 -- the cause, by whether the subframe is left
@@ -72,16 +73,16 @@ returns-then-not-inside c =
     let a = s.args in
     let o = not-true _ f.if-not-inside.true in
     c.without_cause.ensures
-    ∙ joined (left s) all_periods (saw s) a.b a.t a.slot a.l a.k _ _ (f.refused.ensures ∙ sym (outside_at (sending_of (left s) all_periods a.b) _ a.t _ o))
-    (outside_none (left s) all_periods (saw s) a.b a.t a.slot a.l a.k o)
+    ∙ joined (left s.before.before.before.before.before) all_periods (saw s.before.before.before.before.before) a.b a.t a.slot a.l a.k _ _ (f.refused.ensures ∙ sym (outside_at (sending_of (left s.before.before.before.before.before) all_periods a.b) _ a.t _ o))
+    (outside_none (left s.before.before.before.before.before) all_periods (saw s.before.before.before.before.before) a.b a.t a.slot a.l a.k o)
 
 pub in_sent-requires : goal.in_sent-requires
 in_sent-requires c =
     let f = c in
     let s = f in
     let a = s in
-    let i = parts s.before.before.before.before.before in
-    (a.requires.1, omega (arith, at_below _ _ _ _ _ _ (at f.before), s.sent_subframes-sent.ensures.0, s.sent_subframes-sent.ensures.2), i.0, i.1, i.2)
+    let i = parts s.before.before.before.before.before.before in
+    (a.requires.1, omega (arith, at_below _ _ _ _ _ _ (at f.before.before), s.sent_subframes-sent.ensures.0, s.sent_subframes-sent.ensures.2), i.0, i.1, i.2)
 
 pub without_cause-requires-in-At : goal.without_cause-requires-in-At
 without_cause-requires-in-At c = tt
@@ -105,11 +106,11 @@ returns-in-At c =
     let e = f in
     let s = e in
     let a = s.args in
-    let i = at_index _ _ _ _ _ _ (at f.before.before.before) in
+    let i = at_index _ _ _ _ _ _ (at f.before.before.before.before) in
     c.without_cause-in-At.ensures
-    ∙ joined (left s) all_periods (saw s) a.b a.t a.slot a.l a.k _ _
-    (n.in_sent.ensures ∙ backward_sent _ _ a.b a.t a.slot a.l a.k (inside e.before.before.before.before.before.before.before) _ _ i.0 i.1 refl)
-    (sent_none (left s) all_periods (saw s) a.b a.t a.slot a.l a.k _ (by_pattern s.before.before.before.before.before.before.before.before.before) (inside e.before.before.before.before.before.before.before) i.0)
+    ∙ joined (left s.before.before.before.before.before.before.before.before.before.before) all_periods (saw s.before.before.before.before.before.before.before.before.before.before) a.b a.t a.slot a.l a.k _ _
+    (n.in_sent.ensures ∙ backward_sent _ _ a.b a.t a.slot a.l a.k (inside e.before.before.before.before.before.before.before.before) _ _ i.0 i.1 refl)
+    (sent_none (left s.before.before.before.before.before.before.before.before.before.before) all_periods (saw s.before.before.before.before.before.before.before.before.before.before) a.b a.t a.slot a.l a.k _ (by_pattern s.before.before.before.before.before.before.before.before.before.before) (inside e.before.before.before.before.before.before.before.before) i.0)
 
 pub returns-in-Between : goal.returns-in-Between
 returns-in-Between c =
@@ -118,10 +119,10 @@ returns-in-Between c =
     let e = l in
     let s = e in
     let a = s.args in
-    let m = at_between _ _ _ _ _ (sym (searched l.before.before.before.before) ∙ o.enum_told-1.given.1) in
-    joined (left s) all_periods (saw s) a.b a.t a.slot a.l a.k _ _
-    (o.not_ours.ensures ∙ backward_unsent _ _ a.b a.t a.slot a.l a.k (inside e.before.before.before.before.before.before) m.0)
-    (c.why_not.ensures ∙ missed_why (left s) all_periods (saw s) a.b a.t a.slot a.l a.k _ (by_pattern s.before.before.before.before.before.before.before.before) (inside e.before.before.before.before.before.before) m.1)
+    let m = at_between _ _ _ _ _ (sym (searched l.before.before.before.before.before) ∙ o.enum_told-1.given.1) in
+    joined (left s.before.before.before.before.before.before.before.before.before) all_periods (saw s.before.before.before.before.before.before.before.before.before) a.b a.t a.slot a.l a.k _ _
+    (o.not_ours.ensures ∙ backward_unsent _ _ a.b a.t a.slot a.l a.k (inside e.before.before.before.before.before.before.before) m.0)
+    (c.why_not.ensures ∙ missed_why (left s.before.before.before.before.before.before.before.before.before) all_periods (saw s.before.before.before.before.before.before.before.before.before) a.b a.t a.slot a.l a.k _ (by_pattern s.before.before.before.before.before.before.before.before.before) (inside e.before.before.before.before.before.before.before) m.1)
 
 pub returns-in-Nothing : goal.returns-in-Nothing
 returns-in-Nothing c =
@@ -130,8 +131,8 @@ returns-in-Nothing c =
     let e = l in
     let s = e in
     let a = s.args in
-    let m = at_nothing _ _ _ _ _ (sym (searched l.before.before.before.before) ∙ o.enum_told-in-Nothing-1.given.1) in
+    let m = at_nothing _ _ _ _ _ (sym (searched l.before.before.before.before.before) ∙ o.enum_told-in-Nothing-1.given.1) in
     c.without_cause-in-Nothing.ensures
-    ∙ joined (left s) all_periods (saw s) a.b a.t a.slot a.l a.k _ _
-    (o.not_ours-in-Nothing.ensures ∙ backward_unsent _ _ a.b a.t a.slot a.l a.k (inside e.before.before.before.before.before.before) m.0)
-    (unmissed_none (left s) all_periods (saw s) a.b a.t a.slot a.l a.k _ (by_pattern s.before.before.before.before.before.before.before.before) (inside e.before.before.before.before.before.before) m.1)
+    ∙ joined (left s.before.before.before.before.before.before.before.before.before) all_periods (saw s.before.before.before.before.before.before.before.before.before) a.b a.t a.slot a.l a.k _ _
+    (o.not_ours-in-Nothing.ensures ∙ backward_unsent _ _ a.b a.t a.slot a.l a.k (inside e.before.before.before.before.before.before.before) m.0)
+    (unmissed_none (left s.before.before.before.before.before.before.before.before.before) all_periods (saw s.before.before.before.before.before.before.before.before.before) a.b a.t a.slot a.l a.k _ (by_pattern s.before.before.before.before.before.before.before.before.before) (inside e.before.before.before.before.before.before.before) m.1)

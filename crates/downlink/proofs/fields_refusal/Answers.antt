@@ -8,19 +8,19 @@ returns-then-n-gt-LAST_SUBFRAME c = simp (lt-ltb _ _ c.if-n-gt-LAST_SUBFRAME.tru
 
 pub returns-then-above : goal.returns-then-above
 unfolding fields_refusal
-returns-then-above c = simp (le-ltb _ _ c.before.if-n-gt-LAST_SUBFRAME.false, c.if-above.true)
+returns-then-above c = simp (le-ltb _ _ c.if-n-gt-LAST_SUBFRAME.false, c.if-above.true)
 
 pub returns-then-not-is_repetition : goal.returns-then-not-is_repetition
 unfolding fields_refusal
 returns-then-not-is_repetition c =
-    let e2 = c.before.before in
-    simp (le-ltb _ _ e2.before.if-n-gt-LAST_SUBFRAME.false, e2.if-above.false, ← c.before.is_repetition.ensures, c.if-not-is_repetition.true)
+    let e2 = c in
+    simp (le-ltb _ _ e2.if-n-gt-LAST_SUBFRAME.false, e2.if-above.false, ← c.is_repetition.ensures, c.if-not-is_repetition.true)
 
 pub returns : goal.returns
 unfolding fields_refusal
 returns c =
-    let e2 = c.before.before in
-    simp (le-ltb _ _ e2.before.if-n-gt-LAST_SUBFRAME.false, e2.if-above.false, ← c.before.is_repetition.ensures, c.if-not-is_repetition.false)
+    let e2 = c in
+    simp (le-ltb _ _ e2.if-n-gt-LAST_SUBFRAME.false, e2.if-above.false, ← c.is_repetition.ensures, c.if-not-is_repetition.false)
 
 pub is_repetition-requires : goal.is_repetition-requires
 is_repetition-requires c = tt

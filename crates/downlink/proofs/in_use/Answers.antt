@@ -9,7 +9,7 @@ use Rattle.downlink.proofs.in_use.Goals.{After-used_elements-w}
 use Rattle.downlink.proofs.in_use.Goals as goal
 
 -- it is below the used elements
-below : (c : After-used_elements-w) → c.before.before.at-1.given.0.0 < c.used_elements-w.result
+below : (c : After-used_elements-w) → c.at-1.given.0.0 < c.used_elements-w.result
 below c =
     let k = c in
     let s = k in

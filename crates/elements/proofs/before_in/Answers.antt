@@ -20,10 +20,10 @@ two low high i h =
     none : (low i : ℕ) → bool_byte (ltb low i) + 0 ≤ i
     none low i = ⊎_elim (λ k. omega (arith, byte_le (ltb low i))) (λ k. rw (le-ltb low i k) (omega arith)) (order low i)
 
-product : (c : After-one-past) → c.one-past.result * c.before.args.free ≤ 6
+product : (c : After-one-past) → c.one-past.result * c.args.free ≤ 6
 product c = mul-le-mul c.one-past.ensures.1 c.requires.0
 
-marked : (c : After-one-2) → c.before.before.one.result + c.one-2.result ≤ c.before.before.before.before.before.args.six
+marked : (c : After-one-2) → c.one.result + c.one-2.result ≤ c.args.six
 marked c =
     let s = c in
     omega (arith, c.one-2.ensures.0, c.one.ensures.0, two s.args.m.low s.args.m.high s.args.six s.requires.3)

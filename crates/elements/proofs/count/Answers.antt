@@ -9,7 +9,7 @@ use Rattle.elements.proofs.Closed.{closed, six_mono, rows_second, rows_counted}
 use Rattle.elements.proofs.count.Goals.{After-closed_count}
 use Rattle.elements.proofs.count.Goals as goal
 
-counted : (c : After-closed_count) → c.closed_count.result ≡ six_in_rows c.before.before.args.g rows
+counted : (c : After-closed_count) → c.closed_count.result ≡ six_in_rows c.args.g rows
 counted c =
     let s = c in
     omega (arith, c.closed_count.ensures, closed s.args.g s.requires.0, rows_second s.args.g s.requires.0 rows (omega arith))

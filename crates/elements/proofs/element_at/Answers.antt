@@ -34,7 +34,7 @@ on c = c.ncces-n.result * c.row_with-spot.result.rest + ((start c).args.e - c.nc
 
 -- e lies in the row
 inside : (c : After-row_with-spot)
-    → Over c.before.before.ncces-n.result c.before.over_ncces-q.result (start c).args.e
+    → Over c.ncces-n.result c.over_ncces-q.result (start c).args.e
     (six_in_rows (start c).args.g (c.row_with-spot.result.slot * symbols + c.row_with-spot.result.l)) c.row_with-spot.result.rest
     (free_of (start c).args.g.nports (start c).args.g.cports c.row_with-spot.result.l)
     (on c)
@@ -45,7 +45,7 @@ inside c =
     (c.over_ncces-q.ensures ∙ ap (λ (x : ℕ). s.args.e / x) (sym n.ncces-n.ensures.0)) c.row_with-spot.ensures.reached
     (spot_open s.args.g s.requires.0 c.over_ncces-q.result c.row_with-spot.result c.row_with-spot.ensures).1 refl
 
-few : (c : After-row_with-spot) → c.before.before.ncces-n.result * c.row_with-spot.result.rest ≤ 2 * 84
+few : (c : After-row_with-spot) → c.ncces-n.result * c.row_with-spot.result.rest ≤ 2 * 84
 few c =
     let s = start c in
     let r = c.row_with-spot.result.rest in
@@ -76,12 +76,12 @@ nth c =
     let l = w.row_with-spot.result.l in
     let free = free_of a.g.nports a.g.cports l in
     let b = free_some a.g s.requires.0 l w.row_with-spot.ensures.symbol in
-    let e : c.nth_in-k.result ≡ nth_in (marks_of a.g.v l (6 - free)) free a.from (on w) =
+    let e : c.nth_in-k.result ≡ nth_in (marks_of a.g.v l (6 - free)) free a.from (on w.before.before.before.before) =
     c.nth_in-k.ensures
-    ∙ ap (λ (x : Marks). nth_in x f.free_in-free.result a.from (on w)) m.marks_on.ensures
-    ∙ ap (λ (x : ℕ). nth_in (marks_of a.g.v l (6 - x)) x a.from (on w)) f.free_in-free.ensures.0 in
-    subst (Nth (marks_of a.g.v l (6 - free)) a.from a.width (on w)) (sym e)
-    (row_nth a.from a.width s.requires.1 a.g.v l free s.requires.0.shift b.0 b.1 (on w)
+    ∙ ap (λ (x : Marks). nth_in x f.free_in-free.result a.from (on w.before.before.before.before)) m.marks_on.ensures
+    ∙ ap (λ (x : ℕ). nth_in (marks_of a.g.v l (6 - x)) x a.from (on w.before.before.before.before)) f.free_in-free.ensures.0 in
+    subst (Nth (marks_of a.g.v l (6 - free)) a.from a.width (on w.before.before.before.before)) (sym e)
+    (row_nth a.from a.width s.requires.1 a.g.v l free s.requires.0.shift b.0 b.1 (on w.before.before.before.before)
     (subst (λ (n : ℕ). on w.before.before.before.before < n * free) w.ncces-n.ensures.0 (inside w.before.before.before.before).below))
 
 pub returns : goal.returns
@@ -95,7 +95,7 @@ returns c =
     let o = spot_open a.g s.requires.0 w.over_ncces-q.result r h in
     let row : subcarriers * (r.slot * symbols + r.l) ≡ element_of r.slot r.l 0 = omega arith in
     c.element.ensures.0
-    ∙ open_found a.g a.from a.width r.slot r.l h.slot h.symbol s.requires.0 o.0 a.e (on w) k.nth_in-k.result s.requires.2
+    ∙ open_found a.g a.from a.width r.slot r.l h.slot h.symbol s.requires.0 o.0 a.e (on w.before.before.before.before.before) k.nth_in-k.result s.requires.2
     (omega (
       arith,
       (inside w.before.before.before.before.before).reached,

@@ -8,10 +8,10 @@ use Rattle.elements.proofs.Closed.{six_at}
 use Rattle.elements.proofs.free_in.Goals.{After-byte-2}
 use Rattle.elements.proofs.free_in.Goals as goal
 
-first : (c : After-byte-2) → c.before.byte.result ≡ six_before c.before.before.args.g.nports c.before.before.args.g.cports (c.before.before.args.l + 1)
+first : (c : After-byte-2) → c.byte.result ≡ six_before c.args.g.nports c.args.g.cports (c.args.l + 1)
 first c = let s = c in c.byte.ensures.0 ∙ six_at _ _ _ (s.args.l + 1) s.requires.1
 
-second : (c : After-byte-2) → c.byte-2.result ≡ six_before c.before.before.args.g.nports c.before.before.args.g.cports c.before.before.args.l
+second : (c : After-byte-2) → c.byte-2.result ≡ six_before c.args.g.nports c.args.g.cports c.args.l
 second c = let s = c in c.byte-2.ensures.0 ∙ six_at _ _ _ s.args.l s.requires.1
 
 pub returns : goal.returns

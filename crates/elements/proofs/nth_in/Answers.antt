@@ -6,7 +6,7 @@ use Rattle.references.proofs.Held.{held}
 use Rattle.elements.proofs.nth_in.Goals.{After-one-upper}
 use Rattle.elements.proofs.nth_in.Goals as goal
 
-fits : (c : After-one-upper) → c.before.args.free * c.one-upper.result ≤ c.before.args.j
+fits : (c : After-one-upper) → c.args.free * c.one-upper.result ≤ c.args.j
 fits c = rw c.one-upper.ensures.0 (held c.args.free c.args.j)
 
 pub one-upper-requires : goal.one-upper-requires

@@ -11,9 +11,9 @@ use Rattle.elements.proofs.row_start.Goals as goal
 
 -- the bytes read
 read : (c : After-byte-3)
-    → c.before.before.before.args.slot * c.before.before.byte.result + c.before.byte-2.result
-    ≡ c.before.before.before.args.slot * six c.before.before.before.args.g c.before.before.before.requires.0 symbols
-    + six c.before.before.before.args.g c.before.before.before.requires.0 c.before.before.before.args.l
+    → c.args.slot * c.byte.result + c.byte-2.result
+    ≡ c.args.slot * six c.args.g c.requires.0 symbols
+    + six c.args.g c.requires.0 c.args.l
 read c =
     let s = c in
     rw (
@@ -21,24 +21,24 @@ read c =
       c.byte-2.ensures.0 ∙ six_at s.args.g.nports s.args.g.cports s.args.sums s.args.l s.requires.1,
     ) refl
 
-skipped : (c : After-byte-3) → c.byte-3.result ≡ six c.before.before.before.args.g c.before.before.before.requires.0 c.before.before.before.args.g.control
+skipped : (c : After-byte-3) → c.byte-3.result ≡ six c.args.g c.requires.0 c.args.g.control
 skipped c = c.byte-3.ensures.0 ∙ six_at _ _ _ _ c.requires.1
 
-small : (c : After-byte) → c.before.args.slot * c.byte.result ≤ 1 * 255
+small : (c : After-byte) → c.args.slot * c.byte.result ≤ 1 * 255
 small c =
     let a : c.args.slot ≤ 1 = omega (arith, c.requires.3) in
     let b : c.byte.result ≤ 255 = omega (arith, c.byte.ensures.1) in
     mul-le-mul a b
 
-fits : (c : After-byte-3) → c.byte-3.result ≤ c.before.before.before.args.slot * c.before.before.byte.result + c.before.byte-2.result
+fits : (c : After-byte-3) → c.byte-3.result ≤ c.args.slot * c.byte.result + c.byte-2.result
 fits c =
     let s = c in
     omega (arith, read c, skipped c, (row_six s.args.g s.requires.0 s.args.slot s.args.l s.requires.3 s.requires.4 s.requires.5).0)
 
 counted : (c : After-ncces)
-    → c.ncces.result * (c.before.before.before.before.args.slot * c.before.before.before.byte.result + c.before.before.byte-2.result - c.before.byte-3.result)
-    ≡ number_of c.before.before.before.before.args.g c.before.before.before.before.args.from c.before.before.before.before.args.width
-    (element_of c.before.before.before.before.args.slot c.before.before.before.before.args.l 0)
+    → c.ncces.result * (c.args.slot * c.byte.result + c.byte-2.result - c.byte-3.result)
+    ≡ number_of c.args.g c.args.from c.args.width
+    (element_of c.args.slot c.args.l 0)
 counted c =
     let s = c in
     let a = s.args in

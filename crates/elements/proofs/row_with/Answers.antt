@@ -8,22 +8,22 @@ use Rattle.elements.proofs.Closed.{six, six_at, six_few, rows_second, past_first
 use Rattle.elements.proofs.row_with.Goals.{After-byte, After-byte-whole, Start, After-one-slot}
 use Rattle.elements.proofs.row_with.Goals as goal
 
-skipped : (c : After-byte) → c.byte.result ≡ six c.before.args.g c.before.requires.0 c.before.args.g.control
+skipped : (c : After-byte) → c.byte.result ≡ six c.args.g c.requires.0 c.args.g.control
 skipped c = c.byte.ensures.0 ∙ six_at _ _ _ _ c.requires.1
 
-whole : (c : After-byte-whole) → c.byte-whole.result ≡ six c.before.before.args.g c.before.before.requires.0 symbols
+whole : (c : After-byte-whole) → c.byte-whole.result ≡ six c.args.g c.requires.0 symbols
 whole c = c.byte-whole.ensures.0 ∙ six_at _ _ _ symbols c.requires.1
 
 few : (c : Start) → c.args.q < 84
 few c =
     omega (arith, c.requires.2, rows_second c.args.g c.requires.0 rows (omega arith), six_few c.args.g c.requires.0 symbols (omega arith))
 
-fits : (c : After-one-slot) → c.before.byte-whole.result * c.one-slot.result ≤ c.before.before.before.args.q + c.before.before.byte.result
+fits : (c : After-one-slot) → c.byte-whole.result * c.one-slot.result ≤ c.args.q + c.byte.result
 fits c = rw c.one-slot.ensures.0 (held c.byte-whole.result (c.args.q + c.byte.result))
 
 below : (c : After-one-slot)
-    → c.before.before.before.args.q + c.before.before.byte.result - c.before.byte-whole.result * c.one-slot.result
-    < six c.before.before.before.args.g c.before.before.before.requires.0 symbols
+    → c.args.q + c.byte.result - c.byte-whole.result * c.one-slot.result
+    < six c.args.g c.requires.0 symbols
 below c =
     let b = c in
     let s = b in

@@ -18,7 +18,7 @@ use Rattle.elements.proofs.use_at.Goals as goal
 abbrev start : After-one → Start
 start c = c.before.before.before.before
 
-marks : (c : After-one) → c.before.marks_on-m.result ≡ marks_in (start c).args.g (start c).requires.0 (start c).args.l (start c).requires.3
+marks : (c : After-one) → c.marks_on-m.result ≡ marks_in (start c).args.g (start c).requires.0 (start c).args.l (start c).requires.3
 marks c =
     let s = start c in
     c.marks_on-m.ensures ∙ ap (λ (f : ℕ). marks_of s.args.g.v s.args.l (6 - f)) c.free_in-free.ensures.0
@@ -28,7 +28,7 @@ six c = ap (λ (b : ℕ). (start c).args.k - 6 * b) c.one.ensures.0 ∙ six_of (
 
 -- what the test of the marks says
 plain : (c : After-one) (r : Bool)
-    → (eqb ((start c).args.k - 6 * c.one.result) c.before.marks_on-m.result.low || eqb ((start c).args.k - 6 * c.one.result) c.before.marks_on-m.result.high) ≡ r
+    → (eqb ((start c).args.k - 6 * c.one.result) c.marks_on-m.result.low || eqb ((start c).args.k - 6 * c.one.result) c.marks_on-m.result.high) ≡ r
     → is_free (marks_in (start c).args.g (start c).requires.0 (start c).args.l (start c).requires.3) ((start c).args.k % 6) ≡ not r
 plain c r e =
     sym (ap₂ is_free (marks c) (six c)) ∙ marked_or (eqb ((start c).args.k - 6 * c.one.result) c.marks_on-m.result.low) _ r e
@@ -52,7 +52,7 @@ returns-then-in_control-in_part c =
     (sym (ap₂ (λ (x y : Bool). x || not y) i.in_control.ensures i.in_part.ensures) ∙ c.if-in_control-in_part.true)
 
 -- outside the control region and in the part
-apart : (c : Else-in_control-in_part) → (c.before.before.in_control.result ≡ false) × (not c.before.in_part.result ≡ false)
+apart : (c : Else-in_control-in_part) → (c.in_control.result ≡ false) × (not c.in_part.result ≡ false)
 apart c = either_parts c.in_control.result (not c.in_part.result) c.if-in_control-in_part.false
 
 pub returns : goal.returns

@@ -8,7 +8,7 @@ use Rattle.elements.proofs.Stands.{row_is}
 use Rattle.elements.proofs.used_row.Goals.{After-marks_on-m}
 use Rattle.elements.proofs.used_row.Goals as goal
 
-marks : (c : After-marks_on-m) → c.marks_on-m.result ≡ marks_in c.before.before.before.args.g c.before.before.before.requires.0 c.before.before.before.args.l c.before.before.before.requires.2
+marks : (c : After-marks_on-m) → c.marks_on-m.result ≡ marks_in c.args.g c.requires.0 c.args.l c.requires.2
 marks c =
     let s = c in
     c.marks_on-m.ensures ∙ ap (λ (f : ℕ). marks_of s.args.g.v s.args.l (6 - f)) c.free_in-free.ensures.0

@@ -12,10 +12,11 @@ use Rattle.fill.specs.Fill.{laid}
 use Rattle.fill.specs.Quick.{written_in, written_in_row}
 use Rattle.fill.proofs.Laid.{laid_none, laid_all}
 use Rattle.fill.proofs.Rowwise.{none_yet, few, row_next, row_room, row_laid}
-use Rattle.fill.proofs.write_slot.Goals.{At-loop-l, Start}
+use Rattle.fill.proofs.write_slot.Goals.{Start}
+use Rattle.fill.proofs.write_slot.Tie as tie
 use Rattle.fill.proofs.write_slot.Goals as goal
 
-abbrev start : At-loop-l → Start
+abbrev start : tie.At-loop-l goal.the-invariant-loop-l goal.the-decreases-loop-l → Start
 start c = c.before.before.before
 
 pub loop-l-init : goal.loop-l-init
@@ -28,7 +29,7 @@ write_row-n-requires c =
     let r = c in
     let t = r in
     let l = t in
-    let s = start l.before.before.before in
+    let s = start l.before.before.before.before in
     let a = s.args in (
       omega (arith, t.loop-l-test.true, l.loop-l.invariant.1),
       l.loop-l.invariant.1,
@@ -42,7 +43,7 @@ loop-l-preserved c =
     let r = w in
     let t = r in
     let l = t in
-    let a = (start l.before.before.before.before.before.before).args in
+    let a = (start l.before.before.before.before.before.before.before).args in
     let on : subcarriers * l.loop-l.l + subcarriers ≡ subcarriers * (l.loop-l.l + 1) = omega arith in (
       omega (arith, t.loop-l-test.true),
       w.write_row-n.ensures.1,
@@ -55,12 +56,12 @@ loop-l-preserved c =
 pub returns : goal.returns
 returns c =
     let l = c in
-    let a = (start l.before).args in
+    let a = (start l.before.before).args in
     let e : subcarriers * l.loop-l.l ≡ slot_elements = omega (arith, l.loop-l.invariant.0, c.loop-l-test.false) in
     (l.loop-l.invariant.2 ∙ ap (λ (n : ℕ). a.c + count (used a.layout 0 subcarriers) (a.slot * slot_elements) n) e, laid_all _ _ (subcarriers * l.loop-l.l) slot_elements l.loop-l.invariant.1 e l.loop-l.invariant.3)
 
 pub used_row-row-requires : goal.used_row-row-requires
-used_row-row-requires c = let s = start c.before in (s.requires.2, s.requires.1, c.loop-l-test.true)
+used_row-row-requires c = let s = start c.before.before in (s.requires.2, s.requires.1, c.loop-l-test.true)
 
 pub overflow_mul-l : goal.overflow_mul-l
 overflow_mul-l c = omega (arith, c.loop-l-test.true)
@@ -72,4 +73,4 @@ pub loop-l-smaller : goal.loop-l-smaller
 loop-l-smaller c = omega (arith, c.loop-l-test.true)
 
 pub shape_of-out : goal.shape_of-out
-shape_of-out c = c.loop-l.invariant.1 ∙ sym (start c.before).requires.0
+shape_of-out c = c.loop-l.invariant.1 ∙ sym (start c.before.before).requires.0

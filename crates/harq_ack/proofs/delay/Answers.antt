@@ -9,9 +9,9 @@ use Rattle.harq_ack.proofs.delay.Goals as goal
 pub returns : goal.returns
 unfolding delay_of
 returns c =
-    let wide = c.before in
-    let narrow = wide.before in
-    let s = narrow.before in
+    let wide = c in
+    let narrow = wide in
+    let s = narrow in
     c.by_spacing.ensures
     ∙ ap₂ (λ (x y : ℕ). by_spacing s.args.spacing x y) (narrow.byte.ensures ∙ by_fours_lem s.args.field s.requires) wide.byte-2.ensures
 

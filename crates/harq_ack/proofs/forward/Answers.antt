@@ -27,12 +27,12 @@ returns-then-no-ne0 c =
 pub returns : goal.returns
 unfolding forward_of refusal shape_of
 returns c =
-    let s = c.before.before.before in
-    let e = s.before in
-    let a = e.before.before.args in
-    c.forward.ensures _ c.before.slot_at.ensures
-    ∙ ap (λ (T : ℕ). place_in T (sending_of s.shape-s.result all_open) a.p) (subcarriers_own a.g _ e.before.judge-no.ensures e.if-no-ne0.false _ s.shape-s.ensures)
-    ∙ asked_alone a.g.spacing _ (fields_refusal a.g) (shape_of a.g) e.before.judge-no.ensures refused_place (λ S. place_in (uplink_subcarriers a.g.spacing) S a.p) e.if-no-ne0.false _ s.shape-s.ensures
+    let s = c in
+    let e = s in
+    let a = e.args in
+    c.forward.ensures _ c.slot_at.ensures
+    ∙ ap (λ (T : ℕ). place_in T (sending_of s.shape-s.result all_open) a.p) (subcarriers_own a.g _ e.judge-no.ensures e.if-no-ne0.false _ s.shape-s.ensures)
+    ∙ asked_alone a.g.spacing _ (fields_refusal a.g) (shape_of a.g) e.judge-no.ensures refused_place (λ S. place_in (uplink_subcarriers a.g.spacing) S a.p) e.if-no-ne0.false _ s.shape-s.ensures
 
 pub judge-no-requires : goal.judge-no-requires
 judge-no-requires c = tt

@@ -12,8 +12,8 @@ above_largest-requires c = tt
 
 pub returns-then-above_largest : goal.returns-then-above_largest
 unfolding fields_refusal
-returns-then-above_largest c = simp (le-ltb _ _ c.before.before.if-n-gt-LAST_NPDSCH_SUBFRAME.false, ← c.before.above_largest.ensures, c.if-above_largest.true)
+returns-then-above_largest c = simp (le-ltb _ _ c.if-n-gt-LAST_NPDSCH_SUBFRAME.false, ← c.above_largest.ensures, c.if-above_largest.true)
 
 pub returns : goal.returns
 unfolding fields_refusal
-returns c = simp (le-ltb _ _ c.before.before.if-n-gt-LAST_NPDSCH_SUBFRAME.false, ← c.before.above_largest.ensures, c.if-above_largest.false)
+returns c = simp (le-ltb _ _ c.if-n-gt-LAST_NPDSCH_SUBFRAME.false, ← c.above_largest.ensures, c.if-above_largest.false)

@@ -18,11 +18,11 @@ returns-then-no-ne0 c =
 pub returns : goal.returns
 unfolding plan_of refusal shape_of
 returns c =
-    let s = c.before in
-    let e = s.before in
-    let a = e.before.before.args in
+    let s = c in
+    let e = s in
+    let a = e.args in
     c.plan.ensures
-    ∙ asked_alone a.g.spacing _ (fields_refusal a.g) (shape_of a.g) e.before.judge-no.ensures refused_plan (λ S. plan_shown 1 1 (extent_of S)) e.if-no-ne0.false _ s.shape.ensures
+    ∙ asked_alone a.g.spacing _ (fields_refusal a.g) (shape_of a.g) e.judge-no.ensures refused_plan (λ S. plan_shown 1 1 (extent_of S)) e.if-no-ne0.false _ s.shape.ensures
 
 pub judge-no-requires : goal.judge-no-requires
 judge-no-requires c = tt

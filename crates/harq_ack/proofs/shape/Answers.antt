@@ -6,19 +6,19 @@ use Rattle.harq_ack.proofs.shape.Goals as goal
 pub returns : goal.returns
 unfolding shape_of
 returns c =
-    let k = c.before.before.before in
-    let s = k.before.before.before.before in
+    let k = c in
+    let s = k in
     λ i. record {
       first = s.start.ensures i;
-      subcarriers = k.before.before.before.subcarriers.ensures.0 i;
-      block = k.before.before.block.ensures i;
-      gap = k.before.gap.ensures i;
+      subcarriers = k.subcarriers.ensures.0 i;
+      block = k.block.ensures i;
+      gap = k.gap.ensures i;
       tone = k.tone.ensures i;
       tones = 1;
       codeword = 4;
-      copies = c.before.before.uplink_copies.ensures i;
+      copies = c.uplink_copies.ensures i;
       consecutive = 1;
-      group = c.before.group.ensures i;
+      group = c.group.ensures i;
       reference = c.reference.ensures i;
       references = 3;
     }

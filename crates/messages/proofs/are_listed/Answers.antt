@@ -27,8 +27,8 @@ is_sound-requires-4 c = tt
 pub returns : goal.returns
 unfolding are_listed
 returns c =
-    let own = c.before.before.before.before.before in
-    let a = own.before.before.args.ms in
+    let own = c in
+    let a = own.args.ms in
     ap₂ ◌&&◌ (ap (λ (b : Bool). b && (leb a.offset 15 && leb a.count 4)) own.is_window.ensures)
-    (ap₂ ◌&&◌ (ap₂ ◌&&◌ c.before.before.before.is_sound.ensures c.before.before.is_sound-2.ensures)
-    (ap₂ ◌&&◌ c.before.is_sound-3.ensures c.is_sound-4.ensures))
+    (ap₂ ◌&&◌ (ap₂ ◌&&◌ c.is_sound.ensures c.is_sound-2.ensures)
+    (ap₂ ◌&&◌ c.is_sound-3.ensures c.is_sound-4.ensures))

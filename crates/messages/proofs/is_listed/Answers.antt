@@ -19,8 +19,8 @@ is_size-requires c = tt
 pub returns : goal.returns
 unfolding is_listed
 returns c =
-    let z = c.before in
-    let d = z.before in
-    let a = d.before.before.args in
-    ap₂ ◌&&◌ (ap₂ ◌&&◌ d.before.is_period.ensures d.is_distance.ensures)
+    let z = c in
+    let d = z in
+    let a = d.args in
+    ap₂ ◌&&◌ (ap₂ ◌&&◌ d.is_period.ensures d.is_distance.ensures)
     (ap (λ (b : Bool). b && leb a.frames a.s.period) z.is_size.ensures)

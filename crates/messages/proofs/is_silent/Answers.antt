@@ -8,11 +8,11 @@ is_window-requires c = tt
 
 pub returns-then-offset-le15 : goal.returns-then-offset-le15
 unfolding is_silent
-returns-then-offset-le15 c = simp (eq-eqb _ _ c.before.before.if-count-eq0.true, le-leb _ _ c.before.if-offset-le15.true, c.is_window.ensures)
+returns-then-offset-le15 c = simp (eq-eqb _ _ c.if-count-eq0.true, le-leb _ _ c.if-offset-le15.true, c.is_window.ensures)
 
 pub returns-else-offset-le15 : goal.returns-else-offset-le15
 unfolding is_silent
-returns-else-offset-le15 c = simp (eq-eqb _ _ c.before.if-count-eq0.true, lt-leb _ _ c.if-offset-le15.false)
+returns-else-offset-le15 c = simp (eq-eqb _ _ c.if-count-eq0.true, lt-leb _ _ c.if-offset-le15.false)
 
 pub returns-else-count-eq0 : goal.returns-else-count-eq0
 unfolding is_silent

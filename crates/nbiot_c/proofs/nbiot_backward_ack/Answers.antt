@@ -11,11 +11,11 @@ short2-requires c = tt
 
 pub returns-then-short2 : goal.returns-then-short2
 unfolding backward_ack windows_of
-returns-then-short2 c = unread _ _ c.before.short2.ensures.says c.if-short2.true
+returns-then-short2 c = unread _ _ c.short2.ensures.says c.if-short2.true
 
 pub harq_ack_at-requires : goal.harq_ack_at-requires
 unfolding backward_ack windows_of
-harq_ack_at-requires c = c.before.short2.ensures.first c.if-short2.false
+harq_ack_at-requires c = c.short2.ensures.first c.if-short2.false
 
 pub backward-a-requires : goal.backward-a-requires
 unfolding backward_ack windows_of
@@ -23,7 +23,7 @@ backward-a-requires c = tt
 
 pub put_back-requires : goal.put_back-requires
 unfolding backward_ack windows_of
-put_back-requires c = let e = c.before.before.before in e.before.short2.ensures.last e.if-short2.false
+put_back-requires c = let e = c in e.short2.ensures.last e.if-short2.false
 
 pub shape_of-answer : goal.shape_of-answer
 unfolding backward_ack windows_of
@@ -31,5 +31,5 @@ shape_of-answer c = search rules
 
 pub returns : goal.returns
 unfolding backward_ack windows_of
-returns c = let p = c.before.before in let a = p.before.before in let e = a.before.before in
-    replied _ e.before.short2.ensures.says e.if-short2.false (p.put_back.ensures ∙ simp (a.backward-a.ensures, a.before.harq_ack_at.ensures))
+returns c = let p = c in let a = p in let e = a in
+    replied _ e.short2.ensures.says e.if-short2.false (p.put_back.ensures ∙ simp (a.backward-a.ensures, a.harq_ack_at.ensures))

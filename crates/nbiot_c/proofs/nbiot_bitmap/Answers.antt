@@ -10,26 +10,26 @@ use Rattle.nbiot_c.proofs.nbiot_bitmap.Goals as goal
 pub returns-then-no-ne0 : goal.returns-then-no-ne0
 unfolding bitmap
 returns-then-no-ne0 c =
-    let p = c.before.before in
-    let j = p.before.before.before in
-    let n = j.before.before in
-    let e = n.before in
-    let x = e.before.before.before.before.before.before.args in
-    let numbers = refused_numbers _ x.anchor.now x.other.now j.judge_lent-no.ensures p.before.before.if-no-ne0.true in
-    replied _ e.before.short2.ensures.says e.if-short2.false
+    let p = c in
+    let j = p in
+    let n = j in
+    let e = n in
+    let x = e.args in
+    let numbers = refused_numbers _ x.anchor.now x.other.now j.judge_lent-no.ensures p.if-no-ne0.true in
+    replied _ e.short2.ensures.says e.if-short2.false
     (p.put3.ensures ∙ ap (λ l. put l x.answer-1.now) numbers ∙ simp (n.config_at-c.ensures, to_end))
 
 pub returns : goal.returns
 unfolding bitmap
 returns c =
-    let p = c.before.before in
-    let b = p.before.before in
-    let j = b.before.before in
-    let n = j.before.before in
-    let e = n.before in
-    let x = e.before.before.before.before.before.before.args in
-    let numbers = accepted_numbers _ x.anchor.now x.other.now j.judge_lent-no.ensures b.before.if-no-ne0.false b.bytes-n.ensures in
-    replied _ e.before.short2.ensures.says e.if-short2.false
+    let p = c in
+    let b = p in
+    let j = b in
+    let n = j in
+    let e = n in
+    let x = e.args in
+    let numbers = accepted_numbers _ x.anchor.now x.other.now j.judge_lent-no.ensures b.if-no-ne0.false b.bytes-n.ensures in
+    replied _ e.short2.ensures.says e.if-short2.false
     (p.put3-2.ensures ∙ ap (λ l. put l x.answer-1.now) numbers ∙ simp (n.config_at-c.ensures, to_end))
 
 pub short2-requires : goal.short2-requires
@@ -38,19 +38,19 @@ short2-requires c = tt
 
 pub returns-then-short2 : goal.returns-then-short2
 unfolding bitmap
-returns-then-short2 c = unread _ _ c.before.short2.ensures.says c.if-short2.true
+returns-then-short2 c = unread _ _ c.short2.ensures.says c.if-short2.true
 
 pub config_at-c-requires : goal.config_at-c-requires
 unfolding bitmap
-config_at-c-requires c = c.before.short2.ensures.first c.if-short2.false
+config_at-c-requires c = c.short2.ensures.first c.if-short2.false
 
 pub slice_bounds-judge_lent-count : goal.slice_bounds-judge_lent-count
 unfolding bitmap
-slice_bounds-judge_lent-count c = let e = c.before in e.before.short2.ensures.first e.if-short2.false
+slice_bounds-judge_lent-count c = let e = c in e.short2.ensures.first e.if-short2.false
 
 pub slice_bounds-judge_lent-start : goal.slice_bounds-judge_lent-start
 unfolding bitmap
-slice_bounds-judge_lent-start c = let e = c.before in e.before.short2.ensures.first e.if-short2.false
+slice_bounds-judge_lent-start c = let e = c in e.short2.ensures.first e.if-short2.false
 
 pub slice_bounds-judge_lent-end : goal.slice_bounds-judge_lent-end
 unfolding bitmap
@@ -62,7 +62,7 @@ judge_lent-no-requires c = tt
 
 pub put3-requires : goal.put3-requires
 unfolding bitmap
-put3-requires c = let e = c.before.before.before.before.before in e.before.short2.ensures.last e.if-short2.false
+put3-requires c = let e = c in e.short2.ensures.last e.if-short2.false
 
 pub shape_of-answer-then-no-ne0 : goal.shape_of-answer-then-no-ne0
 unfolding bitmap
@@ -74,7 +74,7 @@ bytes-n-requires c = tt
 
 pub put3-requires-2 : goal.put3-requires-2
 unfolding bitmap
-put3-requires-2 c = let e = c.before.before.before.before.before.before in e.before.short2.ensures.last e.if-short2.false
+put3-requires-2 c = let e = c in e.short2.ensures.last e.if-short2.false
 
 pub shape_of-answer : goal.shape_of-answer
 unfolding bitmap

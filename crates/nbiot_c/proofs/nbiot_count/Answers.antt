@@ -11,19 +11,19 @@ short2-requires c = tt
 
 pub returns-then-short2 : goal.returns-then-short2
 unfolding count
-returns-then-short2 c = unread _ _ c.before.short2.ensures.says c.if-short2.true
+returns-then-short2 c = unread _ _ c.short2.ensures.says c.if-short2.true
 
 pub config_at-requires : goal.config_at-requires
 unfolding count
-config_at-requires c = c.before.short2.ensures.first c.if-short2.false
+config_at-requires c = c.short2.ensures.first c.if-short2.false
 
 pub slice_bounds-count_lent-count : goal.slice_bounds-count_lent-count
 unfolding count
-slice_bounds-count_lent-count c = let e = c.before in e.before.short2.ensures.first e.if-short2.false
+slice_bounds-count_lent-count c = let e = c in e.short2.ensures.first e.if-short2.false
 
 pub slice_bounds-count_lent-start : goal.slice_bounds-count_lent-start
 unfolding count
-slice_bounds-count_lent-start c = let e = c.before in e.before.short2.ensures.first e.if-short2.false
+slice_bounds-count_lent-start c = let e = c in e.short2.ensures.first e.if-short2.false
 
 pub slice_bounds-count_lent-end : goal.slice_bounds-count_lent-end
 unfolding count
@@ -35,7 +35,7 @@ count_lent-a-requires c = tt
 
 pub put_count-requires : goal.put_count-requires
 unfolding count
-put_count-requires c = let e = c.before.before.before.before in e.before.short2.ensures.last e.if-short2.false
+put_count-requires c = let e = c in e.short2.ensures.last e.if-short2.false
 
 pub shape_of-answer : goal.shape_of-answer
 unfolding count
@@ -43,5 +43,5 @@ shape_of-answer c = search rules
 
 pub returns : goal.returns
 unfolding count
-returns c = let p = c.before.before in let a = p.before.before in let n = a.before.before in let e = n.before in
-    replied _ e.before.short2.ensures.says e.if-short2.false (p.put_count.ensures ∙ simp (a.count_lent-a.ensures, n.config_at.ensures, to_end))
+returns c = let p = c in let a = p in let n = a in let e = n in
+    replied _ e.short2.ensures.says e.if-short2.false (p.put_count.ensures ∙ simp (a.count_lent-a.ensures, n.config_at.ensures, to_end))

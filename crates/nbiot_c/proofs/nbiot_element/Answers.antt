@@ -17,28 +17,28 @@ short2-requires-2 c = tt
 
 pub returns-then-short2 : goal.returns-then-short2
 unfolding element
-returns-then-short2 c = let b = c.before in
-    unread _ _ (ap₂ ◌||◌ b.before.short2.ensures.says b.short2-2.ensures.says) c.if-short2.true
+returns-then-short2 c = let b = c in
+    unread _ _ (ap₂ ◌||◌ b.short2.ensures.says b.short2-2.ensures.says) c.if-short2.true
 
 pub config_at-c-requires : goal.config_at-c-requires
 unfolding element
-config_at-c-requires c = let b = c.before in
-    b.before.short2.ensures.first (either_parts b.before.short2.result b.short2-2.result c.if-short2.false).0
+config_at-c-requires c = let b = c in
+    b.short2.ensures.first (either_parts b.short2.result b.short2-2.result c.if-short2.false).0
 
 pub npdsch_at-g-requires : goal.npdsch_at-g-requires
 unfolding element
-npdsch_at-g-requires c = let e = c.before in let b = e.before in
-    b.before.short2.ensures.last (either_parts b.before.short2.result b.short2-2.result e.if-short2.false).0
+npdsch_at-g-requires c = let e = c in let b = e in
+    b.short2.ensures.last (either_parts b.short2.result b.short2-2.result e.if-short2.false).0
 
 pub slice_bounds-element_lent-count : goal.slice_bounds-element_lent-count
 unfolding element
-slice_bounds-element_lent-count c = let e = c.before.before in let b = e.before in
-    b.before.short2.ensures.first (either_parts b.before.short2.result b.short2-2.result e.if-short2.false).0
+slice_bounds-element_lent-count c = let e = c in let b = e in
+    b.short2.ensures.first (either_parts b.short2.result b.short2-2.result e.if-short2.false).0
 
 pub slice_bounds-element_lent-start : goal.slice_bounds-element_lent-start
 unfolding element
-slice_bounds-element_lent-start c = let e = c.before.before in let b = e.before in
-    b.before.short2.ensures.first (either_parts b.before.short2.result b.short2-2.result e.if-short2.false).0
+slice_bounds-element_lent-start c = let e = c in let b = e in
+    b.short2.ensures.first (either_parts b.short2.result b.short2-2.result e.if-short2.false).0
 
 pub slice_bounds-element_lent-end : goal.slice_bounds-element_lent-end
 unfolding element
@@ -50,8 +50,8 @@ element_lent-e-requires c = tt
 
 pub put_element-requires : goal.put_element-requires
 unfolding element
-put_element-requires c = let e = c.before.before.before.before.before.before in let b = e.before in
-    let h = (either_parts b.before.short2.result b.short2-2.result e.if-short2.false).1 in
+put_element-requires c = let e = c in let b = e in
+    let h = (either_parts b.short2.result b.short2-2.result e.if-short2.false).1 in
     (b.short2-2.ensures.first h, b.short2-2.ensures.last h)
 
 pub shape_of-answer : goal.shape_of-answer
@@ -64,6 +64,6 @@ shape_of-amplitudes c = search rules
 
 pub returns : goal.returns
 unfolding element
-returns c = let p = c.before.before.before.before in let a = p.before.before.before in let n = a.before.before in let e = n.before.before in let b = e.before in
-    replied _ (ap₂ ◌||◌ b.before.short2.ensures.says b.short2-2.ensures.says) e.if-short2.false
-    (p.put_element.ensures ∙ simp (a.element_lent-e.ensures, n.npdsch_at-g.ensures, n.before.config_at-c.ensures, to_end))
+returns c = let p = c in let a = p in let n = a in let e = n in let b = e in
+    replied _ (ap₂ ◌||◌ b.short2.ensures.says b.short2-2.ensures.says) e.if-short2.false
+    (p.put_element.ensures ∙ simp (a.element_lent-e.ensures, n.npdsch_at-g.ensures, n.config_at-c.ensures, to_end))

@@ -11,23 +11,23 @@ short2-requires c = tt
 
 pub returns-then-short2 : goal.returns-then-short2
 unfolding fill
-returns-then-short2 c = unread _ _ c.before.short2.ensures.says c.if-short2.true
+returns-then-short2 c = unread _ _ c.short2.ensures.says c.if-short2.true
 
 pub config_at-c-requires : goal.config_at-c-requires
 unfolding fill
-config_at-c-requires c = c.before.short2.ensures.first c.if-short2.false
+config_at-c-requires c = c.short2.ensures.first c.if-short2.false
 
 pub npdsch_at-g-requires : goal.npdsch_at-g-requires
 unfolding fill
-npdsch_at-g-requires c = let e = c.before in e.before.short2.ensures.last e.if-short2.false
+npdsch_at-g-requires c = let e = c in e.short2.ensures.last e.if-short2.false
 
 pub slice_bounds-fill_lent-count : goal.slice_bounds-fill_lent-count
 unfolding fill
-slice_bounds-fill_lent-count c = let e = c.before.before in e.before.short2.ensures.first e.if-short2.false
+slice_bounds-fill_lent-count c = let e = c in e.short2.ensures.first e.if-short2.false
 
 pub slice_bounds-fill_lent-start : goal.slice_bounds-fill_lent-start
 unfolding fill
-slice_bounds-fill_lent-start c = let e = c.before.before in e.before.short2.ensures.first e.if-short2.false
+slice_bounds-fill_lent-start c = let e = c in e.short2.ensures.first e.if-short2.false
 
 pub slice_bounds-fill_lent-end : goal.slice_bounds-fill_lent-end
 unfolding fill
@@ -43,6 +43,6 @@ shape_of-output c = search rules
 
 pub returns : goal.returns
 unfolding fill
-returns c = let f = c.before.before in let g = f.before.before.before in let e = g.before.before in
-    replied _ e.before.short2.ensures.says e.if-short2.false
-    (ap₂ (λ x y. (x, y)) f.fill_lent.ensures.0 f.fill_lent.ensures.1 ∙ simp (g.npdsch_at-g.ensures, g.before.config_at-c.ensures, to_end))
+returns c = let f = c in let g = f in let e = g in
+    replied _ e.short2.ensures.says e.if-short2.false
+    (ap₂ (λ x y. (x, y)) f.fill_lent.ensures.0 f.fill_lent.ensures.1 ∙ simp (g.npdsch_at-g.ensures, g.config_at-c.ensures, to_end))

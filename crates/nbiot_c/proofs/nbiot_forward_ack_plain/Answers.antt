@@ -10,7 +10,7 @@ short_beside-requires c = tt
 
 pub returns-then-short_beside : goal.returns-then-short_beside
 unfolding forward_ack
-returns-then-short_beside c = unread _ _ c.before.short_beside.ensures.says c.if-short_beside.true
+returns-then-short_beside c = unread _ _ c.short_beside.ensures.says c.if-short_beside.true
 
 pub windows_of-ws-requires : goal.windows_of-ws-requires
 unfolding forward_ack
@@ -18,7 +18,7 @@ windows_of-ws-requires c = tt
 
 pub harq_ack_at-requires : goal.harq_ack_at-requires
 unfolding forward_ack
-harq_ack_at-requires c = let e = c.before in e.before.short_beside.ensures.first e.if-short_beside.false
+harq_ack_at-requires c = let e = c in e.short_beside.ensures.first e.if-short_beside.false
 
 pub forward_harq_ack-a-requires : goal.forward_harq_ack-a-requires
 unfolding forward_ack
@@ -26,7 +26,7 @@ forward_harq_ack-a-requires c = tt
 
 pub put_uplink_place-requires : goal.put_uplink_place-requires
 unfolding forward_ack
-put_uplink_place-requires c = let e = c.before.before.before.before in e.before.short_beside.ensures.last e.if-short_beside.false
+put_uplink_place-requires c = let e = c in e.short_beside.ensures.last e.if-short_beside.false
 
 pub shape_of-answer : goal.shape_of-answer
 unfolding forward_ack
@@ -34,6 +34,6 @@ shape_of-answer c = search rules
 
 pub returns : goal.returns
 unfolding forward_ack
-returns c = let p = c.before.before in let a = p.before.before in let e = a.before.before.before in
-    replied _ e.before.short_beside.ensures.says e.if-short_beside.false
-    (p.put_uplink_place.ensures ∙ simp (a.forward_harq_ack-a.ensures, a.before.harq_ack_at.ensures, a.before.before.windows_of-ws.ensures))
+returns c = let p = c in let a = p in let e = a in
+    replied _ e.short_beside.ensures.says e.if-short_beside.false
+    (p.put_uplink_place.ensures ∙ simp (a.forward_harq_ack-a.ensures, a.harq_ack_at.ensures, a.windows_of-ws.ensures))

@@ -10,15 +10,15 @@ short3-requires c = tt
 
 pub returns-then-short3 : goal.returns-then-short3
 unfolding forward_control
-returns-then-short3 c = unread _ _ c.before.short3.ensures.says c.if-short3.true
+returns-then-short3 c = unread _ _ c.short3.ensures.says c.if-short3.true
 
 pub cell_in-c-requires : goal.cell_in-c-requires
 unfolding forward_control
-cell_in-c-requires c = c.before.short3.ensures.first c.if-short3.false
+cell_in-c-requires c = c.short3.ensures.first c.if-short3.false
 
 pub npdcch_at-g-requires : goal.npdcch_at-g-requires
 unfolding forward_control
-npdcch_at-g-requires c = let e = c.before in e.before.short3.ensures.middle e.if-short3.false
+npdcch_at-g-requires c = let e = c in e.short3.ensures.middle e.if-short3.false
 
 pub forward_npdcch-a-requires : goal.forward_npdcch-a-requires
 unfolding forward_control
@@ -26,7 +26,7 @@ forward_npdcch-a-requires c = tt
 
 pub put_downlink_place-requires : goal.put_downlink_place-requires
 unfolding forward_control
-put_downlink_place-requires c = let e = c.before.before.before.before in e.before.short3.ensures.last e.if-short3.false
+put_downlink_place-requires c = let e = c in e.short3.ensures.last e.if-short3.false
 
 pub shape_of-answer : goal.shape_of-answer
 unfolding forward_control
@@ -34,6 +34,6 @@ shape_of-answer c = search rules
 
 pub returns : goal.returns
 unfolding forward_control
-returns c = let p = c.before.before in let a = p.before.before in let e = a.before.before.before in
-    replied _ e.before.short3.ensures.says e.if-short3.false
-    (p.put_downlink_place.ensures ∙ simp (a.forward_npdcch-a.ensures, a.before.npdcch_at-g.ensures, a.before.before.cell_in-c.ensures))
+returns c = let p = c in let a = p in let e = a in
+    replied _ e.short3.ensures.says e.if-short3.false
+    (p.put_downlink_place.ensures ∙ simp (a.forward_npdcch-a.ensures, a.npdcch_at-g.ensures, a.cell_in-c.ensures))

@@ -10,11 +10,11 @@ short2-requires c = tt
 
 pub returns-then-short2 : goal.returns-then-short2
 unfolding forward_on
-returns-then-short2 c = unread _ _ c.before.short2.ensures.says c.if-short2.true
+returns-then-short2 c = unread _ _ c.short2.ensures.says c.if-short2.true
 
 pub cell_in-requires : goal.cell_in-requires
 unfolding forward_on
-cell_in-requires c = c.before.short2.ensures.first c.if-short2.false
+cell_in-requires c = c.short2.ensures.first c.if-short2.false
 
 pub forward_npbch-a-requires : goal.forward_npbch-a-requires
 unfolding forward_on
@@ -22,7 +22,7 @@ forward_npbch-a-requires c = tt
 
 pub put_downlink_place-requires : goal.put_downlink_place-requires
 unfolding forward_on
-put_downlink_place-requires c = let e = c.before.before.before in e.before.short2.ensures.last e.if-short2.false
+put_downlink_place-requires c = let e = c in e.short2.ensures.last e.if-short2.false
 
 pub shape_of-answer : goal.shape_of-answer
 unfolding forward_on
@@ -30,5 +30,5 @@ shape_of-answer c = search rules
 
 pub returns : goal.returns
 unfolding forward_on
-returns c = let p = c.before.before in let a = p.before.before in let e = a.before.before in
-    replied _ e.before.short2.ensures.says e.if-short2.false (p.put_downlink_place.ensures ∙ simp (a.forward_npbch-a.ensures, a.before.cell_in.ensures))
+returns c = let p = c in let a = p in let e = a in
+    replied _ e.short2.ensures.says e.if-short2.false (p.put_downlink_place.ensures ∙ simp (a.forward_npbch-a.ensures, a.cell_in.ensures))

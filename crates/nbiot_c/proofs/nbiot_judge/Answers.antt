@@ -30,4 +30,4 @@ judge_lent-requires c = tt
 
 pub returns : goal.returns
 unfolding judge
-returns c = let j = c.before.before in simp (c.judge_lent.ensures, j.config_at.ensures, to_end, le-ltb _ _ j.before.if-cell-lt8.false)
+returns c = let j = c in simp (c.judge_lent.ensures, j.config_at.ensures, to_end, le-ltb _ _ j.if-cell-lt8.false)

@@ -11,23 +11,23 @@ short3-requires c = tt
 
 pub returns-then-short3 : goal.returns-then-short3
 unfolding plan_control
-returns-then-short3 c = unread _ _ c.before.short3.ensures.says c.if-short3.true
+returns-then-short3 c = unread _ _ c.short3.ensures.says c.if-short3.true
 
 pub config_at-c-requires : goal.config_at-c-requires
 unfolding plan_control
-config_at-c-requires c = c.before.short3.ensures.first c.if-short3.false
+config_at-c-requires c = c.short3.ensures.first c.if-short3.false
 
 pub npdcch_at-g-requires : goal.npdcch_at-g-requires
 unfolding plan_control
-npdcch_at-g-requires c = let e = c.before in e.before.short3.ensures.middle e.if-short3.false
+npdcch_at-g-requires c = let e = c in e.short3.ensures.middle e.if-short3.false
 
 pub slice_bounds-plan_lent-count : goal.slice_bounds-plan_lent-count
 unfolding plan_control
-slice_bounds-plan_lent-count c = let e = c.before.before in e.before.short3.ensures.first e.if-short3.false
+slice_bounds-plan_lent-count c = let e = c in e.short3.ensures.first e.if-short3.false
 
 pub slice_bounds-plan_lent-start : goal.slice_bounds-plan_lent-start
 unfolding plan_control
-slice_bounds-plan_lent-start c = let e = c.before.before in e.before.short3.ensures.first e.if-short3.false
+slice_bounds-plan_lent-start c = let e = c in e.short3.ensures.first e.if-short3.false
 
 pub slice_bounds-plan_lent-end : goal.slice_bounds-plan_lent-end
 unfolding plan_control
@@ -39,7 +39,7 @@ plan_lent-a-requires c = tt
 
 pub put_downlink_plan-requires : goal.put_downlink_plan-requires
 unfolding plan_control
-put_downlink_plan-requires c = let e = c.before.before.before.before.before in e.before.short3.ensures.last e.if-short3.false
+put_downlink_plan-requires c = let e = c in e.short3.ensures.last e.if-short3.false
 
 pub shape_of-answer : goal.shape_of-answer
 unfolding plan_control
@@ -47,6 +47,6 @@ shape_of-answer c = search rules
 
 pub returns : goal.returns
 unfolding plan_control
-returns c = let p = c.before.before in let a = p.before.before in let n = a.before.before in let e = n.before.before in
-    replied _ e.before.short3.ensures.says e.if-short3.false
-    (p.put_downlink_plan.ensures ∙ simp (a.plan_lent-a.ensures, n.npdcch_at-g.ensures, n.before.config_at-c.ensures, to_end))
+returns c = let p = c in let a = p in let n = a in let e = n in
+    replied _ e.short3.ensures.says e.if-short3.false
+    (p.put_downlink_plan.ensures ∙ simp (a.plan_lent-a.ensures, n.npdcch_at-g.ensures, n.config_at-c.ensures, to_end))

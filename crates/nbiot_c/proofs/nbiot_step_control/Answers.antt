@@ -16,27 +16,27 @@ short2-requires c = tt
 
 pub returns-then-short2 : goal.returns-then-short2
 unfolding step_control asked
-returns-then-short2 c = unread _ _ c.before.short2.ensures.says c.if-short2.true
+returns-then-short2 c = unread _ _ c.short2.ensures.says c.if-short2.true
 
 pub bounds-walk-0 : goal.bounds-walk-0
 unfolding step_control asked
-bounds-walk-0 c = omega (arith, c.before.before.short2.ensures.first c.before.if-short2.false)
+bounds-walk-0 c = omega (arith, c.short2.ensures.first c.if-short2.false)
 
 pub config_at-c-requires : goal.config_at-c-requires
 unfolding step_control asked
-config_at-c-requires c = let e = c.before.before in omega (arith, e.before.short2.ensures.first e.if-short2.false)
+config_at-c-requires c = let e = c in omega (arith, e.short2.ensures.first e.if-short2.false)
 
 pub npdcch_at-g-requires : goal.npdcch_at-g-requires
 unfolding step_control asked
-npdcch_at-g-requires c = let e = c.before.before.before.before in e.before.short2.ensures.first e.if-short2.false
+npdcch_at-g-requires c = let e = c in e.short2.ensures.first e.if-short2.false
 
 pub slice_bounds-forward_lent-count : goal.slice_bounds-forward_lent-count
 unfolding step_control asked
-slice_bounds-forward_lent-count c = let e = c.before.before.before.before.before in omega (arith, e.before.short2.ensures.first e.if-short2.false)
+slice_bounds-forward_lent-count c = let e = c in omega (arith, e.short2.ensures.first e.if-short2.false)
 
 pub slice_bounds-forward_lent-start : goal.slice_bounds-forward_lent-start
 unfolding step_control asked
-slice_bounds-forward_lent-start c = let e = c.before.before.before.before.before.before in omega (arith, e.before.short2.ensures.first e.if-short2.false)
+slice_bounds-forward_lent-start c = let e = c in omega (arith, e.short2.ensures.first e.if-short2.false)
 
 pub slice_bounds-forward_lent-end : goal.slice_bounds-forward_lent-end
 unfolding step_control asked
@@ -48,11 +48,11 @@ forward_lent-a-requires c = tt
 
 pub slice_bounds-plan_lent-count : goal.slice_bounds-plan_lent-count
 unfolding step_control asked
-slice_bounds-plan_lent-count c = let e = c.before.before.before.before.before.before.before.before.before.before in omega (arith, e.before.short2.ensures.first e.if-short2.false)
+slice_bounds-plan_lent-count c = let e = c in omega (arith, e.short2.ensures.first e.if-short2.false)
 
 pub slice_bounds-plan_lent-start : goal.slice_bounds-plan_lent-start
 unfolding step_control asked
-slice_bounds-plan_lent-start c = let e = c.before.before.before.before.before.before.before.before.before.before.before in omega (arith, e.before.short2.ensures.first e.if-short2.false)
+slice_bounds-plan_lent-start c = let e = c in omega (arith, e.short2.ensures.first e.if-short2.false)
 
 pub slice_bounds-plan_lent-end : goal.slice_bounds-plan_lent-end
 unfolding step_control asked
@@ -68,10 +68,10 @@ downlink_end-end-requires c = tt
 
 pub put_step-requires : goal.put_step-requires
 unfolding step_control asked
-put_step-requires c = let f = c.before.before.before.before in let n = f.before.before.before in let e = n.before.before.before.before.before in
-    let x = e.before.before.before.before.before.before.args in
-    let long = e.before.short2.ensures in let a = from_downlink f.forward_lent-a.result in
-    (omega (arith, long.first e.if-short2.false), long.last e.if-short2.false, next_fits (npdcch_walk x.walk-1.now) x.anchor.now x.other.now a (simp (f.forward_lent-a.ensures, n.npdcch_at-g.ensures, n.before.before.config_at-c.ensures, to_end)))
+put_step-requires c = let f = c in let n = f in let e = n in
+    let x = e.args in
+    let long = e.short2.ensures in let a = from_downlink f.forward_lent-a.result in
+    (omega (arith, long.first e.if-short2.false), long.last e.if-short2.false, next_fits (npdcch_walk x.walk-1.now) x.anchor.now x.other.now a (simp (f.forward_lent-a.ensures, n.npdcch_at-g.ensures, n.config_at-c.ensures, to_end)))
 
 pub shape_of-walk : goal.shape_of-walk
 unfolding step_control asked
@@ -83,9 +83,9 @@ shape_of-answer c = search rules
 
 pub returns : goal.returns
 unfolding step_control asked
-returns c = let p = c.before.before.before.before in let j = p.before.before.before in let f = j.before.before in
-    let n = f.before.before.before in let e = n.before.before.before.before.before in
-    let x = e.before.before.before.before.before.before.args in
-    replied _ e.before.short2.ensures.says e.if-short2.false (p.put_step.ensures
-    ∙ stepped_by (npdcch_walk x.walk-1.now) x.anchor.now x.other.now (from_downlink f.forward_lent-a.result) (simp (f.forward_lent-a.ensures, n.npdcch_at-g.ensures, n.before.before.config_at-c.ensures, to_end)) x.walk-1.now x.answer-1.now
-    (⊎_elim (λ h. inl (h.0.true, h.5 ∙ h.4.ensures ∙ simp (h.3.ensures, n.npdcch_at-g.ensures, n.before.before.config_at-c.ensures, to_end))) (λ h. inr (h.0.left, h.1)) j.if-a-eq14.branch))
+returns c = let p = c in let j = p in let f = j in
+    let n = f in let e = n in
+    let x = e.args in
+    replied _ e.short2.ensures.says e.if-short2.false (p.put_step.ensures
+    ∙ stepped_by (npdcch_walk x.walk-1.now) x.anchor.now x.other.now (from_downlink f.forward_lent-a.result) (simp (f.forward_lent-a.ensures, n.npdcch_at-g.ensures, n.config_at-c.ensures, to_end)) x.walk-1.now x.answer-1.now
+    (⊎_elim (λ h. inl (h.0.true, h.5 ∙ h.4.ensures ∙ simp (h.3.ensures, n.npdcch_at-g.ensures, n.config_at-c.ensures, to_end))) (λ h. inr (h.0.left, h.1)) j.if-a-eq14.branch))

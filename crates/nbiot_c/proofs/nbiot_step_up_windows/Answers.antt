@@ -16,15 +16,15 @@ short_beside-requires c = tt
 
 pub returns-then-short_beside : goal.returns-then-short_beside
 unfolding step_up asked
-returns-then-short_beside c = unread _ _ c.before.short_beside.ensures.says c.if-short_beside.true
+returns-then-short_beside c = unread _ _ c.short_beside.ensures.says c.if-short_beside.true
 
 pub bounds-walk-0 : goal.bounds-walk-0
 unfolding step_up asked
-bounds-walk-0 c = omega (arith, c.before.before.short_beside.ensures.first c.before.if-short_beside.false)
+bounds-walk-0 c = omega (arith, c.short_beside.ensures.first c.if-short_beside.false)
 
 pub npusch_at-g-requires : goal.npusch_at-g-requires
 unfolding step_up asked
-npusch_at-g-requires c = let e = c.before.before in e.before.short_beside.ensures.first e.if-short_beside.false
+npusch_at-g-requires c = let e = c in e.short_beside.ensures.first e.if-short_beside.false
 
 pub forward_up_beside-a-requires : goal.forward_up_beside-a-requires
 unfolding step_up asked
@@ -40,9 +40,9 @@ uplink_end-end-requires c = tt
 
 pub put_step-requires : goal.put_step-requires
 unfolding step_up asked
-put_step-requires c = let f = c.before.before.before.before in let e = f.before.before.before.before in let x = e.before.before.before.before.before.args in
-    let long = e.before.short_beside.ensures in let a = from_uplink f.forward_up_beside-a.result in
-    (omega (arith, long.first e.if-short_beside.false), long.last e.if-short_beside.false, next_fits (npusch_walk x.walk-1.now x.windows.now) [] [] a (simp (f.forward_up_beside-a.ensures, f.before.npusch_at-g.ensures)))
+put_step-requires c = let f = c in let e = f in let x = e.args in
+    let long = e.short_beside.ensures in let a = from_uplink f.forward_up_beside-a.result in
+    (omega (arith, long.first e.if-short_beside.false), long.last e.if-short_beside.false, next_fits (npusch_walk x.walk-1.now x.windows.now) [] [] a (simp (f.forward_up_beside-a.ensures, f.npusch_at-g.ensures)))
 
 pub shape_of-walk : goal.shape_of-walk
 unfolding step_up asked
@@ -54,8 +54,8 @@ shape_of-answer c = search rules
 
 pub returns : goal.returns
 unfolding step_up asked
-returns c = let p = c.before.before.before.before in let j = p.before.before.before in let f = j.before.before in
-    let e = f.before.before.before.before in let x = e.before.before.before.before.before.args in
-    replied _ e.before.short_beside.ensures.says e.if-short_beside.false (p.put_step.ensures
-    ∙ stepped_by (npusch_walk x.walk-1.now x.windows.now) [] [] (from_uplink f.forward_up_beside-a.result) (simp (f.forward_up_beside-a.ensures, f.before.npusch_at-g.ensures)) x.walk-1.now x.answer-1.now
-    (⊎_elim (λ h. inl (h.0.true, h.3 ∙ h.2.ensures ∙ simp (h.1.ensures, f.before.npusch_at-g.ensures))) (λ h. inr (h.0.left, h.1)) j.if-a-eq14.branch))
+returns c = let p = c in let j = p in let f = j in
+    let e = f in let x = e.args in
+    replied _ e.short_beside.ensures.says e.if-short_beside.false (p.put_step.ensures
+    ∙ stepped_by (npusch_walk x.walk-1.now x.windows.now) [] [] (from_uplink f.forward_up_beside-a.result) (simp (f.forward_up_beside-a.ensures, f.npusch_at-g.ensures)) x.walk-1.now x.answer-1.now
+    (⊎_elim (λ h. inl (h.0.true, h.3 ∙ h.2.ensures ∙ simp (h.1.ensures, f.npusch_at-g.ensures))) (λ h. inr (h.0.left, h.1)) j.if-a-eq14.branch))

@@ -7,8 +7,8 @@ use Rattle.npdcch.proofs.backward_lent.Goals as goal
 pub returns : goal.returns
 unfolding backward_of
 returns c =
-    let r = c.before in
-    c.backward.ensures ∙ backward_ready _ _ _ _ _ _ _ (question _ _ _ _ r.before.judged_lent-v.result r.before.judged_lent-v.ensures r.ready.result r.ready.ensures) _ _ _ _
+    let r = c in
+    c.backward.ensures ∙ backward_ready _ _ _ _ _ _ _ (question _ _ _ _ r.judged_lent-v.result r.judged_lent-v.ensures r.ready.result r.ready.ensures) _ _ _ _
 
 pub judged_lent-v-requires : goal.judged_lent-v-requires
 judged_lent-v-requires c = tt

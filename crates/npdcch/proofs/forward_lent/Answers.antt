@@ -7,8 +7,8 @@ use Rattle.npdcch.proofs.forward_lent.Goals as goal
 pub returns : goal.returns
 unfolding forward_of
 returns c =
-    let r = c.before in
-    c.forward.ensures ∙ forward_ready _ _ _ _ _ _ _ (question _ _ _ _ r.before.judged_lent-v.result r.before.judged_lent-v.ensures r.ready.result r.ready.ensures) _
+    let r = c in
+    c.forward.ensures ∙ forward_ready _ _ _ _ _ _ _ (question _ _ _ _ r.judged_lent-v.result r.judged_lent-v.ensures r.ready.result r.ready.ensures) _
 
 pub judged_lent-v-requires : goal.judged_lent-v-requires
 judged_lent-v-requires c = tt

@@ -7,7 +7,7 @@ use Rattle.npdsch.proofs.ready.Goals.{After-fields_refusal-no}
 use Rattle.npdsch.proofs.ready.Goals as goal
 
 -- the number that the grant got
-refusal : (c : After-fields_refusal-no) → c.fields_refusal-no.result ≡ grant_refusal c.before.before.before.args.g
+refusal : (c : After-fields_refusal-no) → c.fields_refusal-no.result ≡ grant_refusal c.args.g
 unfolding grant_refusal
 refusal c =
     let g = c.args.g in

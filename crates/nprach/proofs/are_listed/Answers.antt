@@ -23,6 +23,6 @@ is_sound-requires-4 c = tt
 pub returns : goal.returns
 unfolding are_listed
 returns c =
-    ap (λ (b : Bool). leb c.before.before.before.before.args.ws.count 4 && b)
-    (ap₂ ◌&&◌ (ap₂ ◌&&◌ c.before.before.before.is_sound.ensures c.before.before.is_sound-2.ensures)
-    (ap₂ ◌&&◌ c.before.is_sound-3.ensures c.is_sound-4.ensures))
+    ap (λ (b : Bool). leb c.args.ws.count 4 && b)
+    (ap₂ ◌&&◌ (ap₂ ◌&&◌ c.is_sound.ensures c.is_sound-2.ensures)
+    (ap₂ ◌&&◌ c.is_sound-3.ensures c.is_sound-4.ensures))

@@ -14,10 +14,10 @@ use Rattle.nprach.proofs.closure.Goals as goal
 
 -- the window concerns the tones, so it is listed
 module _ (c : Else-not-concerns) where
-  concerned : (c.before.before.args.read && shares_tone c.before.before.args.tone c.before.before.args.tones c.before.before.args.w) ≡ true
+  concerned : (c.args.read && shares_tone c.args.tone c.args.tones c.args.w) ≡ true
   concerned = sym c.concerns.ensures ∙ not-false _ c.if-not-concerns.false
 
-  numbered : Numbers c.before.before.args.w
+  numbered : Numbers c.args.w
   numbered =
       let a = c in
       numbers a.args.w (a.requires.4 (both_parts a.args.read (shares_tone a.args.tone a.args.tones a.args.w) concerned).0)
@@ -28,12 +28,12 @@ concerns-requires c = (c.requires.2, c.requires.3, c.requires.4)
 
 pub over_ms-requires : goal.over_ms-requires
 unfolding closure_of
-over_ms-requires c = (c.before.before.requires.0, c.before.before.requires.1)
+over_ms-requires c = (c.requires.0, c.requires.1)
 
 pub returns-then-not-concerns : goal.returns-then-not-concerns
 unfolding closure_of
 returns-then-not-concerns c =
-    rw (sym c.before.before.concerns.ensures ∙ not-true _ c.before.if-not-concerns.true) (λ j. record { period = c.over_ms.ensures j; phase = 0; closed = 0 })
+    rw (sym c.concerns.ensures ∙ not-true _ c.if-not-concerns.true) (λ j. record { period = c.over_ms.ensures j; phase = 0; closed = 0 })
 
 pub overflow_mul-unit : goal.overflow_mul-unit
 unfolding closure_of
@@ -41,7 +41,7 @@ overflow_mul-unit c = search rules
 
 pub over_ms-requires-2 : goal.over_ms-requires-2
 unfolding closure_of
-over_ms-requires-2 c = (c.before.before.requires.0, c.before.before.requires.1)
+over_ms-requires-2 c = (c.requires.0, c.requires.1)
 
 pub overflow_sub-start : goal.overflow_sub-start
 unfolding closure_of
@@ -49,7 +49,7 @@ overflow_sub-start c = omega (arith, (numbered c.before).start_to)
 
 pub over_ms-requires-3 : goal.over_ms-requires-3
 unfolding closure_of
-over_ms-requires-3 c = let a = c.before.before.before in (a.requires.0, a.requires.1)
+over_ms-requires-3 c = let a = c in (a.requires.0, a.requires.1)
 
 pub overflow_sub-unit : goal.overflow_sub-unit
 unfolding closure_of
@@ -57,19 +57,19 @@ overflow_sub-unit c = search rules
 
 pub overflow_add-length : goal.overflow_add-length
 unfolding closure_of
-overflow_add-length c = let e = c.before.before in omega (arith, (numbered e).length_to, e.before.before.requires.1)
+overflow_add-length c = let e = c in omega (arith, (numbered e.before.before).length_to, e.requires.1)
 
 pub over_ms-requires-4 : goal.over_ms-requires-4
 unfolding closure_of
-over_ms-requires-4 c = let a = c.before.before.before.before in (a.requires.0, a.requires.1)
+over_ms-requires-4 c = let a = c in (a.requires.0, a.requires.1)
 
 pub returns : goal.returns
 unfolding closure_of
 returns c =
-    let d = c.before in
-    let b = d.before in
-    let a = b.before.before.before.args in
-    rw (concerned b.before) (λ j. record {
+    let d = c in
+    let b = d in
+    let a = b.args in
+    rw (concerned b.before.before.before) (λ j. record {
       period = b.over_ms-2.ensures j;
       phase = d.over_ms-3.ensures j;
       closed = (c.over_ms-4.ensures ∙ div-div-eq-div-mul (a.w.length + (units_of_ms * a.ms - 1)) units_of_ms a.ms) j;

@@ -24,7 +24,7 @@ is_repeated-requires-2 c = lit< tt
 pub returns : goal.returns
 unfolding is_listed
 returns c =
-    let l = c.before.before in
-    ap₂ ◌&&◌ (ap₂ ◌&&◌ l.before.before.is_period.ensures l.before.is_start.ensures)
-    (ap₂ ◌&&◌ (ap₂ ◌||◌ l.is_repeated.ensures c.before.is_repeated-2.ensures ∙ either_length l.before.before.before.args.w.length)
-    (tone_fits l.before.before.before.args.w.tone))
+    let l = c in
+    ap₂ ◌&&◌ (ap₂ ◌&&◌ l.is_period.ensures l.is_start.ensures)
+    (ap₂ ◌&&◌ (ap₂ ◌||◌ l.is_repeated.ensures c.is_repeated-2.ensures ∙ either_length l.args.w.length)
+    (tone_fits l.args.w.tone))

@@ -6,8 +6,8 @@ use Rattle.nprach.proofs.nested_closures.Goals.{After-group_ms-ms}
 use Rattle.nprach.proofs.nested_closures.Goals as goal
 
 within : (c : After-group_ms-ms)
-    → let a = c.before.before.args in
-    (1 ≤ c.group_ms-ms.result) × (c.group_ms-ms.result ≤ 2) × (c.before.narrow_tones-scale.result * a.tone ≤ 48) × (c.before.narrow_tones-scale.result * a.tones ≤ 48)
+    → let a = c.args in
+    (1 ≤ c.group_ms-ms.result) × (c.group_ms-ms.result ≤ 2) × (c.narrow_tones-scale.result * a.tone ≤ 48) × (c.narrow_tones-scale.result * a.tones ≤ 48)
 within c =
     let a = c in
     scaled a.args.spacing _ _ _ _ c.narrow_tones-scale.ensures c.group_ms-ms.ensures a.requires.0

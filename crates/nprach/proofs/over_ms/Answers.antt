@@ -5,7 +5,7 @@ use native.Mathlib.Omega.{arith}
 use Rattle.nprach.proofs.over_ms.Goals.{Else-ms-eq1}
 use Rattle.nprach.proofs.over_ms.Goals as goal
 
-two : (c : Else-ms-eq1) → 2 ≡ c.before.args.ms
+two : (c : Else-ms-eq1) → 2 ≡ c.args.ms
 two c = omega arith
 
 pub returns-then-ms-eq1 : goal.returns-then-ms-eq1

@@ -20,19 +20,19 @@ fitting c = (ready _ _ c.judge-no.ensures c.if-no-ne0.false _ c.shape-s.ensures)
 pub returns-then-no-ne0 : goal.returns-then-no-ne0
 unfolding backward_of refusal shape_of
 returns-then-no-ne0 c =
-    let j = c.before.before in
-    let a = j.before.args in
-    c.refused.ensures ∙ refused_first a.g.spacing _ (fields_refusal a.g) (shape_of a.g) j.judge-no.ensures refused_back (λ S. back_in (uplink_subcarriers a.g.spacing) S a.slot a.l a.k) none c.before.if-no-ne0.true
+    let j = c in
+    let a = j.args in
+    c.refused.ensures ∙ refused_first a.g.spacing _ (fields_refusal a.g) (shape_of a.g) j.judge-no.ensures refused_back (λ S. back_in (uplink_subcarriers a.g.spacing) S a.slot a.l a.k) none c.if-no-ne0.true
 
 pub returns : goal.returns
 unfolding backward_of refusal shape_of
 returns c =
-    let s = c.before.before in
-    let e = s.before in
-    let a = e.before.before.args in
-    c.backward.ensures _ c.before.locate.ensures
-    ∙ ap (λ (T : ℕ). back_in T (sending_of s.shape-s.result all_open) a.slot a.l a.k) (subcarriers_own a.g _ e.before.judge-no.ensures e.if-no-ne0.false _ s.shape-s.ensures)
-    ∙ asked_alone a.g.spacing _ (fields_refusal a.g) (shape_of a.g) e.before.judge-no.ensures refused_back (λ S. back_in (uplink_subcarriers a.g.spacing) S a.slot a.l a.k) e.if-no-ne0.false _ s.shape-s.ensures
+    let s = c in
+    let e = s in
+    let a = e.args in
+    c.backward.ensures _ c.locate.ensures
+    ∙ ap (λ (T : ℕ). back_in T (sending_of s.shape-s.result all_open) a.slot a.l a.k) (subcarriers_own a.g _ e.judge-no.ensures e.if-no-ne0.false _ s.shape-s.ensures)
+    ∙ asked_alone a.g.spacing _ (fields_refusal a.g) (shape_of a.g) e.judge-no.ensures refused_back (λ S. back_in (uplink_subcarriers a.g.spacing) S a.slot a.l a.k) e.if-no-ne0.false _ s.shape-s.ensures
 
 pub judge-no-requires : goal.judge-no-requires
 judge-no-requires c = tt

@@ -15,19 +15,19 @@ use Rattle.npusch.proofs.backward_beside.Goals as goal
 pub returns-then-no-ne0 : goal.returns-then-no-ne0
 unfolding backward_of refusal shape_of
 returns-then-no-ne0 c =
-    let j = c.before.before in
-    let a = j.before.args in
-    c.refused.ensures ∙ refused_first a.g.spacing _ (fields_refusal a.g) (shape_of a.g) j.judge-no.ensures refused_back (λ S. back_in (uplink_subcarriers a.g.spacing) S a.slot a.l a.k) a.ws c.before.if-no-ne0.true
+    let j = c in
+    let a = j.args in
+    c.refused.ensures ∙ refused_first a.g.spacing _ (fields_refusal a.g) (shape_of a.g) j.judge-no.ensures refused_back (λ S. back_in (uplink_subcarriers a.g.spacing) S a.slot a.l a.k) a.ws c.if-no-ne0.true
 
 pub returns : goal.returns
 unfolding backward_of refusal shape_of
 returns c =
-    let s = c.before in
-    let e = s.before in
-    let a = e.before.before.args in
+    let s = c in
+    let e = s in
+    let a = e.args in
     c.backward.ensures
-    ∙ ap (λ (T : ℕ). backward_answer T (question_beside a.g.spacing s.shape.result a.ws) a.slot a.l a.k) (subcarriers_own a.g _ e.before.judge-no.ensures e.if-no-ne0.false _ s.shape.ensures)
-    ∙ asked_beside a.g.spacing _ (fields_refusal a.g) (shape_of a.g) e.before.judge-no.ensures refused_back (λ S. back_in (uplink_subcarriers a.g.spacing) S a.slot a.l a.k) e.if-no-ne0.false _ s.shape.ensures a.ws
+    ∙ ap (λ (T : ℕ). backward_answer T (question_beside a.g.spacing s.shape.result a.ws) a.slot a.l a.k) (subcarriers_own a.g _ e.judge-no.ensures e.if-no-ne0.false _ s.shape.ensures)
+    ∙ asked_beside a.g.spacing _ (fields_refusal a.g) (shape_of a.g) e.judge-no.ensures refused_back (λ S. back_in (uplink_subcarriers a.g.spacing) S a.slot a.l a.k) e.if-no-ne0.false _ s.shape.ensures a.ws
 
 pub judge-no-requires : goal.judge-no-requires
 judge-no-requires c = tt

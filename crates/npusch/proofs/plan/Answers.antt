@@ -21,11 +21,11 @@ returns-then-no-ne0 c =
 pub returns : goal.returns
 unfolding plan_of refusal shape_of
 returns c =
-    let s = c.before in
-    let e = s.before.before in
-    let a = e.before.before.args in
-    c.plan.ensures ∙ ap (λ (x : Sizes). plan_shown x.size x.order (extent_of (sending_of s.shape.result all_open))) s.before.sizes_of-own.ensures
-    ∙ asked_alone a.g.spacing _ (fields_refusal a.g) (shape_of a.g) e.before.judge-no.ensures refused_plan (λ S. plan_shown (grant_size a.g) (grant_order a.g) (extent_of S)) e.if-no-ne0.false _ s.shape.ensures
+    let s = c in
+    let e = s in
+    let a = e.args in
+    c.plan.ensures ∙ ap (λ (x : Sizes). plan_shown x.size x.order (extent_of (sending_of s.shape.result all_open))) s.sizes_of-own.ensures
+    ∙ asked_alone a.g.spacing _ (fields_refusal a.g) (shape_of a.g) e.judge-no.ensures refused_plan (λ S. plan_shown (grant_size a.g) (grant_order a.g) (extent_of S)) e.if-no-ne0.false _ s.shape.ensures
 
 pub judge-no-requires : goal.judge-no-requires
 judge-no-requires c = tt

@@ -13,18 +13,19 @@ use Rattle.elements.specs.Elements.{count_of}
 use Rattle.downlink.specs.Mapping.{places, sending_of}
 use Rattle.downlink.specs.Answers.{refused_place, place_of}
 use Rattle.downlink.proofs.Joined.{places_small, sent_small, forward_is, unit_below, rest_below}
-use Rattle.plain_downlink.proofs.burst_forward.Goals.{Start, After-sent_subframes, Else-position-total, After-count_used-w}
+use Rattle.plain_downlink.proofs.burst_forward.Goals.{Start}
+use Rattle.plain_downlink.proofs.burst_forward.Tie as tie
 use Rattle.plain_downlink.proofs.burst_forward.Goals as goal
 
 abbrev u : Start → ℕ → Bool
 u s = left_in s.args.p s.args.laid (messages_in s.args.si.now)
 
-all : (c : After-sent_subframes) → c.sent_subframes.result * c.before.count_used-w.result ≡ places c.before.before.before.args.b
+all : (c : tie.After-sent_subframes) → c.sent_subframes.result * c.count_used-w.result ≡ places c.args.b
 all c = ap₂ (λ (x y : ℕ). x * y) c.sent_subframes.ensures.0 c.count_used-w.ensures.0
 
 -- the position is one of the places: its subframe is sent, and its element is used
-module _ (c : Else-position-total) where
-  abbrev w : After-count_used-w
+module _ (c : tie.Else-position-total) where
+  abbrev w : tie.After-count_used-w
   w = c.before.before
 
   abbrev s : Start
@@ -50,10 +51,10 @@ returns c =
     let k = c in
     let t = k in
     let e = t in
-    let a = s e.before.before.before.before.before.before.before in
+    let a = s e.before.before.before.before.before.before.before.before in
     let b = a.args.b in
     c.place.ensures
-    ∙ forward_is (u a) all_periods b a.args.position _ _ _ _ _ (held e.before.before.before.before.before.before.before) (w e.before.before.before.before.before.before.before).count_used-w.ensures.0
+    ∙ forward_is (u a) all_periods b a.args.position _ _ _ _ _ (held e.before.before.before.before.before.before.before.before) (w e.before.before.before.before.before.before.before.before).count_used-w.ensures.0
     (t.usable_at-t.ensures
     ∙ sym (select_from (u a) all_periods (left_again a.args.p a.args.laid (messages_in a.args.si.now) a.requires.0.on) a.requires.0.some b.from b.skip _))
     k.used_at-x.ensures k.carried_by-unit.ensures.0 c.item.ensures
@@ -75,25 +76,25 @@ returns-then-position-total c =
     let t = c in
     let n = t in
     let a = n in
-    c.refused_place.ensures ∙ sym (past_at refused_place place_of (sending_of (u a) all_periods a.args.b) a.args.position (omega (arith, all n.before.before, t.if-position-total.true)))
+    c.refused_place.ensures ∙ sym (past_at refused_place place_of (sending_of (u a.before.before.before.before.before.before.before) all_periods a.args.b) a.args.position (omega (arith, all n.before.before.before, t.if-position-total.true)))
 
 pub overflow_add-b : goal.overflow_add-b
-overflow_add-b c = omega (arith, few c.before)
+overflow_add-b c = omega (arith, few c.before.before)
 
 pub usable_at-t-requires : goal.usable_at-t-requires
-usable_at-t-requires c = let a = s c.before in (a.requires.0, a.requires.1.from_small, few c.before)
+usable_at-t-requires c = let a = s c.before.before in (a.requires.0, a.requires.1.from_small, few c.before.before)
 
 pub used_at-x-requires : goal.used_at-x-requires
-used_at-x-requires c = let e = c in let f = (s e.before.before.before).requires.1 in (f.layout, f.part, rest e.before.before.before)
+used_at-x-requires c = let e = c in let f = (s e.before.before.before.before).requires.1 in (f.layout, f.part, rest e.before.before.before.before)
 
 pub carried_by-unit-requires : goal.carried_by-unit-requires
-carried_by-unit-requires c = (s c.before.before.before.before).requires.1
+carried_by-unit-requires c = (s c.before.before.before.before.before).requires.1
 
 pub item-requires : goal.item-requires
 item-requires c =
     let e = c in
-    let n = (w e.before.before.before.before.before).count_used-w.ensures in
-    (omega (arith, c.carried_by-unit.ensures.1), omega (arith, n.2), omega (arith, rest e.before.before.before.before.before, n.0))
+    let n = (w e.before.before.before.before.before.before).count_used-w.ensures in
+    (omega (arith, c.carried_by-unit.ensures.1), omega (arith, n.2), omega (arith, rest e.before.before.before.before.before.before, n.0))
 
 pub place-requires : goal.place-requires
 place-requires c = tt

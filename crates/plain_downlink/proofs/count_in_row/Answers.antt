@@ -16,7 +16,7 @@ module _ (c : After-is_used) where
   abbrev s : At-loop-k
   s = c.before.before
 
-  more : let a = s.before.args in number_of a.g a.low a.width (element_of a.slot a.l 0) + (s.loop-k.n + bool_byte c.is_used.result)
+  more : let a = s.args in number_of a.g a.low a.width (element_of a.slot a.l 0) + (s.loop-k.n + bool_byte c.is_used.result)
       ≡ number_of a.g a.low a.width (element_of a.slot a.l (s.loop-k.k + 1))
   more =
       let a = s.args in

@@ -15,7 +15,7 @@ module _ (c : After-count_in_row-n) where
   abbrev s : At-loop-row
   s = c.before.before
 
-  more : let a = s.before.args in s.loop-row.n + c.count_in_row-n.result ≡ number_of a.g a.low a.width (subcarriers * (s.loop-row.row + 1))
+  more : let a = s.args in s.loop-row.n + c.count_in_row-n.result ≡ number_of a.g a.low a.width (subcarriers * (s.loop-row.row + 1))
   more =
       let a = s.args in
       let u = used a.g a.low a.width in

@@ -18,4 +18,4 @@ is_crs-requires c = tt
 
 pub returns : goal.returns
 unfolding nrs crs
-returns c = ap₂ (λ (x y : Bool). x || y) c.before.is_nrs.ensures c.is_crs.ensures
+returns c = ap₂ (λ (x y : Bool). x || y) c.is_nrs.ensures c.is_crs.ensures

@@ -8,8 +8,8 @@ use Rattle.plain_downlink.proofs.places_npdsch.Goals as goal
 pub returns : goal.returns
 unfolding plan_of
 returns c =
-    let r = c.before in
-    let e = c.total.ensures ∙ ends _ _ _ _ _ _ _ (question _ _ _ _ r.before.judged-v.result r.before.judged-v.ensures r.ready.result r.ready.ensures) in
+    let r = c in
+    let e = c.total.ensures ∙ ends _ _ _ _ _ _ _ (question _ _ _ _ r.judged-v.result r.judged-v.ensures r.ready.result r.ready.ensures) in
     (ap (λ (x : Places). x.no) e, ap (λ (x : Places). x.places) e)
 
 pub judged-v-requires : goal.judged-v-requires

@@ -12,7 +12,8 @@ use Rattle.messages.specs.Messages.{all_periods}
 use Rattle.subframes.specs.Subframes.{messages_in}
 use Rattle.subframes.specs.Scaffold.{left_in}
 use Rattle.subframes.proofs.Left.{left_again}
-use Rattle.plain_downlink.proofs.usable_at.Goals.{Start, Else-ahead-d, At-loop-ahead}
+use Rattle.plain_downlink.proofs.usable_at.Goals.{Start}
+use Rattle.plain_downlink.proofs.usable_at.Tie as tie
 use Rattle.plain_downlink.proofs.usable_at.Goals as goal
 
 -- what is searched repeats, and has some
@@ -24,8 +25,8 @@ module _ (s : Start) where
   again = left_again s.args.p s.args.laid (messages_in s.args.si.now) s.requires.0.on
 
 -- past the test: the one looked for lies beyond
-module _ (c : Else-ahead-d) where
-  abbrev l : At-loop-ahead
+module _ (c : tie.Else-ahead-d goal.the-invariant-loop-ahead goal.the-decreases-loop-ahead) where
+  abbrev l : tie.At-loop-ahead goal.the-invariant-loop-ahead goal.the-decreases-loop-ahead
   l = c.before.before
 
   abbrev a : Start
@@ -41,10 +42,10 @@ returns-then-ahead-d c =
     let l = c in
     let a = l in
     let w = byte_some c.is_usable-d.result l.loop-ahead.ahead c.if-ahead-d.true in
-    here (u a.before.before.before.before) all_periods (again a.before.before.before.before) a.requires.0.some a.args.from a.args.k l.loop-ahead.t l.loop-ahead.ahead l.loop-ahead.invariant.1 (sym c.is_usable-d.ensures ∙ w.0) w.1
+    here (u a.before.before.before.before.before) all_periods (again a.before.before.before.before.before) a.requires.0.some a.args.from a.args.k l.loop-ahead.t l.loop-ahead.ahead l.loop-ahead.invariant.1 (sym c.is_usable-d.ensures ∙ w.0) w.1
 
 pub loop-ahead-init : goal.loop-ahead-init
-loop-ahead-init c = let s = c in ((select_is (u s.before) all_periods (again s.before) s.requires.0.some s.args.from s.args.k).late, omega arith)
+loop-ahead-init c = let s = c in ((select_is (u s.before.before) all_periods (again s.before.before) s.requires.0.some s.args.from s.args.k).late, omega arith)
 
 pub is_usable-d-requires : goal.is_usable-d-requires
 is_usable-d-requires c = c.requires.0.on
@@ -54,11 +55,11 @@ overflow_cast-d c = omega (arith, byte_le c.is_usable-d.result)
 
 pub overflow_add-t : goal.overflow_add-t
 overflow_add-t c =
-    let s = a c in
-    omega (arith, short c, s.requires.1, s.requires.2, select_below (u s) all_periods (again s) s.requires.0.some s.args.from s.args.k)
+    let s = a c.before in
+    omega (arith, short c.before, s.requires.1, s.requires.2, select_below (u s) all_periods (again s) s.requires.0.some s.args.from s.args.k)
 
 pub loop-ahead-smaller : goal.loop-ahead-smaller
-loop-ahead-smaller c = omega (arith, short c)
+loop-ahead-smaller c = omega (arith, short c.before)
 
 pub loop-ahead-preserved : goal.loop-ahead-preserved
-loop-ahead-preserved c = (omega (arith, short c), omega (arith, (l c).loop-ahead.invariant.1, c.if-ahead-d.false, rank_on (u (a c)) (l c).loop-ahead.t, ap bool_byte c.is_usable-d.ensures))
+loop-ahead-preserved c = (omega (arith, short c.before), omega (arith, (l c.before).loop-ahead.invariant.1, c.if-ahead-d.false, rank_on (u (a c.before)) (l c.before).loop-ahead.t, ap bool_byte c.is_usable-d.ensures))

@@ -26,7 +26,7 @@ module _ (c : After-count_in_row-n) where
   abbrev u : ℕ → Bool
   u = let a = l.args in used a.g a.low a.width
 
-  first : rank u (element_of (l.loop-left.row / symbols) (l.loop-left.row % symbols) 0) + l.loop-left.left ≡ l.before.args.e
+  first : rank u (element_of (l.loop-left.row / symbols) (l.loop-left.row % symbols) 0) + l.loop-left.left ≡ l.args.e
   first = omega (arith, l.loop-left.invariant, row_first u l.loop-left.row)
 
 pub loop-left-init : goal.loop-left-init

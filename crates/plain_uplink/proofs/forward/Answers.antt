@@ -8,7 +8,7 @@ use Rattle.plain_uplink.proofs.Clear.{clear_beside, leaves, all_listed}
 use Rattle.plain_uplink.proofs.forward.Goals.{Else-no-ne0}
 use Rattle.plain_uplink.proofs.forward.Goals as goal
 
-accepted : (c : Else-no-ne0) → let a = c.before.before.args in refusal_beside a.spacing a.s a.ws ≡ 0
+accepted : (c : Else-no-ne0) → let a = c.args in refusal_beside a.spacing a.s a.ws ≡ 0
 accepted c = sym c.refusal-no.ensures ∙ c.if-no-ne0.false
 
 pub refusal-no-requires : goal.refusal-no-requires

@@ -9,7 +9,7 @@ use Rattle.plain_uplink.specs.Places.{of_plan}
 use Rattle.plain_uplink.proofs.places_harq_ack.Goals.{After-count}
 use Rattle.plain_uplink.proofs.places_harq_ack.Goals as goal
 
-counted : (c : After-count) → let a = c.before.before.before.before.args in c.count.result ≡ of_plan (plan_of a.g a.ws)
+counted : (c : After-count) → let a = c.args in c.count.result ≡ of_plan (plan_of a.g a.ws)
 counted c =
     let s = c in
     let e = s in

@@ -9,7 +9,7 @@ use Rattle.plain_uplink.specs.Places.{of_plan}
 use Rattle.plain_uplink.proofs.places_npusch.Goals.{After-count}
 use Rattle.plain_uplink.proofs.places_npusch.Goals as goal
 
-counted : (c : After-count) → let a = c.before.before.before.before.args in c.count.result ≡ of_plan (plan_of a.g a.ws)
+counted : (c : After-count) → let a = c.args in c.count.result ≡ of_plan (plan_of a.g a.ws)
 counted c =
     let s = c in
     let e = s in

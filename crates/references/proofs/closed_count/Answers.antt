@@ -8,10 +8,10 @@ use Rattle.references.proofs.closed_count.Goals as goal
 few : (a b t : ℕ) → a ≤ 4 → t ≤ 2 → (a - b) * t ≤ 8
 few a b t h l = omega (arith, mul-le-mul {n₁ = a - b} {m₁ = t} {n₂ = 4} {m₂ = 2} (omega arith) l)
 
-at_0 : (c : After-taken_at_0) → (4 - c.before.one.result) * c.taken_at_0.result ≤ 8
+at_0 : (c : After-taken_at_0) → (4 - c.one.result) * c.taken_at_0.result ≤ 8
 at_0 c = few 4 _ _ (omega arith) c.taken_at_0.ensures.1
 
-at_1 : (c : After-taken_at_1) → (2 - c.before.one-2.result) * c.taken_at_1.result ≤ 8
+at_1 : (c : After-taken_at_1) → (2 - c.one-2.result) * c.taken_at_1.result ≤ 8
 at_1 c = few 2 _ _ (omega arith) c.taken_at_1.ensures.1
 
 pub returns : goal.returns

@@ -12,7 +12,7 @@ use Rattle.search_space.proofs.Listing.{set_more}
 use Rattle.search_space.proofs.blocks_alone.Goals.{After-ones_of-b, In-loop-i, Start}
 use Rattle.search_space.proofs.blocks_alone.Goals as goal
 
-counts : (c : After-ones_of-b) → OnesOf c.before.before.args.p c.before.ones_of-a.result c.ones_of-b.result
+counts : (c : After-ones_of-b) → OnesOf c.args.p c.ones_of-a.result c.ones_of-b.result
 counts c = record { sib1 = c.ones_of-a.ensures; usual = c.ones_of-b.ensures }
 
 -- a block inside Rmax
@@ -32,7 +32,7 @@ module _ (c : In-loop-i) where
   within : i < 8
   within = omega (arith, c.loop-i-test.true, start.requires.3.many)
 
-  small : c.before.loop-i.k + size < 2 ^ 32
+  small : c.loop-i.k + size < 2 ^ 32
   small =
       omega (
         arith,

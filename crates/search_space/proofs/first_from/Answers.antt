@@ -12,8 +12,8 @@ returns-then-x-part c =
     (part_first a.period a.part a.x c.requires.1 c.if-x-part.true, omega arith)
 
 soon : (c : Else-x-part)
-    → (c.before.args.x - c.before.args.part + (c.before.args.period - 1)) / c.before.args.period * c.before.args.period
-    < c.before.args.x - c.before.args.part + c.before.args.period
+    → (c.args.x - c.args.part + (c.args.period - 1)) / c.args.period * c.args.period
+    < c.args.x - c.args.part + c.args.period
 soon c =
     let a = c.args in
     (reached a.period a.part a.x c.requires.1 c.if-x-part.false _ refl).1

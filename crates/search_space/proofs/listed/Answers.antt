@@ -78,8 +78,8 @@ loop-k-preserved c =
 pub returns : goal.returns
 unfolding entry_in
 returns c =
-    let l = c.before.loop-k in
-    let x = c.before.before.args.x in
+    let l = c.loop-k in
+    let x = c.args.x in
     let e : l.k ≡ x.count = omega (arith, l.invariant.0, c.loop-k-test.false) in (
       l.invariant.1,
       λ k h.

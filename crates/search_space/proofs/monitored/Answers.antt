@@ -25,7 +25,7 @@ module _ (c : After-struct_known-1) where
   part_is : start.args.s.alpha * period / 8 ≡ part_of start.args.s
   part_is = ap (λ (x : ℕ). start.args.s.alpha * (x / 2) / 8) c.doubled_period-period.ensures.0
 
-start_is : (c : After-start_from-start) → c.start_from-start.result ≡ start_of c.before.before.before.args.s
+start_is : (c : After-start_from-start) → c.start_from-start.result ≡ start_of c.args.s
 unfolding start_of
 start_is c =
     let s = c.args.s in

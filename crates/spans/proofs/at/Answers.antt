@@ -13,29 +13,29 @@ small : (k per s : ℕ) → k < 2 ^ 32 → s ≤ 640 → k / per * s ≤ 2 ^ 42
 small k per s h l = omega (arith, mul-le-mul {n₁ = k / per} {m₁ = s} {n₂ = 2 ^ 32} {m₂ = 640} (omega (arith, div-le_self k per)) l)
 
 -- whole periods, and the rest
-split : (c : After-quotient-q) → c.quotient-q.result * c.before.in_period-per.result + c.before.before.args.k % c.before.in_period-per.result ≡ c.before.before.args.k
+split : (c : After-quotient-q) → c.quotient-q.result * c.in_period-per.result + c.args.k % c.in_period-per.result ≡ c.args.k
 split c =
     let k = c.args.k in
     let per = c.in_period-per.result in
     omega (arith, ap (λ (x : ℕ). x * per) c.quotient-q.ensures, div-add-mod' k per)
 
-rest : (c : After-quotient-q) → c.before.before.args.k - c.quotient-q.result * c.before.in_period-per.result ≡ c.before.before.args.k % c.before.in_period-per.result
+rest : (c : After-quotient-q) → c.args.k - c.quotient-q.result * c.in_period-per.result ≡ c.args.k % c.in_period-per.result
 rest c = omega (arith, split c)
 
 some : (c : After-in_period-per) → 0 < c.in_period-per.result
 some c = omega (arith, c.in_period-per.ensures.0, c.requires.2)
 
-whole : (c : After-power_of_two-period) → 40 * c.power_of_two-period.result ≡ period_of c.before.before.before.args.p
+whole : (c : After-power_of_two-period) → 40 * c.power_of_two-period.result ≡ period_of c.args.p
 whole c = omega (arith, c.power_of_two-period.ensures)
 
-periods : (c : After-power_of_two-period) → c.before.quotient-q.result * (40 * c.power_of_two-period.result) ≤ 2 ^ 42
+periods : (c : After-power_of_two-period) → c.quotient-q.result * (40 * c.power_of_two-period.result) ≤ 2 ^ 42
 periods c =
     let q = c in
     let s = q in
     let l : 40 * c.power_of_two-period.result ≤ 640 = omega (arith, c.power_of_two-period.ensures, few_spans s.args.p s.requires.0) in
     omega (arith, ap (λ (x : ℕ). x * (40 * c.power_of_two-period.result)) q.quotient-q.ensures, small s.args.k q.in_period-per.result _ s.requires.3 l)
 
-picked : (c : After-pick) → Picked c.before.before.before.before.args.p (c.before.before.before.before.args.k % c.before.before.before.in_period-per.result) c.pick.result
+picked : (c : After-pick) → Picked c.args.p (c.args.k % c.in_period-per.result) c.pick.result
 picked c = subst (λ (x : ℕ). Picked c.args.p x c.pick.result) (rest c.before.before) c.pick.ensures
 
 pub returns : goal.returns

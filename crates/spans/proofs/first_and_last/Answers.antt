@@ -8,7 +8,7 @@ use Rattle.spans.proofs.Laws.{nth_is}
 use Rattle.spans.proofs.first_and_last.Goals.{After-ones_of-b}
 use Rattle.spans.proofs.first_and_last.Goals as goal
 
-counts : (c : After-ones_of-b) → OnesOf c.before.before.args.p c.before.ones_of-a.result c.ones_of-b.result
+counts : (c : After-ones_of-b) → OnesOf c.args.p c.ones_of-a.result c.ones_of-b.result
 counts c = record { sib1 = c.ones_of-a.ensures; usual = c.ones_of-b.ensures }
 
 pub ones_of-a-requires : goal.ones_of-a-requires

@@ -10,7 +10,7 @@ use Rattle.spans.proofs.in_period.Goals as goal
 sum : (s : Start) → 4 * s.args.a + (spans_of s.args.p - 4) * s.args.b ≡ rank (allows s.args.p) (period_of s.args.p)
 sum s = rw (s.requires.1.sib1, s.requires.1.usual) (sym (some_of_period s.args.p s.requires.0))
 
-whole : (c : After-power_of_two) → 4 * c.before.args.a + (c.power_of_two.result - 4) * c.before.args.b ≡ rank (allows c.before.args.p) (period_of c.before.args.p)
+whole : (c : After-power_of_two) → 4 * c.args.a + (c.power_of_two.result - 4) * c.args.b ≡ rank (allows c.args.p) (period_of c.args.p)
 whole c = ap (λ (x : ℕ). 4 * c.args.a + (x - 4) * c.args.b) c.power_of_two.ensures ∙ sum c.before
 
 pub overflow_mul-result : goal.overflow_mul-result

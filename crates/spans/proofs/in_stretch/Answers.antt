@@ -9,16 +9,16 @@ use Rattle.spans.proofs.in_stretch.Goals.{After-quotient-q, After-nth_one}
 use Rattle.spans.proofs.in_stretch.Goals as goal
 
 -- whole spans of the stretch, and the rest
-split : (c : After-quotient-q) → c.quotient-q.result * c.before.args.n + c.before.args.k % c.before.args.n ≡ c.before.args.k
+split : (c : After-quotient-q) → c.quotient-q.result * c.args.n + c.args.k % c.args.n ≡ c.args.k
 split c = let s = c in omega (arith, ap (λ (x : ℕ). x * s.args.n) c.quotient-q.ensures, div-add-mod' s.args.k s.args.n)
 
-rest : (c : After-quotient-q) → c.before.args.k - c.quotient-q.result * c.before.args.n ≡ c.before.args.k % c.before.args.n
+rest : (c : After-quotient-q) → c.args.k - c.quotient-q.result * c.args.n ≡ c.args.k % c.args.n
 rest c = omega (arith, split c)
 
-rest_small : (c : After-quotient-q) → c.before.args.k - c.quotient-q.result * c.before.args.n < c.before.args.n
+rest_small : (c : After-quotient-q) → c.args.k - c.quotient-q.result * c.args.n < c.args.n
 rest_small c = let s = c in omega (arith, rest c, mod-lt s.args.k s.requires.1)
 
-small : (c : After-quotient-q) → c.before.args.n ≤ 40
+small : (c : After-quotient-q) → c.args.n ≤ 40
 small c = let s = c in omega (arith, s.requires.0, ones-le 40 s.args.mask s.requires.2)
 
 digit : (c : After-nth_one) → c.nth_one.result < 40

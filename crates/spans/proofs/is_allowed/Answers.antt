@@ -6,7 +6,7 @@ use Rattle.spans.proofs.is_allowed.Goals as goal
 
 pub returns : goal.returns
 unfolding allows
-returns c = ap (λ (m : ℕ). mask_bit m (c.before.args.t % span)) c.mask_at.ensures
+returns c = ap (λ (m : ℕ). mask_bit m (c.args.t % span)) c.mask_at.ensures
 
 pub mask_at-requires : goal.mask_at-requires
 mask_at-requires c = c.requires

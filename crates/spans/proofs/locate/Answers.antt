@@ -8,7 +8,7 @@ use Rattle.spans.proofs.Located.{early, skipped, past, found, ahead, amid}
 use Rattle.spans.proofs.locate.Goals.{After-ones_of-b, After-rank_of-2, Start}
 use Rattle.spans.proofs.locate.Goals as goal
 
-counts : (c : After-ones_of-b) → OnesOf c.before.before.before.args.p c.before.ones_of-a.result c.ones_of-b.result
+counts : (c : After-ones_of-b) → OnesOf c.args.p c.ones_of-a.result c.ones_of-b.result
 counts c = record { sib1 = c.ones_of-a.ensures; usual = c.ones_of-b.ensures }
 
 abbrev start : After-rank_of-2 → Start

@@ -9,12 +9,12 @@ use Rattle.spans.proofs.Laws.{Stretch, few_spans, few_of_period, in_lead, in_sib
 use Rattle.spans.proofs.pick.Goals.{Then-k-lead, Then-j-a, Else-j-a, Start}
 use Rattle.spans.proofs.pick.Goals as goal
 
-lead : (c : Then-k-lead) → Stretch c.before.args.p c.before.requires.0 c.before.args.p.usual 0 c.before.args.k c.before.args.k
+lead : (c : Then-k-lead) → Stretch c.args.p c.requires.0 c.args.p.usual 0 c.args.k c.args.k
 lead c =
     let s = c in
     in_lead s.args.p s.requires.0 s.args.k (subst (λ (n : ℕ). s.args.k < s.args.p.first * n) s.requires.1.usual c.if-k-lead.true)
 
-sib1 : (c : Then-j-a) → Stretch c.before.before.args.p c.before.before.requires.0 c.before.before.args.p.sib1 c.before.before.args.p.first (c.before.before.args.k - c.before.before.args.p.first * c.before.before.args.b) c.before.before.args.k
+sib1 : (c : Then-j-a) → Stretch c.args.p c.requires.0 c.args.p.sib1 c.args.p.first (c.args.k - c.args.p.first * c.args.b) c.args.k
 sib1 c =
     let s = c in
     let q = s.args.p in
@@ -23,7 +23,7 @@ sib1 c =
     let e : q.first * ones q.usual + j ≡ s.args.k = omega (arith, c.if-k-lead.false, ap (λ (n : ℕ). q.first * n) s.requires.1.usual) in
     subst (λ (n : ℕ). Stretch q s.requires.0 q.sib1 q.first j n) e (in_sib1 q s.requires.0 j l)
 
-tail : (c : Else-j-a) → Stretch c.before.before.args.p c.before.before.requires.0 c.before.before.args.p.usual (c.before.before.args.p.first + 4) (c.before.before.args.k - c.before.before.args.p.first * c.before.before.args.b - 4 * c.before.before.args.a) c.before.before.args.k
+tail : (c : Else-j-a) → Stretch c.args.p c.requires.0 c.args.p.usual (c.args.p.first + 4) (c.args.k - c.args.p.first * c.args.b - 4 * c.args.a) c.args.k
 tail c =
     let s = c in
     let q = s.args.p in

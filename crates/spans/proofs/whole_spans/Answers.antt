@@ -11,14 +11,14 @@ use Rattle.spans.proofs.whole_spans.Goals as goal
 
 -- the sum, once its parts are known
 sum : (c : After-sib1_before-h)
-    → c.sib1_before-h.result * c.before.args.a + (c.before.args.s - c.sib1_before-h.result) * c.before.args.b
-    ≡ rank (allows c.before.args.p) (span * c.before.args.s)
+    → c.sib1_before-h.result * c.args.a + (c.args.s - c.sib1_before-h.result) * c.args.b
+    ≡ rank (allows c.args.p) (span * c.args.s)
 sum c =
     let s = c in
     rw (c.sib1_before-h.ensures, s.requires.1.sib1, s.requires.1.usual) (sym (spans_rank s.args.p s.requires.0 s.args.s))
 
 bound : (c : After-sib1_before-h)
-    → rank (allows c.before.args.p) (span * c.before.args.s) ≤ span * c.before.args.s
+    → rank (allows c.args.p) (span * c.args.s) ≤ span * c.args.s
 bound c = rank_le (allows c.args.p) (span * c.args.s)
 
 pub sib1_before-h-requires : goal.sib1_before-h-requires

@@ -8,4 +8,4 @@ returns-then-k-remaining c = simp (lt-ltb _ _ c.if-k-remaining.true)
 
 pub returns : goal.returns
 unfolding past_of
-returns c = simp (le-ltb _ _ c.before.if-k-remaining.false)
+returns c = simp (le-ltb _ _ c.if-k-remaining.false)

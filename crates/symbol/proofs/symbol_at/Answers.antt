@@ -32,5 +32,5 @@ pair bits c =
 pub returns : goal.returns
 unfolding picked_of
 returns c =
-    let a = c.before.before.args in
+    let a = c.args in
     ap (λ (i : ℕ). get_or a.four i unset) (pair a.bits.now a.c)

@@ -6,7 +6,7 @@ use Rattle.sync.proofs.has_sib1.Goals.{Else-k-eq1}
 use Rattle.sync.proofs.has_sib1.Goals as goal
 
 -- neither 0 nor 1
-two : (c : Else-k-eq1) → c.before.before.args.schedule % 3 ≡ 2
+two : (c : Else-k-eq1) → c.args.schedule % 3 ≡ 2
 two c = omega (arith, c.if-k-eq0.false, c.if-k-eq1.false)
 
 pub overflow_add-f : goal.overflow_add-f

@@ -9,11 +9,11 @@ use Rattle.sync.proofs.pattern.Goals as goal
 
 pub returns-then-k-eq0 : goal.returns-then-k-eq0
 unfolding anchor_pattern
-returns-then-k-eq0 c = simp (c.four.ensures, c.before.if-k-eq0.true)
+returns-then-k-eq0 c = simp (c.four.ensures, c.if-k-eq0.true)
 
 pub returns-then-k-eq1 : goal.returns-then-k-eq1
 unfolding anchor_pattern
-returns-then-k-eq1 c = simp (c.four-then-k-eq1.ensures, c.before.if-k-eq1.true)
+returns-then-k-eq1 c = simp (c.four-then-k-eq1.ensures, c.if-k-eq1.true)
 
 -- neither 0 nor 1
 third : (x : ℕ) → (x % 3 ≡ 0 → ⊥) → (x % 3 ≡ 1 → ⊥) → x % 3 ≡ 2
@@ -33,15 +33,15 @@ odd x a = by (x % 2) refl
     by (suc zero) e = e
     by (suc (suc r)) e = absurd (omega arith)
 
-two : (c : Else-k-eq1) → c.before.before.args.schedule % 3 ≡ 2
+two : (c : Else-k-eq1) → c.args.schedule % 3 ≡ 2
 two c = third c.args.schedule c.if-k-eq0.false c.if-k-eq1.false
 
-one : (c : Else-identity-eq0) → c.before.before.before.args.identity % 2 ≡ 1
+one : (c : Else-identity-eq0) → c.args.identity % 2 ≡ 1
 one c = odd c.args.identity c.if-identity-eq0.false
 
 pub returns-then-identity-eq0 : goal.returns-then-identity-eq0
 unfolding anchor_pattern
-returns-then-identity-eq0 c = simp (c.four-then-identity-eq0.ensures, two c.before.before, c.before.if-identity-eq0.true)
+returns-then-identity-eq0 c = simp (c.four-then-identity-eq0.ensures, two c.before.before, c.if-identity-eq0.true)
 
 pub returns : goal.returns
 unfolding anchor_pattern

@@ -91,7 +91,7 @@ remains c ms S =
     ∙ same_later ms z.args.p z.requires.1.regular z.args.table S z.args.from z.args.t z.requires.2
 
 in_part : (c : Then-whole-eq0) (ms : Messages) → Serves ms (s (v c.before)).args.table
-    → rank (remaining ms (allows (s (v c.before)).args.p)) (s (v c.before)).args.from + c.before.part_of-part.result.before ≡ rank (remaining ms (allows (s (v c.before)).args.p)) (s (v c.before)).args.t
+    → rank (remaining ms (allows (s (v c.before)).args.p)) (s (v c.before)).args.from + c.part_of-part.result.before ≡ rank (remaining ms (allows (s (v c.before)).args.p)) (s (v c.before)).args.t
 in_part c ms S =
     let b = c in
     let R : ℕ = rank (remaining ms (allows (s (v b.before)).args.p)) (Q (v b.before)) in

@@ -35,7 +35,7 @@ returns-then-is_empty c =
     let z : eqb (rank (allows p) (period_of p)) 0 ≡ false = ne_eqb (rank (allows p) (period_of p)) 0 (λ w. omega (arith, w, (allows_some s.args.ms s.requires.0 p s.requires.1 h).some)) in
     omega (arith, ap bool_byte (sym c.if-is_empty.true ∙ e.is_empty.ensures ∙ z)))
 
-some : (c : Else-is_empty) → Allowing c.before.before.args.p
+some : (c : Else-is_empty) → Allowing c.args.p
 some c =
     let e = c in
     let s = e in
@@ -107,7 +107,7 @@ pub returns : goal.returns
 returns c = let r = c in ⊎_elim (stopped r.before) (went_by r.before) (order r.scan.result.sight.n (end r.before))
 
 -- the last window closes early
-few : (t : After-timetable_of-table) → (t.before.before.before.args.ms.count * t.timetable_of-table.result.l1.window ≤ 4 * 2048) × (t.timetable_of-table.result.units ≤ 2048)
+few : (t : After-timetable_of-table) → (t.args.ms.count * t.timetable_of-table.result.l1.window ≤ 4 * 2048) × (t.timetable_of-table.result.units ≤ 2048)
 few t =
     let s = t in
     let Z = t.timetable_of-table.ensures.1 in

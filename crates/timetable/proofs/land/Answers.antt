@@ -14,7 +14,7 @@ use Rattle.strides.proofs.Striding.{lands}
 use Rattle.timetable.proofs.land.Goals.{After-ones_of-b, After-all_need, Start}
 use Rattle.timetable.proofs.land.Goals as goal
 
-ones : (c : After-ones_of-b) → OnesOf c.before.before.args.p c.before.ones_of-a.result c.ones_of-b.result
+ones : (c : After-ones_of-b) → OnesOf c.args.p c.ones_of-a.result c.ones_of-b.result
 ones c = record { sib1 = c.ones_of-a.ensures; usual = c.ones_of-b.ensures }
 
 -- how many allowed ones lie before it

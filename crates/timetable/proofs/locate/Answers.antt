@@ -19,7 +19,7 @@ module _ (s : Start) where
   again = all_again s.args.ms s.requires.0 s.args.p s.requires.1
 
 -- how many lie before it
-index : (c : After-count_from-part) → c.count_from-part.result.before ≡ rank (rest c.before.before.before) c.before.before.before.args.t - rank (rest c.before.before.before) c.before.before.before.args.from
+index : (c : After-count_from-part) → c.count_from-part.result.before ≡ rank (rest c.before.before.before) c.args.t - rank (rest c.before.before.before) c.args.from
 index c =
     let s = c in
     omega (arith, (c.count_from-part.ensures s.args.ms (s.requires.0, c.timetable_of.ensures.0)).0)

@@ -18,7 +18,7 @@ use Rattle.timetable.proofs.part_of.Goals.{After-spot_of-spot, After-monus-last,
 use Rattle.timetable.proofs.part_of.Goals as goal
 
 -- the unit of t is not before the sight's
-later : (c : After-spot_of-spot) → c.before.args.s.n ≤ c.spot_of-spot.result.n
+later : (c : After-spot_of-spot) → c.args.s.n ≤ c.spot_of-spot.result.n
 later c =
     let s = c in
     let U : ℕ = s.args.table.unit in
@@ -70,7 +70,7 @@ module _ (c : After-monus-last) where
         )
 
     -- t itself
-    remains : (a : Bool) → a ≡ allows s.args.p s.args.t → (a && leb c.before.all_need-needed.result c.before.before.free_first-free.result) ≡ remaining ms (allows s.args.p) s.args.t
+    remains : (a : Bool) → a ≡ allows s.args.p s.args.t → (a && leb c.all_need-needed.result c.free_first-free.result) ≡ remaining ms (allows s.args.p) s.args.t
     remains a e =
         ap₂ (λ (x y : Bool). x && y) e (ap₂ leb c.all_need-needed.ensures.0 c.free_first-free.ensures)
         ∙ remains_here ms s.args.p s.requires.1.regular s.args.table S m o.spot_of-spot.result.y s.args.t h.counted-here.result.wants there

@@ -4,12 +4,12 @@ use Rattle.elements.specs.declared.layout.{Layout}
 use Rattle.transmitted.specs.Quick.{Prepared}
 use Rattle.transmitted.proofs.Going.{goes_within}
 use Rattle.transmitted.proofs.Answering.{element_inside, element_refused, element_answered}
-use Rattle.transmitted.proofs.element_lent.Goals.{After-layout}
+use Rattle.transmitted.proofs.element_lent.Tie as tie
 use Rattle.transmitted.proofs.element_lent.Goals as goal
 
 -- what an accepted call has
-prepared : (c : After-layout) → let j = c.before.before.before in
-    Prepared c.layout.result j.judged-call.result.first j.before.before.before.before.before.args.bits.now
+prepared : (c : tie.After-layout) → let j = c.before.before.before in
+    Prepared c.layout.result j.judged-call.result.first j.args.bits.now
 prepared c =
     let j = c in
     subst (λ (g : Layout). Prepared g j.judged-call.result.first j.args.bits.now) (sym c.layout.ensures) (j.judged-call.ensures.prepared c.if-call-ne0.false)
@@ -43,8 +43,8 @@ outgoing-o-requires c =
     let j = e in
     let a = j.args in
     let i = element_inside (lent_cell a.c a.si.now) a.anchor.now a.other.now a.g a.i a.bits.now a.level a.slot a.l a.k j.judged-call.result j.judged-call.ensures e.if-call-ne0.false in
-    let p = prepared c in
+    let p = prepared c.before in
     (p.valid, p.small, i.0, i.1, i.2)
 
 pub answer-requires : goal.answer-requires
-answer-requires c = goes_within _ _ _ _ _ (prepared c.before) c.outgoing-o.ensures
+answer-requires c = goes_within _ _ _ _ _ (prepared c.before.before) c.outgoing-o.ensures

@@ -21,10 +21,10 @@ small s =
 pub returns : goal.returns
 unfolding unit_need
 returns c =
-    let c3 = c.before in
-    let c2 = c3.before in
-    let c1 = c2.before in
-    let z = small c1.before in (
+    let c3 = c in
+    let c2 = c3 in
+    let c1 = c2 in
+    let z = small c1.before.before.before.before.before.before.before.before in (
       omega (arith, c1.need.ensures.0, c2.need-2.ensures.0, c3.need-3.ensures.0, c.need-4.ensures.0),
       omega (arith, c1.need.ensures.1, c2.need-2.ensures.1, c3.need-3.ensures.1, c.need-4.ensures.1, z.0, z.1, z.2, z.3),
     )

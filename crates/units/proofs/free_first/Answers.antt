@@ -8,8 +8,8 @@ use Rattle.units.specs.Quick.{begin_of}
 use Rattle.units.proofs.free_first.Goals.{After-free_before}
 use Rattle.units.proofs.free_first.Goals as goal
 
-counted : (c : After-free_before) → c.free_before.result ≡ c.before.before.args.free
-    + count (allows c.before.before.args.p) (begin_of c.before.before.args.table c.before.before.args.n) c.before.before.args.y
+counted : (c : After-free_before) → c.free_before.result ≡ c.args.free
+    + count (allows c.args.p) (begin_of c.args.table c.args.n) c.args.y
 counted c =
     let b = c in
     let a = b.args in

@@ -6,16 +6,16 @@ use Rattle.units.specs.Quick.{InUnits, lane_of}
 use Rattle.units.proofs.lane_of.Goals.{Then-read}
 use Rattle.units.proofs.lane_of.Goals as goal
 
-known : (c : Then-read) → InUnits c.before.args.s c.before.args.k
+known : (c : Then-read) → InUnits c.args.s c.args.k
 known c = c.requires.3 c.if-read.true
 
 pub returns-then-read : goal.returns-then-read
 unfolding lane_of
 returns-then-read c =
-    let l = c.before in
-    let o = l.before in
-    let e = o.before in
-    let a = e.before.args in
+    let l = c in
+    let o = l in
+    let e = o in
+    let a = e.args in
     rw e.if-read.true
     (λ i. record {
       log = o.log_of.ensures i - a.k;

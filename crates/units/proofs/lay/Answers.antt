@@ -20,7 +20,7 @@ made : (s : Start) (w f : ℕ)
 unfolding lane_step_of
 made s w f a b = λ i. record { want = a i; free = b i }
 
-closes : (c : After-monus) → ◌≡◌ {A = LaneStep} (record { want = 0; free = c.monus.result }) (lane_step_of c.before.before.before.before.args.l c.before.before.before.before.args.n c.before.before.before.before.args.want c.before.before.before.before.args.free)
+closes : (c : After-monus) → ◌≡◌ {A = LaneStep} (record { want = 0; free = c.monus.result }) (lane_step_of c.args.l c.args.n c.args.want c.args.free)
 closes c =
     let t = c in
     let s = t in
@@ -28,7 +28,7 @@ closes c =
     (rw (le-ltb (place_of s.args.l s.args.n + 1) s.args.l.window (omega (arith, t.place.ensures.0, t.if-place-window.true))) refl)
     (c.monus.ensures ∙ ap (λ (x : ℕ). s.args.free - x) t.need-b.ensures.0)
 
-goes_on : (c : After-monus-3) → ◌≡◌ {A = LaneStep} (record { want = c.before.monus-2.result; free = c.monus-3.result }) (lane_step_of c.before.before.before.before.before.args.l c.before.before.before.before.before.args.n c.before.before.before.before.before.args.want c.before.before.before.before.before.args.free)
+goes_on : (c : After-monus-3) → ◌≡◌ {A = LaneStep} (record { want = c.monus-2.result; free = c.monus-3.result }) (lane_step_of c.args.l c.args.n c.args.want c.args.free)
 goes_on c =
     let t = c in
     let s = t in

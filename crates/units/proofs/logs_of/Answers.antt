@@ -15,10 +15,10 @@ has_logs ms ok s h = let p = powers ms ok s h in (p.0.log, p.1.log)
 pub returns : goal.returns
 unfolding logs_of
 returns c =
-    let b = c.before in
-    let a = b.before in
-    let o = a.before in
-    let m = o.before.args.ms in
+    let b = c in
+    let a = b in
+    let o = a in
+    let m = o.args.ms in
     c.with_schedule.ensures
     ∙ ap (λ (l : Logs). logs_with l (is_read m 4) m.s4)
     (b.with_schedule-three.ensures

@@ -12,26 +12,26 @@ use Rattle.units.proofs.need.Goals as goal
 most : (c : Start) → need_of c.args.l c.args.n c.args.want ≤ 8 * place_of c.args.l c.args.n + 8
 most c = need_most c.args.l c.requires.0 c.args.n c.args.want c.requires.2
 
-place_is : (c : After-place-x) → c.place-x.result ≡ place_of c.before.args.l c.before.args.n
+place_is : (c : After-place-x) → c.place-x.result ≡ place_of c.args.l c.args.n
 place_is c = c.place-x.ensures.0
 
-low_is : (c : After-low) → c.low.result ≡ place_of c.before.before.before.args.l c.before.before.before.args.n % 2 ^ c.before.before.before.args.l.every
+low_is : (c : After-low) → c.low.result ≡ place_of c.args.l c.args.n % 2 ^ c.args.l.every
 low_is c = c.low.ensures ∙ ap (λ (x : ℕ). x % 2 ^ c.args.l.every) (place_is c.before.before)
 
-closed : (c : Then-x-window) → 0 ≡ need_of c.before.before.args.l c.before.before.args.n c.before.before.args.want
+closed : (c : Then-x-window) → 0 ≡ need_of c.args.l c.args.n c.args.want
 unfolding need_of
 closed c = let a = c.args in rw (le-ltb (place_of a.l a.n) a.l.window (omega (arith, place_is c.before, c.if-x-window.true))) refl
 
-inside : (c : Else-x-window) → ltb (place_of c.before.before.args.l c.before.before.args.n) c.before.before.args.l.window ≡ true
+inside : (c : Else-x-window) → ltb (place_of c.args.l c.args.n) c.args.l.window ≡ true
 inside c = let a = c.args in lt-ltb (place_of a.l a.n) a.l.window (omega (arith, place_is c.before, c.if-x-window.false))
 
-begins : (c : Then-low-eq0) → c.before.before.before.before.args.want + c.before.before.before.before.args.l.size ≡ need_of c.before.before.before.before.args.l c.before.before.before.before.args.n c.before.before.before.before.args.want
+begins : (c : Then-low-eq0) → c.args.want + c.args.l.size ≡ need_of c.args.l c.args.n c.args.want
 unfolding need_of
 begins c =
     let a = c.args in
     rw (inside c.before.before, eq-eqb (place_of a.l a.n % 2 ^ a.l.every) 0 (sym (low_is c.before) ∙ c.if-low-eq0.true)) refl
 
-goes_on : (c : Else-low-eq0) → c.before.before.before.before.args.want ≡ need_of c.before.before.before.before.args.l c.before.before.before.before.args.n c.before.before.before.before.args.want
+goes_on : (c : Else-low-eq0) → c.args.want ≡ need_of c.args.l c.args.n c.args.want
 unfolding need_of
 goes_on c =
     let a = c.args in

@@ -6,14 +6,14 @@ use Rattle.units.specs.Quick.{place_of, opened_of}
 use Rattle.units.proofs.opened.Goals.{Then-x-window, Else-x-window}
 use Rattle.units.proofs.opened.Goals as goal
 
-open_at : (c : Then-x-window) → c.before.before.args.n - c.before.place-x.result ≡ opened_of c.before.before.args.l c.before.before.args.n
+open_at : (c : Then-x-window) → c.args.n - c.place-x.result ≡ opened_of c.args.l c.args.n
 unfolding opened_of
 open_at c =
     let a = c.args in
     let e = c.place-x.ensures.0 in
     rw (lt-ltb (place_of a.l a.n) a.l.window (omega (arith, e, c.if-x-window.true))) (omega (arith, e))
 
-shut_at : (c : Else-x-window) → c.before.before.args.n ≡ opened_of c.before.before.args.l c.before.before.args.n
+shut_at : (c : Else-x-window) → c.args.n ≡ opened_of c.args.l c.args.n
 unfolding opened_of
 shut_at c =
     let a = c.args in

@@ -12,10 +12,10 @@ then l n w r before known e f = e ∙ ap (λ (x : LaneStep). lane_step_of l n w 
 pub returns : goal.returns
 unfolding unit_step_of
 returns c =
-    let c3 = c.before in
-    let c2 = c3.before in
-    let c1 = c2.before in
-    let a = c1.before.args in
+    let c3 = c in
+    let c2 = c3 in
+    let c1 = c2 in
+    let a = c1.args in
     let e1 = c1.lay-a.ensures.0 in
     let e2 = then a.table.l2 a.n a.w.w2 _ _ _ c2.lay-b.ensures.0 e1 in
     let e3 = then a.table.l3 a.n a.w.w3 _ _ _ c3.lay-c.ensures.0 e2 in

@@ -11,7 +11,7 @@ use Rattle.units.proofs.place.Goals as goal
 short : (c : Start) → 2 ^ c.args.l.log ≤ 2048
 short c = pow_mono {i = c.args.l.log} {j = 11} c.requires.0
 
-exact : (c : After-low) → c.low.result ≡ place_of c.before.before.before.args.l c.before.before.before.args.n
+exact : (c : After-low) → c.low.result ≡ place_of c.args.l c.args.n
 unfolding place_of
 exact c =
     let a = c.args in

@@ -14,7 +14,7 @@ use Rattle.units.proofs.sight_at.Goals.{After-opened-a1, After-no_wants-wants, S
 use Rattle.units.proofs.sight_at.Goals as goal
 
 -- where the walk begins
-from_is : (c : After-opened-a1) → c.opened-a1.result ≡ walk_from c.before.before.before.before.args.table c.before.before.before.before.args.n
+from_is : (c : After-opened-a1) → c.opened-a1.result ≡ walk_from c.args.table c.args.n
 unfolding walk_from
 from_is c =
     let o2 = c in
@@ -66,7 +66,7 @@ module _ (c : After-run) where
   o = c.before.before.before.before
 
   R : Ran (s o).args.table (allows (s o).args.p)
-      (record { n = (o4 o).opened-a1.result; wants = o.no_wants-wants.result; free = c.before.before.free_before-free.result; k = 2 ^ 31 }) (s o).args.n c.run.result
+      (record { n = (o4 o).opened-a1.result; wants = o.no_wants-wants.result; free = c.free_before-free.result; k = 2 ^ 31 }) (s o).args.n c.run.result
   R = c.run.ensures
 
   ends : c.run.result.n ≡ (s o).args.n

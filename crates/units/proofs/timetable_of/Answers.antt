@@ -48,10 +48,10 @@ module _ (c : After-power_of_two) where
   lane_is : (l : Lane) (read : Bool) (s : Schedule) (before : ℕ) → l ≡ lane_of read s before w k → l ≡ lane_of read s before (window_frames ms / 2 ^ shortest_of ms) (shortest_of ms)
   lane_is l read s before e = e ∙ ap₂ (lane_of read s before) window_is k_is
 
-longest_is : (c : After-logs_of-logs) → c.logs_of-logs.result.longest ≡ longest_of c.before.args.ms
+longest_is : (c : After-logs_of-logs) → c.logs_of-logs.result.longest ≡ longest_of c.args.ms
 longest_is c = ap (λ (l : Logs). l.longest) c.logs_of-logs.ensures
 
-units_small_lem : (c : After-power_of_two) → (k c ≤ c.before.before.logs_of-logs.result.longest) × (c.before.before.logs_of-logs.result.longest ≤ 12)
+units_small_lem : (c : After-power_of_two) → (k c ≤ c.logs_of-logs.result.longest) × (c.logs_of-logs.result.longest ≤ 12)
 units_small_lem c =
     let o = c in
     let s = o in (
@@ -60,14 +60,14 @@ units_small_lem c =
     )
 
 made : (c : After-lane_of-4) → ◌≡◌ {A = Timetable} (record {
-  first = 10 * c.before.before.before.before.before.before.before.before.before.before.before.args.ms.offset;
-  unit = 10 * c.before.before.before.before.before.before.power_of_two-2.result;
-  units = c.before.before.before.before.power_of_two-3.result;
-  l1 = c.before.before.before.lane_of.result;
-  l2 = c.before.before.lane_of-2.result;
-  l3 = c.before.lane_of-3.result;
+  first = 10 * c.args.ms.offset;
+  unit = 10 * c.power_of_two-2.result;
+  units = c.power_of_two-3.result;
+  l1 = c.lane_of.result;
+  l2 = c.lane_of-2.result;
+  l3 = c.lane_of-3.result;
   l4 = c.lane_of-4.result;
-}) (timetable_of c.before.before.before.before.before.before.before.before.before.before.before.args.ms)
+}) (timetable_of c.args.ms)
 unfolding timetable_of
 made c =
     let l3 = c in

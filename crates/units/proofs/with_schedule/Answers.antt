@@ -7,20 +7,20 @@ use Rattle.units.proofs.with_schedule.Goals as goal
 pub returns-then-read : goal.returns-then-read
 unfolding logs_with
 returns-then-read c =
-    let o = c.before in
-    let l = o.before in
-    let k = l.before in
-    let t = k.before in
+    let o = c in
+    let l = o in
+    let k = l in
+    let t = k in
     rw t.if-read.true
     (λ i. record {
-      shortest = (l.least.ensures ∙ ap (min t.before.args.logs.shortest) k.log_of.ensures) i;
-      longest = (c.most.ensures ∙ ap (max t.before.args.logs.longest) o.log_of-then-read.ensures) i;
+      shortest = (l.least.ensures ∙ ap (min t.args.logs.shortest) k.log_of.ensures) i;
+      longest = (c.most.ensures ∙ ap (max t.args.logs.longest) o.log_of-then-read.ensures) i;
     })
 
 pub returns : goal.returns
 unfolding logs_with
 returns c =
-    let l = c.before.args.logs in
+    let l = c.args.logs in
     let a : l.shortest ≡ min l.shortest l.shortest = omega arith in
     let b : l.longest ≡ max l.longest l.longest = omega arith in
     rw c.if-read.false (λ i. record { shortest = a i; longest = b i })

@@ -19,13 +19,13 @@ use Rattle.uplink.proofs.backward.Goals as goal
 
 -- inside the grid
 module _ (c : Else-not-inside) where
-  inside : (ltb c.before.args.l symbols && ltb c.before.args.k c.before.args.s.subcarriers) ≡ true
+  inside : (ltb c.args.l symbols && ltb c.args.k c.args.s.subcarriers) ≡ true
   inside = not-false _ c.if-not-inside.false
 
-  symbol_inside : c.before.args.l < symbols
+  symbol_inside : c.args.l < symbols
   symbol_inside = ltb-true _ _ (both_parts (ltb c.args.l symbols) _ inside).0
 
-  subcarrier_inside : c.before.args.k < c.before.args.s.subcarriers
+  subcarrier_inside : c.args.k < c.args.s.subcarriers
   subcarrier_inside = ltb-true _ _ (both_parts (ltb c.args.l symbols) _ inside).1
 
 -- in a slot that is sent

@@ -29,7 +29,7 @@ planned-requires c = search rules
 pub returns : goal.returns
 unfolding slot_at
 returns c =
-    let n = c.before.before in
-    let s = n.before in
+    let n = c in
+    let s = n in
     c.planned.ensures all_open (first_plain s.args.s s.requires)
-    (ap (λ (x : ℕ). s.args.s.first + x) c.before.active_at.ensures.0 ∙ ap (λ (x : ℕ). slot_at s.args.s all_open (x - 1)) n.sent_slots-last.ensures.0)
+    (ap (λ (x : ℕ). s.args.s.first + x) c.active_at.ensures.0 ∙ ap (λ (x : ℕ). slot_at s.args.s all_open (x - 1)) n.sent_slots-last.ensures.0)

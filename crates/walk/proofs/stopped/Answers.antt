@@ -4,19 +4,19 @@ use Rattle.walk.proofs.stopped.Goals as goal
 
 pub returns-then-no-ne-NO_SUCH_PLACE : goal.returns-then-no-ne-NO_SUCH_PLACE
 unfolding stopped_at
-returns-then-no-ne-NO_SUCH_PLACE c = simp (c.refused_step.ensures, ne_eqb _ _ c.before.if-no-ne-NO_SUCH_PLACE.true)
+returns-then-no-ne-NO_SUCH_PLACE c = simp (c.refused_step.ensures, ne_eqb _ _ c.if-no-ne-NO_SUCH_PLACE.true)
 
 pub returns-then-is_end : goal.returns-then-is_end
 unfolding stopped_at
 returns-then-is_end c =
-    let i = c.before.before in
-    simp (c.finished_step.ensures, eq-eqb _ _ i.before.if-no-ne-NO_SUCH_PLACE.false, ← i.is_end.ensures, c.before.if-is_end.true)
+    let i = c in
+    simp (c.finished_step.ensures, eq-eqb _ _ i.if-no-ne-NO_SUCH_PLACE.false, ← i.is_end.ensures, c.if-is_end.true)
 
 pub returns : goal.returns
 unfolding stopped_at
 returns c =
-    let i = c.before.before in
-    simp (c.refused_step-2.ensures, eq-eqb _ _ i.before.if-no-ne-NO_SUCH_PLACE.false, ← i.is_end.ensures, c.before.if-is_end.false)
+    let i = c in
+    simp (c.refused_step-2.ensures, eq-eqb _ _ i.if-no-ne-NO_SUCH_PLACE.false, ← i.is_end.ensures, c.if-is_end.false)
 
 pub refused_step-requires : goal.refused_step-requires
 refused_step-requires c = tt

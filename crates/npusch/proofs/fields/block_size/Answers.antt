@@ -17,8 +17,8 @@ choose-row-requires c = tt
 pub size-requires : goal.size-requires
 unfolding block_size
 size-requires c =
-    let r = c.before in
-    let a = r.before in
+    let r = c in
+    let a = r in
     let s = single_tone_row_bound a.args.mcs a.requires.0 in (
       omega (
         arith,
@@ -30,4 +30,4 @@ size-requires c =
 
 pub returns : goal.returns
 unfolding block_size
-returns c = simp (c.size.ensures, c.before.choose-row.ensures, c.before.before.single_tone_row.ensures)
+returns c = simp (c.size.ensures, c.choose-row.ensures, c.single_tone_row.ensures)

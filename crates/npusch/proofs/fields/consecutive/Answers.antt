@@ -16,4 +16,4 @@ choose-requires c = tt
 
 pub returns : goal.returns
 unfolding consecutive_of
-returns c = simp (c.choose.ensures, c.before.up_to_four.ensures)
+returns c = simp (c.choose.ensures, c.up_to_four.ensures)

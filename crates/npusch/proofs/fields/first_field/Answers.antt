@@ -22,7 +22,7 @@ unfolding first_field
 returns c =
     simp (
       c.choose-2.ensures,
-      c.before.choose.ensures,
-      c.before.before.choose-several.ensures,
-      c.before.before.before.subcarriers-subcarriers.ensures.0,
+      c.choose.ensures,
+      c.choose-several.ensures,
+      c.subcarriers-subcarriers.ensures.0,
     )

@@ -12,8 +12,8 @@ field : (c : Start) → ToneField c.args.spacing c.args.field
 field c = tone_field c.args.spacing c.args.field c.requires.0 c.requires.1
 
 made : (c : After-tones) →
-    let a = c.before.before.args in
-    c.tones.result * (a.field - c.before.first_field-from.result) ≡ first_tone a.spacing a.field
+    let a = c.args in
+    c.tones.result * (a.field - c.first_field-from.result) ≡ first_tone a.spacing a.field
 made c =
     let a = c in
     ap₂ (λ (x y : ℕ). x * (a.args.field - y)) c.tones.ensures c.first_field-from.ensures ∙ (field a.before.before).first

@@ -12,4 +12,4 @@ choose-requires c = tt
 
 pub returns : goal.returns
 unfolding order_of
-returns c = simp (c.choose.ensures, c.before.single_tone_order.ensures)
+returns c = simp (c.choose.ensures, c.single_tone_order.ensures)

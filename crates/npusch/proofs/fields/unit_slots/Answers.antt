@@ -5,7 +5,7 @@ use Rattle.npusch.proofs.Fielded.{slots_small_lem}
 use Rattle.npusch.proofs.fields.unit_slots.Goals.{After-choose-2}
 use Rattle.npusch.proofs.fields.unit_slots.Goals as goal
 
-made : (c : After-choose-2) → c.choose-2.result ≡ unit_slots c.before.before.before.args.tones
+made : (c : After-choose-2) → c.choose-2.result ≡ unit_slots c.args.tones
 unfolding unit_slots
 made c = simp (c.choose-2.ensures, c.choose.ensures, c.choose-several.ensures)
 

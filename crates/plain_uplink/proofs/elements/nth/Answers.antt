@@ -24,9 +24,9 @@ inside c =
 pub returns-then-k-subcarriers : goal.returns-then-k-subcarriers
 unfolding slot_data element_at
 returns-then-k-subcarriers c =
-    let d = c.before in
-    let l = d.before.loop-s in
-    let a = d.before.before in
+    let d = c in
+    let l = d.loop-s in
+    let a = d in
     let T = a.args.s.subcarriers in
     let w = d.pass-at.ensures.found c.if-k-subcarriers.true in
     let e =

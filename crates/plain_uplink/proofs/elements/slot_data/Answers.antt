@@ -15,43 +15,43 @@ loop-l-init c = let s = c.args.s in (omega arith, ap (rank (carries_data s)) (ze
 
 pub symbol_data-found-requires : goal.symbol_data-found-requires
 unfolding slot_data
-symbol_data-found-requires c = (c.before.before.requires, c.loop-l-test.true)
+symbol_data-found-requires c = (c.requires, c.loop-l-test.true)
 
 pub overflow_add-found : goal.overflow_add-found
 unfolding slot_data
 overflow_add-found c =
-    let i = c.before in
-    let s = i.before.before in
+    let i = c in
+    let s = i in
     let T = s.args.s.subcarriers in
-    let h : i.before.loop-l.l + 1 ≤ symbols = omega (arith, i.loop-l-test.true) in
+    let h : i.loop-l.l + 1 ≤ symbols = omega (arith, i.loop-l-test.true) in
     omega (
       arith,
-      i.before.loop-l.invariant.1,
+      i.loop-l.invariant.1,
       c.symbol_data-found.ensures,
-      rank_le (carries_data s.args.s) ((i.before.loop-l.l + 1) * T),
+      rank_le (carries_data s.args.s) ((i.loop-l.l + 1) * T),
       mul-le-mul_right T h,
       s.requires.subcarriers_small,
     )
 
 pub overflow_add-l : goal.overflow_add-l
 unfolding slot_data
-overflow_add-l c = omega (arith, c.before.loop-l-test.true)
+overflow_add-l c = omega (arith, c.loop-l-test.true)
 
 pub loop-l-smaller : goal.loop-l-smaller
 unfolding slot_data
-loop-l-smaller c = omega (arith, c.before.loop-l-test.true)
+loop-l-smaller c = omega (arith, c.loop-l-test.true)
 
 pub loop-l-preserved : goal.loop-l-preserved
 unfolding slot_data
 loop-l-preserved c =
-    let l = c.before.before.loop-l in
-    (omega (arith, c.before.loop-l-test.true), sym c.symbol_data-found.ensures ∙ omega (arith, l.invariant.1))
+    let l = c.loop-l in
+    (omega (arith, c.loop-l-test.true), sym c.symbol_data-found.ensures ∙ omega (arith, l.invariant.1))
 
 pub returns : goal.returns
 unfolding slot_data
 returns c =
-    let l = c.before.loop-l in
-    let s = c.before.before in
+    let l = c.loop-l in
+    let s = c in
     let e : l.l ≡ symbols = omega (arith, l.invariant.0, c.loop-l-test.false) in
     let w : l.found ≡ slot_data s.args.s = sym l.invariant.1 ∙ ap (λ (n : ℕ). rank (carries_data s.args.s) (n * s.args.s.subcarriers)) e in
     (w, omega (arith, w, some_data s.args.s s.requires), omega (arith, w, slot_data_small s.args.s s.requires))

@@ -12,22 +12,22 @@ use Rattle.plain_uplink.proofs.obstacles.blocks.Goals as goal
 
 -- the window stands, so its numbers are small
 module _ (c : Else-not-o) where
-  stands : c.before.before.args.o.stands ≡ true
+  stands : c.args.o.stands ≡ true
   stands = not-false c.args.o.stands c.if-not-o.false
 
-  small : (0 < c.before.before.args.o.period) × (c.before.before.args.o.period ≤ 2560) × (c.before.before.args.o.start ≤ 1024)
+  small : (0 < c.args.o.period) × (c.args.o.period ≤ 2560) × (c.args.o.start ≤ 1024)
   small = c.requires.0 stands
 
-  since : (c.before.before.args.end + all_periods - 1 - c.before.before.args.o.start) % c.before.before.args.o.period < c.before.before.args.o.period
+  since : (c.args.end + all_periods - 1 - c.args.o.start) % c.args.o.period < c.args.o.period
   since = mod-lt (c.args.end + all_periods - 1 - c.args.o.start) small.0
 
 pub returns-then-not-o : goal.returns-then-not-o
 unfolding blocks
-returns-then-not-o c = rw (not-true c.before.before.args.o.stands c.if-not-o.true) refl
+returns-then-not-o c = rw (not-true c.args.o.stands c.if-not-o.true) refl
 
 pub overflow_add-since : goal.overflow_add-since
 unfolding blocks
-overflow_add-since c = omega (arith, c.before.before.requires.1)
+overflow_add-since c = omega (arith, c.requires.1)
 
 pub overflow_sub-since : goal.overflow_sub-since
 unfolding blocks

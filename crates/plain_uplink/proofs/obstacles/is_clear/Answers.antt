@@ -24,52 +24,52 @@ end_small ms u h l = omega (arith, mul-le-mul_right u h)
 
 pub returns-then-not-os : goal.returns-then-not-os
 unfolding clear_of
-returns-then-not-os c = let s = c.before.before in idle s.args.os s.args.u s.requires.0 (not-true s.args.os.any c.if-not-os.true)
+returns-then-not-os c = let s = c in idle s.args.os s.args.u s.requires.0 (not-true s.args.os.any c.if-not-os.true)
 
 pub overflow_mul-end : goal.overflow_mul-end
 unfolding clear_of
-overflow_mul-end c = let s = c.before.before in omega (arith, end_small s.args.os.ms s.args.u s.requires.0.ms_to s.requires.1)
+overflow_mul-end c = let s = c in omega (arith, end_small s.args.os.ms s.args.u s.requires.0.ms_to s.requires.1)
 
 pub overflow_add-end : goal.overflow_add-end
 unfolding clear_of
-overflow_add-end c = let s = c.before.before in omega (arith, end_small s.args.os.ms s.args.u s.requires.0.ms_to s.requires.1)
+overflow_add-end c = let s = c in omega (arith, end_small s.args.os.ms s.args.u s.requires.0.ms_to s.requires.1)
 
 pub blocks-requires : goal.blocks-requires
 unfolding clear_of
-blocks-requires c = let s = c.before.before in (s.requires.0.s1, end_small s.args.os.ms s.args.u s.requires.0.ms_to s.requires.1)
+blocks-requires c = let s = c in (s.requires.0.s1, end_small s.args.os.ms s.args.u s.requires.0.ms_to s.requires.1)
 
 pub returns-then-blocks : goal.returns-then-blocks
 unfolding clear_of
-returns-then-blocks c = rw (sym c.before.blocks-2.ensures ∙ c.if-blocks.true) refl
+returns-then-blocks c = rw (sym c.blocks-2.ensures ∙ c.if-blocks.true) refl
 
 pub blocks-requires-2 : goal.blocks-requires-2
 unfolding clear_of
-blocks-requires-2 c = let s = c.before.before.before.before in (s.requires.0.s2, end_small s.args.os.ms s.args.u s.requires.0.ms_to s.requires.1)
+blocks-requires-2 c = let s = c in (s.requires.0.s2, end_small s.args.os.ms s.args.u s.requires.0.ms_to s.requires.1)
 
 pub returns-then-blocks-2 : goal.returns-then-blocks-2
 unfolding clear_of
-returns-then-blocks-2 c = rw (sym c.before.before.before.blocks-2.ensures ∙ c.before.before.if-blocks.false, sym c.before.blocks-3.ensures ∙ c.if-blocks-2.true) refl
+returns-then-blocks-2 c = rw (sym c.blocks-2.ensures ∙ c.if-blocks.false, sym c.blocks-3.ensures ∙ c.if-blocks-2.true) refl
 
 pub blocks-requires-3 : goal.blocks-requires-3
 unfolding clear_of
-blocks-requires-3 c = let s = c.before.before.before.before.before.before in (s.requires.0.s3, end_small s.args.os.ms s.args.u s.requires.0.ms_to s.requires.1)
+blocks-requires-3 c = let s = c in (s.requires.0.s3, end_small s.args.os.ms s.args.u s.requires.0.ms_to s.requires.1)
 
 pub returns-then-blocks-3 : goal.returns-then-blocks-3
 unfolding clear_of
 returns-then-blocks-3 c =
-    let e3 = c.before.before in
-    let e2 = e3.before.before in
-    rw (sym e2.before.blocks-2.ensures ∙ e2.if-blocks.false, sym e3.before.blocks-3.ensures ∙ e3.if-blocks-2.false, sym c.before.blocks-4.ensures ∙ c.if-blocks-3.true) refl
+    let e3 = c in
+    let e2 = e3 in
+    rw (sym e2.blocks-2.ensures ∙ e2.if-blocks.false, sym e3.blocks-3.ensures ∙ e3.if-blocks-2.false, sym c.blocks-4.ensures ∙ c.if-blocks-3.true) refl
 
 pub blocks-requires-4 : goal.blocks-requires-4
 unfolding clear_of
-blocks-requires-4 c = let s = c.before.before.before.before.before.before.before.before in (s.requires.0.s4, end_small s.args.os.ms s.args.u s.requires.0.ms_to s.requires.1)
+blocks-requires-4 c = let s = c in (s.requires.0.s4, end_small s.args.os.ms s.args.u s.requires.0.ms_to s.requires.1)
 
 pub returns : goal.returns
 unfolding clear_of
 returns c =
-    let e4 = c.before in
-    let e3 = e4.before.before in
-    let e2 = e3.before.before in
-    rw (sym e2.before.blocks-2.ensures ∙ e2.if-blocks.false, sym e3.before.blocks-3.ensures ∙ e3.if-blocks-2.false, sym e4.before.blocks-4.ensures ∙ e4.if-blocks-3.false)
+    let e4 = c in
+    let e3 = e4 in
+    let e2 = e3 in
+    rw (sym e2.blocks-2.ensures ∙ e2.if-blocks.false, sym e3.blocks-3.ensures ∙ e3.if-blocks-2.false, sym e4.blocks-4.ensures ∙ e4.if-blocks-3.false)
     (ap not c.blocks-5.ensures)

@@ -12,10 +12,10 @@ use Rattle.plain_uplink.proofs.obstacles.one.Goals as goal
 
 -- the window stands in the way, so it is listed
 module _ (c : Else-not-concerns) where
-  concerned : let a = c.before.before.args in (a.read && shares_tone a.tone a.tones a.w) ≡ true
+  concerned : let a = c.args in (a.read && shares_tone a.tone a.tones a.w) ≡ true
   concerned = sym c.concerns.ensures ∙ not-false _ c.if-not-concerns.false
 
-  numbered : Numbers c.before.before.args.w
+  numbered : Numbers c.args.w
   numbered =
       let s = c in
       numbers s.args.w (s.requires.3 (both_parts s.args.read (shares_tone s.args.tone s.args.tones s.args.w) concerned).0)
@@ -26,15 +26,15 @@ concerns-requires c = (c.requires.1, c.requires.2, c.requires.3)
 
 pub returns-then-not-concerns : goal.returns-then-not-concerns
 unfolding obstacle_of
-returns-then-not-concerns c = (rw (sym c.before.concerns.ensures ∙ not-true _ c.if-not-concerns.true) refl, λ e. absurd (omega (arith, ap bool_byte e)))
+returns-then-not-concerns c = (rw (sym c.concerns.ensures ∙ not-true _ c.if-not-concerns.true) refl, λ e. absurd (omega (arith, ap bool_byte e)))
 
 pub overflow_mul-result : goal.overflow_mul-result
 unfolding obstacle_of
-overflow_mul-result c = omega (arith, c.before.before.requires.0)
+overflow_mul-result c = omega (arith, c.requires.0)
 
 pub overflow_add-result : goal.overflow_add-result
 unfolding obstacle_of
-overflow_add-result c = omega (arith, c.before.before.requires.0, (numbered c).length_to)
+overflow_add-result c = omega (arith, c.requires.0, (numbered c).length_to)
 
 pub returns : goal.returns
 unfolding obstacle_of

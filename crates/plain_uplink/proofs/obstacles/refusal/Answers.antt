@@ -12,12 +12,12 @@ use Rattle.plain_uplink.proofs.Clear.{clear_beside}
 use Rattle.plain_uplink.proofs.obstacles.refusal.Goals.{Else-not-are_listed, After-is_ever_clear}
 use Rattle.plain_uplink.proofs.obstacles.refusal.Goals as goal
 
-listed : (c : Else-not-are_listed) → are_listed c.before.before.args.ws ≡ true
+listed : (c : Else-not-are_listed) → are_listed c.args.ws ≡ true
 listed c = sym c.are_listed.ensures ∙ not-false _ c.if-not-are_listed.false
 
 -- whether some group is open
 ever : (c : After-is_ever_clear)
-    → let a = c.before.before.before.before.args in
+    → let a = c.args in
     c.is_ever_clear.result ≡ ltb 0 (rank (open_beside a.spacing a.s a.ws) (all_periods / group_ms a.spacing))
 ever c =
     let b = c in
@@ -33,11 +33,11 @@ are_listed-requires c = tt
 
 pub returns-then-not-are_listed : goal.returns-then-not-are_listed
 unfolding windows_refusal
-returns-then-not-are_listed c = rw (sym c.before.are_listed.ensures ∙ not-true _ c.if-not-are_listed.true) refl
+returns-then-not-are_listed c = rw (sym c.are_listed.ensures ∙ not-true _ c.if-not-are_listed.true) refl
 
 pub beside-requires : goal.beside-requires
 unfolding windows_refusal
-beside-requires c = let s = c.before.before in (s.requires.0, s.requires.1, listed c)
+beside-requires c = let s = c in (s.requires.0, s.requires.1, listed c)
 
 pub is_ever_clear-requires : goal.is_ever_clear-requires
 unfolding windows_refusal

@@ -50,7 +50,7 @@ module _ (c : After-may_be_sent-d) where
       let l = c in
       c.may_be_sent-d.ensures ∙ tested l.args.s l.loop-left.slot l.loop-left.invariant.0 l.loop-left.r l.loop-left.invariant.1 (clear_of l.args.os)
 
-short : (c : Else-left-d) → let l = c.before.before in x l < goal l.before.args.s (clear_of l.before.args.os) l.before.args.i
+short : (c : Else-left-d) → let l = c.before.before in x l < goal l.args.s (clear_of l.args.os) l.args.i
 short c =
     let l = c in
     let a = l in

@@ -8,8 +8,8 @@ use Rattle.uplink.proofs.data.number_of.Goals.{After-data_symbols_before}
 use Rattle.uplink.proofs.data.number_of.Goals as goal
 
 module _ (c : After-data_symbols_before) where
-  number : c.data_symbols_before.result * c.before.args.s.tones + (c.before.args.k - c.before.args.s.tone)
-      ≡ number_of c.before.args.s (uplink_element_of c.before.args.s.subcarriers c.before.args.l c.before.args.k)
+  number : c.data_symbols_before.result * c.args.s.tones + (c.args.k - c.args.s.tone)
+      ≡ number_of c.args.s (uplink_element_of c.args.s.subcarriers c.args.l c.args.k)
   number =
       let a = c.args in
       let h = c.requires in
@@ -17,11 +17,11 @@ module _ (c : After-data_symbols_before) where
       ap (λ (n : ℕ). n * a.s.tones + (a.k - a.s.tone)) c.data_symbols_before.ensures
       ∙ number_at a.s h.0 a.l a.k h.1 p.0 p.1
 
-  below : number_of c.before.args.s (uplink_element_of c.before.args.s.subcarriers c.before.args.l c.before.args.k)
-      < slot_data c.before.args.s
+  below : number_of c.args.s (uplink_element_of c.args.s.subcarriers c.args.l c.args.k)
+      < slot_data c.args.s
   below = (elements_listed c.args.s c.requires.0).below _ c.requires.2
 
-  small : slot_data c.before.args.s < 2 ^ 19
+  small : slot_data c.args.s < 2 ^ 19
   small = slot_data_small c.args.s c.requires.0
 
 pub data_symbols_before-requires : goal.data_symbols_before-requires

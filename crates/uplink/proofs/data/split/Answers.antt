@@ -24,7 +24,7 @@ nonzero_div-i c = omega (arith, c.requires.references)
 pub overflow_mul-i : goal.overflow_mul-i
 overflow_mul-i c =
     let a = c in
-    omega (arith, div-le_self a.args.p a.args.s.tones, a.ranges.p, div-mul-le_self (line a) (symbols - a.args.s.references))
+    omega (arith, div-le_self a.args.p a.args.s.tones, a.ranges.p, div-mul-le_self (line a.before) (symbols - a.args.s.references))
 
 pub overflow_sub-line : goal.overflow_sub-line
 overflow_sub-line c = div-mul-le_self (line c.before) (symbols - c.args.s.references)
@@ -32,7 +32,7 @@ overflow_sub-line c = div-mul-le_self (line c.before) (symbols - c.args.s.refere
 pub symbol_at-l-requires : goal.symbol_at-l-requires
 symbol_at-l-requires c =
     let a = c in
-    (a.requires, line_fits a.args.s a.requires a.args.p (line a) refl)
+    (a.requires, line_fits a.args.s a.requires a.args.p (line a.before) refl)
 
 pub overflow_mul-result : goal.overflow_mul-result
 overflow_mul-result c =
@@ -42,29 +42,29 @@ overflow_mul-result c =
 pub overflow_mul-result-2 : goal.overflow_mul-result-2
 overflow_mul-result-2 c =
     let a = c in
-    omega (arith, a.ranges.p, slots_fit a.args.s a.requires a.args.p (line a) refl)
+    omega (arith, a.ranges.p, slots_fit a.args.s a.requires a.args.p (line a.before.before) refl)
 
 pub overflow_sub-result : goal.overflow_sub-result
 overflow_sub-result c =
     let a = c in
-    slots_fit a.args.s a.requires a.args.p (line a) refl
+    slots_fit a.args.s a.requires a.args.p (line a.before.before) refl
 
 pub overflow_mul-result-3 : goal.overflow_mul-result-3
 overflow_mul-result-3 c =
     let a = c in
-    omega (arith, a.ranges.p, lines_fit a.args.s a.requires a.args.p (line a) refl)
+    omega (arith, a.ranges.p, lines_fit a.args.s a.requires a.args.p (line a.before.before) refl)
 
 pub overflow_sub-result-2 : goal.overflow_sub-result-2
 overflow_sub-result-2 c =
     let a = c in
-    lines_fit a.args.s a.requires a.args.p (line a) refl
+    lines_fit a.args.s a.requires a.args.p (line a.before.before) refl
 
 pub overflow_add-result : goal.overflow_add-result
 overflow_add-result c =
     let a = c in
     omega (
       arith,
-      tone_rest a.args.s a.requires a.args.p (line a) refl,
+      tone_rest a.args.s a.requires a.args.p (line a.before.before) refl,
       mod-lt a.args.p a.requires.tones,
       a.requires.within_tones,
       a.requires.subcarriers_small,
@@ -73,4 +73,4 @@ overflow_add-result c =
 pub returns : goal.returns
 returns c =
     let a = c in
-    split_is a.args.s a.requires a.args.p (line a) refl _ c.symbol_at-l.ensures
+    split_is a.args.s a.requires a.args.p (line a.before.before) refl _ c.symbol_at-l.ensures

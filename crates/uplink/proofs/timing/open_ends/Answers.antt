@@ -15,10 +15,10 @@ module _ (c : After-first_and_last-ends) where
   first : c.first_and_last-ends.result.first * s.args.s.group ≡ slot_at s.args.s (clear s.args.nested.closures) 0
   first = first_found s.args.s s.requires.0 s.args.nested s.requires.1 _ s.requires.3 _ c.first_and_last-ends.ensures.0
 
-  last : c.first_and_last-ends.result.last * s.args.s.group + (s.args.i - c.before.over_group-j.result * s.args.s.group) ≡ slot_at s.args.s (clear s.args.nested.closures) s.args.i
+  last : c.first_and_last-ends.result.last * s.args.s.group + (s.args.i - c.over_group-j.result * s.args.s.group) ≡ slot_at s.args.s (clear s.args.nested.closures) s.args.i
   last = slot_found s.args.s s.requires.0 s.args.nested s.requires.1 _ s.requires.3 s.args.i _ _ c.over_group-j.ensures c.first_and_last-ends.ensures.1
 
-  within : c.before.over_group-j.result * s.args.s.group ≤ s.args.i
+  within : c.over_group-j.result * s.args.s.group ≤ s.args.i
   within = groups_within s.args.s s.requires.0 s.args.nested s.requires.1 _ s.requires.3 s.args.i _ c.over_group-j.ensures
 
   small : (i : ℕ) → i < 2 ^ 32 → slot_at s.args.s (clear s.args.nested.closures) i < 2 ^ 60

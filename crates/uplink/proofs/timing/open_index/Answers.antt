@@ -8,10 +8,10 @@ module _ (c : After-free_index-at) where
   abbrev s : Start
   s = c.before.before.before.before
 
-  within : c.before.over_group-y.result * s.args.s.group ≤ s.args.x
+  within : c.over_group-y.result * s.args.s.group ≤ s.args.x
   within = groups_within s.args.s s.requires.0 s.args.nested s.requires.1 _ s.requires.3 s.args.x _ c.over_group-y.ensures
 
-  fits : c.free_index-at.result.index * s.args.s.group + (s.args.x - c.before.over_group-y.result * s.args.s.group) ≤ s.args.x
+  fits : c.free_index-at.result.index * s.args.s.group + (s.args.x - c.over_group-y.result * s.args.s.group) ≤ s.args.x
   fits = index_found_fits s.args.s s.requires.0 s.args.nested s.requires.1 _ s.requires.3 s.args.x _ _ c.over_group-y.ensures c.free_index-at.ensures
 
 pub over_group-y-requires : goal.over_group-y-requires

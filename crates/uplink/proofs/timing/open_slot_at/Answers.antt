@@ -12,10 +12,10 @@ module _ (c : After-nth-at) where
   abbrev s : Start
   s = c.before.before.before.before
 
-  found : c.nth-at.result * s.args.s.group + (s.args.i - c.before.over_group-j.result * s.args.s.group) ≡ slot_at s.args.s (clear s.args.nested.closures) s.args.i
+  found : c.nth-at.result * s.args.s.group + (s.args.i - c.over_group-j.result * s.args.s.group) ≡ slot_at s.args.s (clear s.args.nested.closures) s.args.i
   found = slot_found s.args.s s.requires.0 s.args.nested s.requires.1 _ s.requires.3 s.args.i _ _ c.over_group-j.ensures c.nth-at.ensures
 
-  within : c.before.over_group-j.result * s.args.s.group ≤ s.args.i
+  within : c.over_group-j.result * s.args.s.group ≤ s.args.i
   within = groups_within s.args.s s.requires.0 s.args.nested s.requires.1 _ s.requires.3 s.args.i _ c.over_group-j.ensures
 
   small : slot_at s.args.s (clear s.args.nested.closures) s.args.i < 2 ^ 60
