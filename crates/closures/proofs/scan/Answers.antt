@@ -1,6 +1,5 @@
 use mathlib.Core.Bool.{Bool}
 use mathlib.Core.Path.{◌≡◌, refl, sym, ap, subst}
-use mathlib.Core.Logic.{⊎_elim}
 use Prim.Native.Nat.{ℕ, ◌+◌, ◌-◌, ◌^◌, ◌≤◌, ◌<◌}
 use native.Mathlib.Omega.{arith}
 use Rattle.counting.specs.Counting.{rank}
@@ -9,7 +8,7 @@ use Rattle.counting.proofs.Rank.{rank_le, rank_strict}
 use Rattle.counting.proofs.Select.{nth_of}
 use Rattle.closures.specs.Closures.{is_free}
 use Rattle.closures.specs.Quick.{Begins, Held}
-use Rattle.closures.proofs.scan.Goals.{Joined-left-j, At-loop-at, Start, Then-left-here}
+use Rattle.closures.proofs.scan.Goals.{then-left-j, else-left-j, Joined-left-j, At-loop-at, Start, Then-left-here}
 use Rattle.closures.proofs.scan.Goals as goal
 
 -- in the period at hand
@@ -41,10 +40,12 @@ module _ (c : Joined-left-j) where
   first : l.loop-at.left < s.args.j + c.gap_period_at-gap_period.result.here
       → Held s.args.gap s.args.nested s.args.t (s.args.t + s.args.n) 0 c.if-left-j.first
   first h =
-      ⊎_elim (λ w. held 0 0 c.if-left-j.first (omega (arith, w.0.true)) (omega (arith, w.0.true, l.loop-at.invariant.3)) (omega (arith, w.1)))
-      (λ w.
-      subst (λ (m : ℕ). Held s.args.gap s.args.nested s.args.t (s.args.t + s.args.n) 0 m) (sym w.1)
-      (l.loop-at.invariant.5 (omega (arith, w.0.left, l.loop-at.invariant.2)))) c.if-left-j.branch
+      elim c.if-left-j.branch [
+        then-left-j w ↦ held 0 0 c.if-left-j.first (omega (arith, w.if-left-j.true)) (omega (arith, w.if-left-j.true, l.loop-at.invariant.3)) (omega (arith, w.first-is))
+        | else-left-j w ↦
+            subst (λ (m : ℕ). Held s.args.gap s.args.nested s.args.t (s.args.t + s.args.n) 0 m) (sym w.first-is)
+            (l.loop-at.invariant.5 (omega (arith, w.if-left-j.false, l.loop-at.invariant.2)))
+      ]
 
 -- the number that is found there
 module _ (c : Then-left-here) where

@@ -8,11 +8,8 @@ use Rattle.units.specs.declared.UnitStep.{UnitStep}
 use Rattle.units.specs.Quick.{begin_of, unit_step_of, Small, wants_from, rest_from}
 use Rattle.units.proofs.Lanes.{run_none, run_on, unit_free}
 use Rattle.units.proofs.run.Goals.{After-free_before-next, In-loop-n, At-loop-n, Start, After-pass-r}
+use Rattle.units.proofs.run.Invariants.{wanted}
 use Rattle.units.proofs.run.Goals as goal
-
-abbrev wanted : ℕ → ℕ → ℕ → ℕ → Wants
-wanted a b c d = record { w1 = a; w2 = b; w3 = c; w4 = d }
-
 
 
 pub loop-n-init : goal.loop-n-init

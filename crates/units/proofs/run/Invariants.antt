@@ -9,6 +9,9 @@ use Rattle.units.specs.Quick.{begin_of, unit_step_of, Small, wants_from, rest_fr
 use Rattle.units.proofs.Lanes.{run_none, run_on, unit_free}
 use Rattle.units.proofs.run.Given as goal
 
+abbrev pub wanted : ℕ → ℕ → ℕ → ℕ → Wants
+wanted a b c d = record { w1 = a; w2 = b; w3 = c; w4 = d }
+
 abbrev pub invariant-loop-n : goal.invariant-loop-n
 invariant-loop-n l =
     (l.initial.n ≤ l.n) × (l.n ≤ l.to) × Small l.table l.n (wanted l.w1 l.w2 l.w3 l.w4) × (l.free ≡ rank (allows l.p) (begin_of l.table l.n))
