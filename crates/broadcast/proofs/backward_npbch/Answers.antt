@@ -19,7 +19,7 @@ abbrev start : tie.After-is_inside → Start
 start c = c.before.before.before.before.before
 
 inside : (c : tie.Else-not-is_inside) → inside_grid (start c.before).args.slot (start c.before).args.l (start c.before).args.k ≡ true
-inside c = sym c.is_inside.ensures ∙ not-false _ c.if-not-is_inside.false
+inside c = sym c.is_inside.ensures ∙ c.if-not-is_inside.false
 
 fit : (c : tie.After-npbch_burst-b) → Fits c.npbch_burst-b.result
 fit c =
@@ -30,7 +30,7 @@ fit c =
 
 -- the subframe is the channel's
 is_own_lem : (c : tie.Else-not-is_npbch) → npbch ((start c.before.before.before).args.t % 640) ≡ true
-is_own_lem c = sym c.is_npbch.ensures ∙ not-false _ c.if-not-is_npbch.false
+is_own_lem c = sym c.is_npbch.ensures ∙ c.if-not-is_npbch.false
 
 pub refusal-no-requires : goal.refusal-no-requires
 refusal-no-requires c = tt
@@ -58,7 +58,7 @@ returns-then-not-is_inside c =
     let a = (start i.before.before.before).args in
     c.refused-then-not-is_inside.ensures
     ∙ backward_outside a.c _ _ (npbch_of a.c.config) (npbch_sent a.c.config) (sym r.refusal-no.ensures ∙ i.if-no-ne0.false)
-    (npbch_of a.c.config).burst refl a.t a.slot a.l a.k (sym i.is_inside.ensures ∙ not-true _ c.if-not-is_inside.true)
+    (npbch_of a.c.config).burst refl a.t a.slot a.l a.k (sym i.is_inside.ensures ∙ c.if-not-is_inside.true)
 
 pub is_npbch-requires : goal.is_npbch-requires
 is_npbch-requires c = tt
@@ -74,7 +74,7 @@ returns-then-not-is_npbch c =
     let a = (start i.before.before.before.before.before).args in
     c.not_ours.ensures
     ∙ backward_not a.c _ _ (npbch_of a.c.config) (npbch_sent a.c.config) (sym r.refusal-no.ensures ∙ i.if-no-ne0.false)
-    (npbch_of a.c.config).burst refl a.t a.slot a.l a.k (inside o.before.before.before.before) (sym o.is_npbch.ensures ∙ not-true _ c.if-not-is_npbch.true)
+    (npbch_of a.c.config).burst refl a.t a.slot a.l a.k (inside o.before.before.before.before) (sym o.is_npbch.ensures ∙ c.if-not-is_npbch.true)
 
 pub npbch_burst-b-requires : goal.npbch_burst-b-requires
 npbch_burst-b-requires c = tt

@@ -18,7 +18,7 @@ abbrev start : tie.After-is_inside → Start
 start c = c.before.before.before.before.before
 
 inside : (c : tie.Else-not-is_inside) → inside_grid (start c.before).args.slot (start c.before).args.l (start c.before).args.k ≡ true
-inside c = sym c.is_inside.ensures ∙ not-false _ c.if-not-is_inside.false
+inside c = sym c.is_inside.ensures ∙ c.if-not-is_inside.false
 
 fit : (c : tie.After-sib1_burst-b) → Fits c.sib1_burst-b.result
 fit c =
@@ -29,7 +29,7 @@ fit c =
 
 -- the subframe is the channel's
 is_own_lem : (c : tie.Else-not-is_sib1) → (let a = (start c.before.before.before).args in sib1 a.c.config.identity a.c.config.sib1 (a.t % 2560)) ≡ true
-is_own_lem c = sym c.is_sib1.ensures ∙ not-false _ c.if-not-is_sib1.false
+is_own_lem c = sym c.is_sib1.ensures ∙ c.if-not-is_sib1.false
 
 pub refusal-no-requires : goal.refusal-no-requires
 refusal-no-requires c = tt
@@ -57,7 +57,7 @@ returns-then-not-is_inside c =
     let a = (start i.before.before.before).args in
     c.refused-then-not-is_inside.ensures
     ∙ backward_outside a.c _ _ (sib1_of a.c.config) (sib1_sent a.c.config) (sym r.refusal-no.ensures ∙ i.if-no-ne0.false)
-    (sib1_of a.c.config).burst refl a.t a.slot a.l a.k (sym i.is_inside.ensures ∙ not-true _ c.if-not-is_inside.true)
+    (sib1_of a.c.config).burst refl a.t a.slot a.l a.k (sym i.is_inside.ensures ∙ c.if-not-is_inside.true)
 
 pub is_sib1-requires : goal.is_sib1-requires
 is_sib1-requires c = tt
@@ -73,7 +73,7 @@ returns-then-not-is_sib1 c =
     let a = (start i.before.before.before.before.before).args in
     c.not_ours.ensures
     ∙ backward_not a.c _ _ (sib1_of a.c.config) (sib1_sent a.c.config) (sym r.refusal-no.ensures ∙ i.if-no-ne0.false)
-    (sib1_of a.c.config).burst refl a.t a.slot a.l a.k (inside o.before.before.before.before) (sym o.is_sib1.ensures ∙ not-true _ c.if-not-is_sib1.true)
+    (sib1_of a.c.config).burst refl a.t a.slot a.l a.k (inside o.before.before.before.before) (sym o.is_sib1.ensures ∙ c.if-not-is_sib1.true)
 
 pub sib1_burst-b-requires : goal.sib1_burst-b-requires
 sib1_burst-b-requires c = tt

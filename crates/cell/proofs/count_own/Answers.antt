@@ -20,4 +20,4 @@ pub counted-requires : goal.counted-requires
 counted-requires c = λ z. let e = c in config_numbers _ _ (sym e.config_refusal-no.ensures ∙ e.if-no-ne0.false)
 
 pub returns : goal.returns
-returns c = λ ms silent. rw (c.formed_alone.ensures ms silent).number at c.counted.ensures
+returns c = λ ms silent. λ ms silent. rw (c.formed_alone.ensures ms silent).number at c.counted.ensures

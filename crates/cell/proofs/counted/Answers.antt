@@ -1,7 +1,7 @@
 use mathlib.Core.Path.{◌≡◌, sym, ap, ◌∙◌, subst}
 use borrow.Author.Tests.{eq-eqb, ne_eqb}
 use Rattle.grid.specs.Grid.{subcarriers}
-use Rattle.elements.specs.declared.layout.{Layout}
+use Rattle.elements.specs.declared.Layout.{Layout}
 use Rattle.elements.specs.Elements.{count_of}
 use Rattle.elements.specs.Scaffold.{Valid}
 use Rattle.elements.proofs.Laws.{all_used, whole_part}

@@ -5,11 +5,13 @@ use Rattle.cell.proofs.formed_alone.Goals as goal
 
 pub returns-then-m-eq0 : goal.returns-then-m-eq0
 returns-then-m-eq0 c =
+    λ ms silent.
     let l = c in
     eight_alone _ _ ms silent l.load-m.result l.requires l.load-m.ensures _ c.if-m-eq0.true c.refused.ensures
 
 pub returns-then-is_empty : goal.returns-then-is_empty
 returns-then-is_empty c =
+    λ ms silent.
     let i = c in
     let p = i in
     let l = p in
@@ -18,6 +20,7 @@ returns-then-is_empty c =
 
 pub returns : goal.returns
 returns c =
+    λ ms silent.
     let i = c in
     let p = i in
     let l = p in

@@ -17,4 +17,4 @@ pub formed_alone-requires : goal.formed_alone-requires
 formed_alone-requires c = sym c.config_refusal-no.ensures ∙ c.if-no-ne0.false
 
 pub returns : goal.returns
-returns c = c.formed_alone.ensures
+returns c = λ ms silent. c.formed_alone.ensures

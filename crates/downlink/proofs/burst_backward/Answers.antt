@@ -7,8 +7,8 @@ use borrow.Author.Tests.{not-true, not-false}
 use Rattle.counting.specs.Counting.{select}
 use Rattle.grid.specs.Grid.{slots, symbols, subcarriers}
 use Rattle.sending.proofs.Answer.{outside_at}
-use Rattle.spans.specs.declared.found-1.{Found}
-use Rattle.spans.specs.declared.found-1.TheVariants.{At}
+use Rattle.spans.specs.declared.Found.{Found}
+use Rattle.spans.specs.declared.Found.TheVariants.{At}
 use Rattle.messages.specs.Messages.{all_periods}
 use Rattle.subframes.specs.Subframes.{messages_in}
 use Rattle.subframes.specs.Scaffold.{left_in}
@@ -28,7 +28,7 @@ use Rattle.downlink.proofs.burst_backward.Goals as goal
 -- inside the grid
 module _ (c : tie.Else-not-inside) where
   inside : inside_grid c.args.slot c.args.l c.args.k ≡ true
-  inside = not-false _ c.if-not-inside.false
+  inside = c.if-not-inside.false
 
   parts : (c.args.slot < slots) × (c.args.l < symbols) × (c.args.k < subcarriers)
   parts = inside_parts c.args.slot c.args.l c.args.k inside
@@ -52,7 +52,7 @@ searched c =
 
 -- at index i
 at : (c : tie.In-At-2) → found c.before.before.before.before.before.before ≡ At c.found-1.given.0.0
-at c = sym (searched c.before.before) ∙ c.found-1.given.1
+at c = sym (searched c.before.before) ∙ c.in-At.is
 
 -- the cause, by whether the subframe is left
 by_pattern : (s : Start) → saw s s.args.t
@@ -71,7 +71,7 @@ returns-then-not-inside c =
     let f = c in
     let s = f in
     let a = s.args in
-    let o = not-true _ f.if-not-inside.true in
+    let o = f.if-not-inside.true in
     c.without_cause.ensures
     ∙ joined (left s.before.before.before.before.before) all_periods (saw s.before.before.before.before.before) a.b a.t a.slot a.l a.k _ _ (f.refused.ensures ∙ sym (outside_at (sending_of (left s.before.before.before.before.before) all_periods a.b) _ a.t _ o))
     (outside_none (left s.before.before.before.before.before) all_periods (saw s.before.before.before.before.before) a.b a.t a.slot a.l a.k o)
@@ -119,7 +119,7 @@ returns-in-Between c =
     let e = l in
     let s = e in
     let a = s.args in
-    let m = at_between _ _ _ _ _ (sym (searched l.before.before.before.before.before) ∙ o.enum_told-1.given.1) in
+    let m = at_between _ _ _ _ _ (sym (searched l.before.before.before.before.before) ∙ o.in-Between.is) in
     joined (left s.before.before.before.before.before.before.before.before.before) all_periods (saw s.before.before.before.before.before.before.before.before.before) a.b a.t a.slot a.l a.k _ _
     (o.not_ours.ensures ∙ backward_unsent _ _ a.b a.t a.slot a.l a.k (inside e.before.before.before.before.before.before.before) m.0)
     (c.why_not.ensures ∙ missed_why (left s.before.before.before.before.before.before.before.before.before) all_periods (saw s.before.before.before.before.before.before.before.before.before) a.b a.t a.slot a.l a.k _ (by_pattern s.before.before.before.before.before.before.before.before.before) (inside e.before.before.before.before.before.before.before) m.1)
@@ -131,7 +131,7 @@ returns-in-Nothing c =
     let e = l in
     let s = e in
     let a = s.args in
-    let m = at_nothing _ _ _ _ _ (sym (searched l.before.before.before.before.before) ∙ o.enum_told-in-Nothing-1.given.1) in
+    let m = at_nothing _ _ _ _ _ (sym (searched l.before.before.before.before.before) ∙ o.in-Nothing.is) in
     c.without_cause-in-Nothing.ensures
     ∙ joined (left s.before.before.before.before.before.before.before.before.before) all_periods (saw s.before.before.before.before.before.before.before.before.before) a.b a.t a.slot a.l a.k _ _
     (o.not_ours-in-Nothing.ensures ∙ backward_unsent _ _ a.b a.t a.slot a.l a.k (inside e.before.before.before.before.before.before.before) m.0)

@@ -22,7 +22,7 @@ returns-in-Used c =
     let k = w in
     let s = k in
     λ x e.
-    let o = use_used s.args.b.layout s.args.b.low s.args.b.width x _ (sym e ∙ k.at-1.given.1) in
+    let o = use_used s.args.b.layout s.args.b.low s.args.b.width x _ (sym e ∙ k.in-Used.is) in
     c.ours.ensures
     ∙ ap back_of (content_ours s.args.b s.args.i x _ _ _ _ _ o.0 w.used_elements-w.ensures.0 (sym o.1) u.carried_by-unit.ensures.0
     c.item.ensures c.item-in-Used.ensures)
@@ -32,7 +32,7 @@ returns-in-Unused c =
     let a = c in
     let s = a in
     λ x e.
-    let o = use_unused s.args.b.layout s.args.b.low s.args.b.width x a.at-in-Unused-1.given.0.0 (sym e ∙ a.at-in-Unused-1.given.1) in
+    let o = use_unused s.args.b.layout s.args.b.low s.args.b.width x a.at-in-Unused-1.given.0.0 (sym e ∙ a.in-Unused.is) in
     c.not_ours.ensures ∙ ap back_of (content_unused s.args.b s.args.i x _ o.0 (sym o.1))
 
 pub used_elements-w-requires : goal.used_elements-w-requires

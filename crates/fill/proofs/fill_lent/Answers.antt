@@ -9,7 +9,7 @@ use Rattle.counting.specs.Counting.{count}
 use Rattle.grid.specs.Grid.{subcarriers, slot_elements, numbers}
 use Rattle.grid.specs.Scaffold.{slot_numbers}
 use Rattle.cell.specs.Quick.{lent_cell}
-use Rattle.elements.specs.declared.layout-layout.{Layout}
+use Rattle.elements.specs.declared.Layout.{Layout}
 use Rattle.elements.specs.Elements.{used}
 use Rattle.transmitted.specs.Quick.{Prepared}
 use Rattle.fill.proofs.Laid.{halves, length_laid, front_size, joined_size, back_size}

@@ -15,7 +15,7 @@ use Rattle.nprach.proofs.closure.Goals as goal
 -- the window concerns the tones, so it is listed
 module _ (c : Else-not-concerns) where
   concerned : (c.args.read && shares_tone c.args.tone c.args.tones c.args.w) ≡ true
-  concerned = sym c.concerns.ensures ∙ not-false _ c.if-not-concerns.false
+  concerned = sym c.concerns.ensures ∙ c.if-not-concerns.false
 
   numbered : Numbers c.args.w
   numbered =
@@ -33,7 +33,7 @@ over_ms-requires c = (c.requires.0, c.requires.1)
 pub returns-then-not-concerns : goal.returns-then-not-concerns
 unfolding closure_of
 returns-then-not-concerns c =
-    rw (sym c.concerns.ensures ∙ not-true _ c.if-not-concerns.true) (λ j. record { period = c.over_ms.ensures j; phase = 0; closed = 0 })
+    rw (sym c.concerns.ensures ∙ c.if-not-concerns.true) (λ j. record { period = c.over_ms.ensures j; phase = 0; closed = 0 })
 
 pub overflow_mul-unit : goal.overflow_mul-unit
 unfolding closure_of

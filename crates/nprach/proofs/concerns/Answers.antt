@@ -5,15 +5,15 @@ use Rattle.nprach.proofs.Listing.{numbers}
 use Rattle.nprach.proofs.concerns.Goals as goal
 
 pub returns-then-not-read : goal.returns-then-not-read
-returns-then-not-read c = rw (not-true c.args.read c.if-not-read.true) refl
+returns-then-not-read c = rw c.if-not-read.true refl
 
 pub overflow_add-result : goal.overflow_add-result
 overflow_add-result c =
     let a = c in
-    omega (arith, (numbers a.args.w (a.requires.2 (not-false a.args.read c.if-not-read.false))).tone_to)
+    omega (arith, (numbers a.args.w (a.requires.2 c.if-not-read.false)).tone_to)
 
 pub overflow_add-result-2 : goal.overflow_add-result-2
 overflow_add-result-2 c = omega (arith, c.requires.0, c.requires.1)
 
 pub returns : goal.returns
-returns c = rw (not-false c.args.read c.if-not-read.false) refl
+returns c = rw c.if-not-read.false refl

@@ -15,7 +15,7 @@ module _ (c : Else-not-are_listed) where
   start = c.before.before.before.before
 
   listed : are_listed start.args.ws ≡ true
-  listed = sym c.are_listed.ensures ∙ not-false _ c.if-not-are_listed.false
+  listed = sym c.are_listed.ensures ∙ c.if-not-are_listed.false
 
 pub returns-then-ws-eq0 : goal.returns-then-ws-eq0
 returns-then-ws-eq0 c =
@@ -31,7 +31,7 @@ returns-then-not-are_listed c =
     let s = l in
     let a = s.args in
     c.refused_place.ensures
-    ∙ unlisted_asked refused_place (λ S. place_in a.s.subcarriers S a.p) a.spacing a.s s.requires.1 a.ws (sym l.are_listed.ensures ∙ not-true _ c.if-not-are_listed.true)
+    ∙ unlisted_asked refused_place (λ S. place_in a.s.subcarriers S a.p) a.spacing a.s s.requires.1 a.ws (sym l.are_listed.ensures ∙ c.if-not-are_listed.true)
 
 pub returns-then-nested-eq0 : goal.returns-then-nested-eq0
 returns-then-nested-eq0 c =

@@ -9,7 +9,7 @@ use Rattle.units.specs.declared.Lane.{Lane}
 use Rattle.strides.specs.declared.Leap.{Leap}
 use Rattle.strides.specs.declared.Stride.{Stride}
 use Rattle.strides.specs.declared.Kept.{Kept}
-use Rattle.strides.specs.declared.whose-1.{Whose}
+use Rattle.strides.specs.declared.Whose.{Whose}
 use Rattle.strides.specs.declared.Stretch.TheVariants.{Alone, Busy}
 use Rattle.strides.specs.declared.Stretch.TheVariants as stretch
 use Rattle.strides.specs.Quick.{lane_at, Apart, Keeps, Quiet, Stretches, Strode, past_of, Leapt}
@@ -23,8 +23,8 @@ module _ (c : In-Quiet-2) where
   abbrev s : Start
   s = c.before.before.before
 
-  quiet : (0 < c.d-1.given.0.0) × ((i : ℕ) → i < c.d-1.given.0.0 → Quiet s.args.table (s.args.s.n + i))
-  quiet = subst (Stretches s.args.table s.args.s.n s.args.far) c.d-1.given.1 c.stretch_at.ensures
+  quiet : (0 < c.in-Quiet.d) × ((i : ℕ) → i < c.in-Quiet.d → Quiet s.args.table (s.args.s.n + i))
+  quiet = subst (Stretches s.args.table s.args.s.n s.args.far) c.in-Quiet.is c.stretch_at.ensures
 
 pub returns-in-Quiet : goal.returns-in-Quiet
 returns-in-Quiet c =
@@ -47,10 +47,10 @@ module _ (c : After-lane_at-units) where
   z = o.before.before.before
 
   abbrev whose : Whose
-  whose = o.whose-1.given.0.0
+  whose = o.in-Alone.whose
 
   met : (z.args.far ≡ true) × (0 < (lane_at z.args.table whose).window) × Apart z.args.table whose (lane_at z.args.table whose).window z.args.s.n
-  met = subst (Stretches z.args.table z.args.s.n z.args.far) o.whose-1.given.1 o.stretch_at.ensures
+  met = subst (Stretches z.args.table z.args.s.n z.args.far) o.in-Alone.is o.stretch_at.ensures
 
   units_is : c.lane_at-units.result.window ≡ (lane_at z.args.table whose).window
   units_is = ap (λ (l : Lane). l.window) c.lane_at-units.ensures
@@ -109,11 +109,11 @@ returns-in-Busy c =
     let e = c.run_over-in-Busy.ensures in
     (e.0, subst (Keeps y.args.table (allows y.args.p)) (sym e.1) y.requires.5, λ h. e.2)
 
-busy : (c : In-Busy-2) → 0 < c.d-in-Busy-1.given.0.0
+busy : (c : In-Busy-2) → 0 < c.in-Busy.d
 busy c =
     let b = c in
     let a = b.args in
-    subst (Stretches a.table a.s.n a.far) c.d-in-Busy-1.given.1 b.stretch_at.ensures
+    subst (Stretches a.table a.s.n a.far) c.in-Busy.is b.stretch_at.ensures
 
 pub stretch_at-requires : goal.stretch_at-requires
 stretch_at-requires c = (c.requires.0, omega (arith, c.requires.3, c.requires.4))

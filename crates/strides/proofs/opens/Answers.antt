@@ -7,6 +7,7 @@ use Rattle.strides.proofs.opens.Goals as goal
 
 pub returns : goal.returns
 returns c =
+    λ e.
     let o = c in
     let a = o.args in
     let b = both_parts (eqb o.place.result 0) (ltb 0 a.l.window && leb a.l.window a.units) e in

@@ -10,6 +10,7 @@ use Rattle.timetable.proofs.in_period.Goals as goal
 
 pub returns : goal.returns
 returns c =
+    λ ms S C.
     let d = c in
     let z = d in
     let D = d.counted.ensures.3 ms S C.exact in

@@ -29,7 +29,7 @@ other c =
     let a = c in
     let t = a in
     let s = t in
-    use_unused s.args.layout 0 subcarriers (x s.before.before.before.before) a.at-in-Unused-1.given.0.0 (sym t.use_at-at.ensures ∙ a.at-in-Unused-1.given.1)
+    use_unused s.args.layout 0 subcarriers (x s.before.before.before.before) a.at-in-Unused-1.given.0.0 (sym t.use_at-at.ensures ∙ a.in-Unused.is)
 
 pub use_at-at-requires : goal.use_at-at-requires
 use_at-at-requires c = (c.requires.0, whole_part, c.requires.2, c.requires.3, c.requires.4)

@@ -20,7 +20,7 @@ use Rattle.uplink.proofs.backward.Goals as goal
 -- inside the grid
 module _ (c : Else-not-inside) where
   inside : (ltb c.args.l symbols && ltb c.args.k c.args.s.subcarriers) ≡ true
-  inside = not-false _ c.if-not-inside.false
+  inside = c.if-not-inside.false
 
   symbol_inside : c.args.l < symbols
   symbol_inside = ltb-true _ _ (both_parts (ltb c.args.l symbols) _ inside).0
@@ -37,12 +37,12 @@ module _ (c : Else-not-found) where
   start = within.before
 
   index_small : start.args.found.i < 2 ^ 32
-  index_small = omega (arith, sent_small start.args.s start.requires.0, start.requires.1 (not-false _ c.if-not-found.false))
+  index_small = omega (arith, sent_small start.args.s start.requires.0, start.requires.1 c.if-not-found.false)
 
   -- by whichever groups are open
   module _ (is_open : ℕ → Bool) (at : Located start.args.s is_open start.args.slot start.args.found) where
     sent : is_sent start.args.s is_open start.args.slot ≡ true
-    sent = sym at.says ∙ not-false _ c.if-not-found.false
+    sent = sym at.says ∙ c.if-not-found.false
 
     index : start.args.found.i ≡ index_of start.args.s is_open start.args.slot
     index = at.index sent
@@ -51,7 +51,7 @@ module _ (c : Else-not-found) where
 granted : (c : Else-not-is_granted) →
     let a = (start c.before.before).args in
     is_granted a.s a.k ≡ true
-granted c = sym c.is_granted.ensures ∙ not-false _ c.if-not-is_granted.false
+granted c = sym c.is_granted.ensures ∙ c.if-not-is_granted.false
 
 data_element : (c : Else-is_reference) →
     let a = (start c.before.before.before.before).args in
@@ -67,7 +67,7 @@ pub returns-then-not-inside : goal.returns-then-not-inside
 returns-then-not-inside c =
     λ is_open at.
     let a = c.args in
-    c.refused.ensures ∙ sym (outside_at (sending_of a.s is_open) _ a.slot _ (not-true _ c.if-not-inside.true))
+    c.refused.ensures ∙ sym (outside_at (sending_of a.s is_open) _ a.slot _ c.if-not-inside.true)
 
 pub returns-then-not-found : goal.returns-then-not-found
 returns-then-not-found c =
@@ -75,7 +75,7 @@ returns-then-not-found c =
     let i = c in
     let a = i in
     c.not_ours.ensures
-    ∙ backward_unsent a.args.s is_open a.args.slot a.args.l a.args.k (inside i.before.before.before) (sym at.says ∙ not-true _ c.if-not-found.true)
+    ∙ backward_unsent a.args.s is_open a.args.slot a.args.l a.args.k (inside i.before.before.before) (sym at.says ∙ c.if-not-found.true)
 
 pub is_granted-requires : goal.is_granted-requires
 is_granted-requires c = (start c).requires.0
@@ -86,7 +86,7 @@ returns-then-not-is_granted c =
     let t = c in
     let o = t in
     let a = start o.before.before.before in
-    let n = not_granted a.args.s a.requires.0 a.args.l a.args.k (subcarrier_inside (within o.before.before.before)) (sym t.is_granted.ensures ∙ not-true _ t.if-not-is_granted.true) in
+    let n = not_granted a.args.s a.requires.0 a.args.l a.args.k (subcarrier_inside (within o.before.before.before)) (sym t.is_granted.ensures ∙ t.if-not-is_granted.true) in
     c.not_ours-then-not-is_granted.ensures ∙ backward_not_ours a.args.s is_open a.args.slot a.args.l a.args.k (inside (within o.before.before.before)) 0 (sent o.before.before.before is_open at) n.0 n.1
 
 pub is_reference-requires : goal.is_reference-requires

@@ -4,19 +4,19 @@ use Rattle.walk.proofs.forward_plain.Goals as goal
 
 pub returns-in-Npusch : goal.returns-in-Npusch
 unfolding asked
-returns-in-Npusch c = simp (c.from_uplink.ensures, c.forward_npusch.ensures, c.grant-1.given.1)
+returns-in-Npusch c = simp (c.from_uplink.ensures, c.forward_npusch.ensures, c.in-Npusch.is)
 
 pub returns-in-HarqAck : goal.returns-in-HarqAck
 unfolding asked
-returns-in-HarqAck c = simp (c.from_uplink-in-HarqAck.ensures, c.forward_harq_ack.ensures, c.grant-in-HarqAck-1.given.1)
+returns-in-HarqAck c = simp (c.from_uplink-in-HarqAck.ensures, c.forward_harq_ack.ensures, c.in-HarqAck.is)
 
 pub returns-in-Npdsch : goal.returns-in-Npdsch
 unfolding asked
-returns-in-Npdsch c = simp (c.from_downlink.ensures, c.forward_npdsch.ensures, c.grant-in-Npdsch-1.given.1)
+returns-in-Npdsch c = simp (c.from_downlink.ensures, c.forward_npdsch.ensures, c.in-Npdsch.is)
 
 pub returns-in-Npdcch : goal.returns-in-Npdcch
 unfolding asked
-returns-in-Npdcch c = simp (c.from_downlink-in-Npdcch.ensures, c.forward_npdcch.ensures, c.grant-in-Npdcch-1.given.1)
+returns-in-Npdcch c = simp (c.from_downlink-in-Npdcch.ensures, c.forward_npdcch.ensures, c.in-Npdcch.is)
 
 pub forward_npusch-requires : goal.forward_npusch-requires
 forward_npusch-requires c = tt

@@ -4,19 +4,19 @@ use Rattle.walk.proofs.forward_quick.Goals as goal
 
 pub returns-in-Npusch : goal.returns-in-Npusch
 unfolding asked
-returns-in-Npusch c = simp (c.from_uplink.ensures, c.forward_beside.ensures, c.grant-1.given.1)
+returns-in-Npusch c = simp (c.from_uplink.ensures, c.forward_beside.ensures, c.in-Npusch.is)
 
 pub returns-in-HarqAck : goal.returns-in-HarqAck
 unfolding asked
-returns-in-HarqAck c = simp (c.from_uplink-in-HarqAck.ensures, c.forward_beside-in-HarqAck.ensures, c.grant-in-HarqAck-1.given.1)
+returns-in-HarqAck c = simp (c.from_uplink-in-HarqAck.ensures, c.forward_beside-in-HarqAck.ensures, c.in-HarqAck.is)
 
 pub returns-in-Npdsch : goal.returns-in-Npdsch
 unfolding asked
-returns-in-Npdsch c = simp (c.from_downlink.ensures, c.forward.ensures, c.grant-in-Npdsch-1.given.1)
+returns-in-Npdsch c = simp (c.from_downlink.ensures, c.forward.ensures, c.in-Npdsch.is)
 
 pub returns-in-Npdcch : goal.returns-in-Npdcch
 unfolding asked
-returns-in-Npdcch c = simp (c.from_downlink-in-Npdcch.ensures, c.forward-in-Npdcch.ensures, c.grant-in-Npdcch-1.given.1)
+returns-in-Npdcch c = simp (c.from_downlink-in-Npdcch.ensures, c.forward-in-Npdcch.ensures, c.in-Npdcch.is)
 
 pub forward_beside-requires : goal.forward_beside-requires
 forward_beside-requires c = tt

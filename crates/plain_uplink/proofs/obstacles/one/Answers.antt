@@ -13,7 +13,7 @@ use Rattle.plain_uplink.proofs.obstacles.one.Goals as goal
 -- the window stands in the way, so it is listed
 module _ (c : Else-not-concerns) where
   concerned : let a = c.args in (a.read && shares_tone a.tone a.tones a.w) ≡ true
-  concerned = sym c.concerns.ensures ∙ not-false _ c.if-not-concerns.false
+  concerned = sym c.concerns.ensures ∙ c.if-not-concerns.false
 
   numbered : Numbers c.args.w
   numbered =
@@ -26,7 +26,7 @@ concerns-requires c = (c.requires.1, c.requires.2, c.requires.3)
 
 pub returns-then-not-concerns : goal.returns-then-not-concerns
 unfolding obstacle_of
-returns-then-not-concerns c = (rw (sym c.concerns.ensures ∙ not-true _ c.if-not-concerns.true) refl, λ e. absurd (omega (arith, ap bool_byte e)))
+returns-then-not-concerns c = (rw (sym c.concerns.ensures ∙ c.if-not-concerns.true) refl, λ e. absurd (omega (arith, ap bool_byte e)))
 
 pub overflow_mul-result : goal.overflow_mul-result
 unfolding obstacle_of

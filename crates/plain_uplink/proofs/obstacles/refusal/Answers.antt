@@ -13,7 +13,7 @@ use Rattle.plain_uplink.proofs.obstacles.refusal.Goals.{Else-not-are_listed, Aft
 use Rattle.plain_uplink.proofs.obstacles.refusal.Goals as goal
 
 listed : (c : Else-not-are_listed) → are_listed c.args.ws ≡ true
-listed c = sym c.are_listed.ensures ∙ not-false _ c.if-not-are_listed.false
+listed c = sym c.are_listed.ensures ∙ c.if-not-are_listed.false
 
 -- whether some group is open
 ever : (c : After-is_ever_clear)
@@ -33,7 +33,7 @@ are_listed-requires c = tt
 
 pub returns-then-not-are_listed : goal.returns-then-not-are_listed
 unfolding windows_refusal
-returns-then-not-are_listed c = rw (sym c.are_listed.ensures ∙ not-true _ c.if-not-are_listed.true) refl
+returns-then-not-are_listed c = rw (sym c.are_listed.ensures ∙ c.if-not-are_listed.true) refl
 
 pub beside-requires : goal.beside-requires
 unfolding windows_refusal
@@ -45,8 +45,8 @@ is_ever_clear-requires c = c.beside.ensures.1
 
 pub returns-then-not-is_ever_clear : goal.returns-then-not-is_ever_clear
 unfolding windows_refusal
-returns-then-not-is_ever_clear c = rw (listed c.before.before.before, sym (ever c.before) ∙ not-true _ c.if-not-is_ever_clear.true) refl
+returns-then-not-is_ever_clear c = rw (listed c.before.before.before, sym (ever c.before) ∙ c.if-not-is_ever_clear.true) refl
 
 pub returns : goal.returns
 unfolding windows_refusal
-returns c = rw (listed c.before.before.before, sym (ever c.before) ∙ not-false _ c.if-not-is_ever_clear.false) refl
+returns c = rw (listed c.before.before.before, sym (ever c.before) ∙ c.if-not-is_ever_clear.false) refl
