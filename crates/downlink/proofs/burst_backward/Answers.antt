@@ -51,7 +51,7 @@ searched c =
     c.locate-found.ensures ∙ ap (λ (n : ℕ). found_among (left s.before.before.before.before) all_periods (first_of (left s.before.before.before.before) all_periods s.args.b) n s.args.t) c.sent_subframes-sent.ensures.0
 
 -- at index i
-at : (c : tie.In-At-2) → found c.before.before.before.before.before.before ≡ At c.found-1.given.0.0
+at : (c : tie.In-At) → found c.before.before.before.before.before.before ≡ At c.found-1.given.0.0
 at c = sym (searched c.before.before) ∙ c.in-At.is
 
 -- the cause, by whether the subframe is left

@@ -14,22 +14,22 @@ use Rattle.strides.specs.declared.Stretch.TheVariants.{Alone, Busy}
 use Rattle.strides.specs.declared.Stretch.TheVariants as stretch
 use Rattle.strides.specs.Quick.{lane_at, Apart, Keeps, Quiet, Stretches, Strode, past_of, Leapt}
 use Rattle.strides.proofs.Striding.{past_leaps, past_keeps}
-use Rattle.strides.proofs.leap_from.Goals.{In-Quiet-2, Start, After-lane_at-units, In-Alone-2, After-kept_of, After-keep-k, In-Busy-2}
+use Rattle.strides.proofs.leap_from.Goals.{In-Quiet, Start, After-lane_at-units, In-Alone, After-kept_of, After-keep-k, In-Busy}
 use Rattle.strides.proofs.leap_from.Goals as goal
 
 -- ---- quiet
 
-module _ (c : In-Quiet-2) where
+module _ (c : In-Quiet) where
   abbrev s : Start
-  s = c.before.before.before
+  s = c.before.before.before.before
 
   quiet : (0 < c.in-Quiet.d) × ((i : ℕ) → i < c.in-Quiet.d → Quiet s.args.table (s.args.s.n + i))
-  quiet = subst (Stretches s.args.table s.args.s.n s.args.far) c.in-Quiet.is c.stretch_at.ensures
+  quiet = c.in-Quiet.ensures
 
 pub returns-in-Quiet : goal.returns-in-Quiet
 returns-in-Quiet c =
     let q = c in
-    let z = s q.before.before.before in
+    let z = s q.before.before in
     let a = z.args in
     let e = c.past.ensures in (
       subst (Leapt a.table (allows a.p) a.s a.end) (sym e) (past_leaps a.table (allows a.p) a.s a.end a.kept true q.stride_quiet.result z.requires.2 q.stride_quiet.ensures),
@@ -40,17 +40,17 @@ returns-in-Quiet c =
 -- ---- a window that meets no other
 
 module _ (c : After-lane_at-units) where
-  abbrev o : In-Alone-2
-  o = c.before.before
+  abbrev o : In-Alone
+  o = c.before
 
   abbrev z : Start
-  z = o.before.before.before
+  z = o.before.before.before.before
 
   abbrev whose : Whose
   whose = o.in-Alone.whose
 
   met : (z.args.far ≡ true) × (0 < (lane_at z.args.table whose).window) × Apart z.args.table whose (lane_at z.args.table whose).window z.args.s.n
-  met = subst (Stretches z.args.table z.args.s.n z.args.far) o.in-Alone.is o.stretch_at.ensures
+  met = o.in-Alone.ensures
 
   units_is : c.lane_at-units.result.window ≡ (lane_at z.args.table whose).window
   units_is = ap (λ (l : Lane). l.window) c.lane_at-units.ensures
@@ -109,17 +109,14 @@ returns-in-Busy c =
     let e = c.run_over-in-Busy.ensures in
     (e.0, subst (Keeps y.args.table (allows y.args.p)) (sym e.1) y.requires.5, λ h. e.2)
 
-busy : (c : In-Busy-2) → 0 < c.in-Busy.d
-busy c =
-    let b = c in
-    let a = b.args in
-    subst (Stretches a.table a.s.n a.far) c.in-Busy.is b.stretch_at.ensures
+busy : (c : In-Busy) → 0 < c.in-Busy.d
+busy c = c.in-Busy.ensures
 
 pub stretch_at-requires : goal.stretch_at-requires
 stretch_at-requires c = (c.requires.0, omega (arith, c.requires.3, c.requires.4))
 
 pub stride_quiet-requires : goal.stride_quiet-requires
-stride_quiet-requires c = let y = s c.before in (y.requires.0, y.requires.1, y.requires.2.free, y.requires.3, y.requires.4, (quiet c.before).0, (quiet c.before).1)
+stride_quiet-requires c = let y = s c in (y.requires.0, y.requires.1, y.requires.2.free, y.requires.3, y.requires.4, (quiet c).0, (quiet c).1)
 
 pub past-requires : goal.past-requires
 past-requires c = tt
@@ -157,4 +154,4 @@ pub run_over-requires : goal.run_over-requires
 run_over-requires c = let y = z c.before in (y.requires.0, y.requires.1, y.requires.2, y.requires.3, y.requires.4, some c.before)
 
 pub run_over-requires-in-Busy : goal.run_over-requires-in-Busy
-run_over-requires-in-Busy c = let y = c in (y.requires.0, y.requires.1, y.requires.2, y.requires.3, y.requires.4, busy c.before)
+run_over-requires-in-Busy c = let y = c in (y.requires.0, y.requires.1, y.requires.2, y.requires.3, y.requires.4, busy c)

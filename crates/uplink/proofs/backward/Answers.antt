@@ -37,12 +37,12 @@ module _ (c : Else-not-found) where
   start = within.before
 
   index_small : start.args.found.i < 2 ^ 32
-  index_small = omega (arith, sent_small start.args.s start.requires.0, start.requires.1 c.if-not-found.false)
+  index_small = omega (arith, sent_small start.args.s start.requires.0, start.requires.1 (not-false _ c.if-not-found.false))
 
   -- by whichever groups are open
   module _ (is_open : ℕ → Bool) (at : Located start.args.s is_open start.args.slot start.args.found) where
     sent : is_sent start.args.s is_open start.args.slot ≡ true
-    sent = sym at.says ∙ c.if-not-found.false
+    sent = sym at.says ∙ not-false _ c.if-not-found.false
 
     index : start.args.found.i ≡ index_of start.args.s is_open start.args.slot
     index = at.index sent
@@ -75,7 +75,7 @@ returns-then-not-found c =
     let i = c in
     let a = i in
     c.not_ours.ensures
-    ∙ backward_unsent a.args.s is_open a.args.slot a.args.l a.args.k (inside i.before.before.before) (sym at.says ∙ c.if-not-found.true)
+    ∙ backward_unsent a.args.s is_open a.args.slot a.args.l a.args.k (inside i.before.before.before) (sym at.says ∙ not-true _ c.if-not-found.true)
 
 pub is_granted-requires : goal.is_granted-requires
 is_granted-requires c = (start c).requires.0

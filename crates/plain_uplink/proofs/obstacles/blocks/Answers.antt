@@ -13,7 +13,7 @@ use Rattle.plain_uplink.proofs.obstacles.blocks.Goals as goal
 -- the window stands, so its numbers are small
 module _ (c : Else-not-o) where
   stands : c.args.o.stands ≡ true
-  stands = c.if-not-o.false
+  stands = not-false c.args.o.stands c.if-not-o.false
 
   small : (0 < c.args.o.period) × (c.args.o.period ≤ 2560) × (c.args.o.start ≤ 1024)
   small = c.requires.0 stands
@@ -23,7 +23,7 @@ module _ (c : Else-not-o) where
 
 pub returns-then-not-o : goal.returns-then-not-o
 unfolding blocks
-returns-then-not-o c = rw c.if-not-o.true refl
+returns-then-not-o c = rw (not-true c.args.o.stands c.if-not-o.true) refl
 
 pub overflow_add-since : goal.overflow_add-since
 unfolding blocks

@@ -24,7 +24,7 @@ end_small ms u h l = omega (arith, mul-le-mul_right u h)
 
 pub returns-then-not-os : goal.returns-then-not-os
 unfolding clear_of
-returns-then-not-os c = let s = c in idle s.args.os s.args.u s.requires.0 c.if-not-os.true
+returns-then-not-os c = let s = c in idle s.args.os s.args.u s.requires.0 (not-true s.args.os.any c.if-not-os.true)
 
 pub overflow_mul-end : goal.overflow_mul-end
 unfolding clear_of
