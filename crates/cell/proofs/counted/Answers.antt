@@ -5,7 +5,7 @@ use Rattle.elements.specs.declared.Layout.{Layout}
 use Rattle.elements.specs.Elements.{count_of}
 use Rattle.elements.specs.Scaffold.{Valid}
 use Rattle.elements.proofs.Laws.{all_used, whole_part}
-use Rattle.cell.specs.layout.{layout_of}
+use Rattle.cell.specs.Layout.{layout_of}
 use Rattle.cell.specs.Quick.{count_after}
 use Rattle.cell.proofs.Accepted.{layout_valid}
 use Rattle.cell.proofs.counted.Goals.{After-layout}

@@ -15,7 +15,7 @@ use Rattle.subframes.specs.Scaffold.{left_in}
 use Rattle.cell.specs.declared.Cause.{Cause}
 use Rattle.cell.specs.declared.Cause.TheVariants.{None}
 use Rattle.cell.specs.Quick.{lent_cell, why_not, seen}
-use Rattle.spans.specs.found-1.{found_among}
+use Rattle.spans.specs.Found.{found_among}
 use Rattle.spans.proofs.Located.{at_index, at_below, at_between, at_nothing}
 use Rattle.downlink.specs.Mapping.{sent_subframes, first_of, sending_of}
 use Rattle.downlink.specs.Answers.{inside_grid}

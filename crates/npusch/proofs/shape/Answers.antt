@@ -29,7 +29,7 @@ gap-requires c = tt
 pub first_tone-requires : goal.first_tone-requires
 first_tone-requires c =
     let a = in_range_lem c.before.before.before.before.before.before in
-    (a.spacing, a.tones-tones)
+    (a.spacing, a.tones)
 
 pub codeword-requires : goal.codeword-requires
 codeword-requires c = omega (arith, (in_range_lem c.before.before.before.before.before.before.before).units)

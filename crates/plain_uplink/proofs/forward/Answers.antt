@@ -3,7 +3,7 @@ use Rattle.sending.proofs.Answer.{refused_as, accepted_as}
 use Rattle.uplink.specs.Mapping.{sending_of}
 use Rattle.uplink.specs.Answers.{refused_place}
 use Rattle.uplink.specs.Scaffold.{place_in}
-use Rattle.postponed.specs.beside.{refusal_beside, question_beside}
+use Rattle.postponed.specs.Beside.{refusal_beside, question_beside}
 use Rattle.plain_uplink.proofs.Clear.{clear_beside, leaves, all_listed}
 use Rattle.plain_uplink.proofs.forward.Goals.{Else-no-ne0}
 use Rattle.plain_uplink.proofs.forward.Goals as goal

@@ -15,16 +15,8 @@ use Rattle.search_space.specs.Quick.{first_block, last_block, entry_in}
 use Rattle.search_space.proofs.Labels.{in_order_lem}
 use Rattle.search_space.proofs.Listing.{set_more}
 use Rattle.search_space.proofs.listed.Goals.{After-digit-j, Start}
+use Rattle.search_space.proofs.listed.Invariants.{made}
 use Rattle.search_space.proofs.listed.Goals as goal
-
--- a candidate read off the blocks
-abbrev made : Blocks → ℕ → ℕ → ℕ → Candidate
-made b row size k = record {
-  first = get_or b.first (first_block row k) 0;
-  r = (last_block row k + 1 - first_block row k) * size;
-  last = get_or b.last (last_block row k) 0;
-}
-
 
 
 -- the two blocks of candidate k

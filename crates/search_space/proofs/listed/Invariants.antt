@@ -16,6 +16,14 @@ use Rattle.search_space.proofs.Labels.{in_order_lem}
 use Rattle.search_space.proofs.Listing.{set_more}
 use Rattle.search_space.proofs.listed.Given as goal
 
+-- a candidate read off the blocks
+abbrev pub made : Blocks → ℕ → ℕ → ℕ → Candidate
+made b row size k = record {
+  first = get_or b.first (first_block row k) 0;
+  r = (last_block row k + 1 - first_block row k) * size;
+  last = get_or b.last (last_block row k) 0;
+}
+
 abbrev pub invariant-loop-k : goal.invariant-loop-k
 invariant-loop-k l =
     (l.k ≤ l.count) × (length l.list ≡ 15) × ((i : ℕ) → i < l.k → get_or l.list i blank ≡ made l.b l.row l.size i)

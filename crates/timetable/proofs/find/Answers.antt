@@ -7,7 +7,7 @@ use Rattle.counting.proofs.Rank.{rank_le}
 use Rattle.spans.specs.Pattern.{allows}
 use Rattle.messages.specs.declared.Messages.{Messages}
 use Rattle.messages.specs.Messages.{remaining}
-use Rattle.units.specs.declared.sight-1.{Sight}
+use Rattle.units.specs.declared.Sight.{Sight}
 use Rattle.units.specs.Quick.{begin_of, Serves, Exact}
 use Rattle.timetable.specs.Quick.{moved}
 use Rattle.timetable.proofs.Searching.{passed, found_early, whole_again}

@@ -8,11 +8,8 @@ use Rattle.messages.specs.Messages.{remaining}
 use Rattle.units.specs.declared.Wants.{Wants}
 use Rattle.units.specs.Quick.{begin_of, Small, Serves, Exact}
 use Rattle.strides.specs.Quick.{Keeps}
+use Rattle.timetable.proofs.scan.Invariants.{wanted}
 use Rattle.timetable.proofs.scan.Goals as goal
-
-abbrev wanted : ℕ → ℕ → ℕ → ℕ → Wants
-wanted a b c d = record { w1 = a; w2 = b; w3 = c; w4 = d }
-
 
 
 pub returns-then-found : goal.returns-then-found

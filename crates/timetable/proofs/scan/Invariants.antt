@@ -10,6 +10,9 @@ use Rattle.units.specs.Quick.{begin_of, Small, Serves, Exact}
 use Rattle.strides.specs.Quick.{Keeps}
 use Rattle.timetable.proofs.scan.Given as goal
 
+abbrev pub wanted : ℕ → ℕ → ℕ → ℕ → Wants
+wanted a b c d = record { w1 = a; w2 = b; w3 = c; w4 = d }
+
 -- what is wanted is exact, and the same subframe is looked for
 abbrev pub invariant-loop-n : goal.invariant-loop-n
 invariant-loop-n l =

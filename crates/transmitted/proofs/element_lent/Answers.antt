@@ -1,6 +1,6 @@
 use mathlib.Core.Path.{sym, subst, ◌∙◌}
 use Rattle.cell.specs.Quick.{lent_cell}
-use Rattle.elements.specs.declared.layout.{Layout}
+use Rattle.elements.specs.declared.Layout.{Layout}
 use Rattle.transmitted.specs.Quick.{Prepared}
 use Rattle.transmitted.proofs.Going.{goes_within}
 use Rattle.transmitted.proofs.Answering.{element_inside, element_refused, element_answered}

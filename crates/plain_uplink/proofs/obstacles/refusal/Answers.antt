@@ -6,7 +6,7 @@ use borrow.Author.Tests.{not-true, not-false}
 use Rattle.counting.specs.Counting.{rank}
 use Rattle.nprach.specs.Windows.{all_periods, are_listed, windows_refusal}
 use Rattle.numerology.specs.Numerology.{group_ms}
-use Rattle.postponed.specs.beside.{open_beside}
+use Rattle.postponed.specs.Beside.{open_beside}
 use Rattle.plain_uplink.specs.declared.obstacles.Obstacles.{Obstacles}
 use Rattle.plain_uplink.proofs.Clear.{clear_beside}
 use Rattle.plain_uplink.proofs.obstacles.refusal.Goals.{Else-not-are_listed, After-is_ever_clear}
