@@ -138,6 +138,6 @@ returns c =
     let r = d.before.before in
     let a = r.before.before.before.args in
     c.place.ensures
-    ∙ forward_at a.c _ _ (npbch_of a.c.config) (npbch_sent a.c.config) (sym r.refusal-no.ensures ∙ d.before.if-no-ne0.left) _ d.npbch_burst-b.ensures
+    ∙ forward_at a.c _ _ (npbch_of a.c.config) (npbch_sent a.c.config) (sym r.refusal-no.ensures ∙ d.before.if-no-ne0.false) _ d.npbch_burst-b.ensures
     a.p _ _ _ _ _ _ _ (held q.before.before.before.before.before.before.before) q.used_elements-w.ensures.0 q.quotient-i.ensures (element q.before.before.before.before.before.before)
     (sym (npbch_at q.quotient-i.result (below q.before.before.before.before.before.before))) k.element_at-x.ensures k.carried_by-unit.ensures.0 c.item.ensures

@@ -153,6 +153,6 @@ returns c =
     let r = d.before.before in
     let a = r.before.before.before.args in
     c.place.ensures
-    ∙ forward_at a.c _ _ (sib1_of a.c.config) (sib1_sent a.c.config) (sym r.refusal-no.ensures ∙ d.before.if-no-ne0.left) _ d.sib1_burst-b.ensures
+    ∙ forward_at a.c _ _ (sib1_of a.c.config) (sib1_sent a.c.config) (sym r.refusal-no.ensures ∙ d.before.if-no-ne0.false) _ d.sib1_burst-b.ensures
     a.p _ _ _ _ _ _ _ (held q.before.before.before.before.before.before.before.before) q.used_elements-w.ensures.0 q.quotient-i.ensures (element q.before.before.before.before.before.before.before)
     (ap (λ (f : ℕ). 10 * f + 4) k.sib1_frame-frame.ensures ∙ sym (sib1_at a.c.config.identity a.c.config.sib1 q.quotient-i.result (below q.before.before.before.before.before.before.before))) k.element_at-x.ensures k.carried_by-unit.ensures.0 c.item.ensures

@@ -39,7 +39,7 @@ module _ (c : After-band_refusal-no) where
   past_three : numbers_refusal asked ≡ cond (eqb (band_refusal asked) 0) (cond (ltb 11 asked.sib1) 6 0) (band_refusal asked)
   unfolding numbers_refusal band_refusal
   past_three =
-      rw (e2.if-c.left, le-ltb _ _ e2.if-c-gt503.left, c.if-not-c.false)
+      rw (e2.if-c.false, le-ltb _ _ e2.if-c-gt503.false, c.if-not-c.false)
       (parted (not (cell_ports_listed asked)) (not (control_listed asked)) (ports_differ asked) (cond (ltb 11 asked.sib1) 6 0))
 
 pub returns-then-no-ne0 : goal.returns-then-no-ne0

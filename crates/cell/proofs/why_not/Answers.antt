@@ -1,15 +1,18 @@
 use mathlib.Core.Bool.{Bool, false, cond, ◌&&◌}
-use mathlib.Core.Logic.{⊎_elim}
 use mathlib.Core.Path.{◌≡◌, refl, sym, ap, ◌∙◌}
 use Rattle.spans.specs.Pattern.{allows}
 use Rattle.cell.specs.declared.Cause.TheVariants.{Message}
 use Rattle.cell.specs.Quick.{why_not_free, why_not}
-use Rattle.cell.proofs.why_not.Goals.{Joined-laid}
+use Rattle.cell.proofs.why_not.Goals.{Joined-laid, then-laid+else-is_allowed, else-laid}
 use Rattle.cell.proofs.why_not.Goals as goal
 
 -- no message is laid, or the subframe is not free
 apart : (c : Joined-laid) → (c.args.laid && allows c.args.p c.args.t) ≡ false
-apart c = ⊎_elim (λ w. rw w.0.true (sym w.1.ensures ∙ w.2.left)) (λ w. rw w.left refl) c.if-laid.branch
+apart c =
+    elim c.if-laid.branch [
+      then-laid+else-is_allowed w ↦ rw w.if-laid.true (sym w.is_allowed.ensures ∙ w.if-is_allowed.false)
+      | else-laid w ↦ rw w.if-laid.false refl
+    ]
 
 pub returns : goal.returns
 unfolding why_not

@@ -78,12 +78,12 @@ returns c =
     let e = y.before in
     let j = e.before.before in
     let a = (start e).args in (
-      sym e.if-call-ne0.left ∙ j.judged-call.ensures.number,
+      sym e.if-call-ne0.false ∙ j.judged-call.ensures.number,
       halves w.write_slot-next.new.0 (drop slot_numbers (given e)) b.write_slot.new.0 slot_numbers (front w.before.before.before.before.before.before.before)
           ∙ ap₂ ◌++◌ w.write_slot-next.ensures.1 b.write_slot.ensures.1
           ∙ both_slots (lent_cell a.c a.si.now) a.anchor.now a.other.now a.g a.i a.bits.now a.level (given e) j.judged-call.result j.judged-call.ensures
-          y.layout-layout.result f.symbols-four.result w.write_slot-next.result y.layout-layout.ensures f.symbols-four.ensures w.write_slot-next.ensures.0 e.if-call-ne0.left
-          ∙ output_filled (lent_cell a.c a.si.now) a.anchor.now a.other.now a.g a.i a.bits.now a.level (given e) j.judged-call.result j.judged-call.ensures e.if-call-ne0.left,
+          y.layout-layout.result f.symbols-four.result w.write_slot-next.result y.layout-layout.ensures f.symbols-four.ensures w.write_slot-next.ensures.0 e.if-call-ne0.false
+          ∙ output_filled (lent_cell a.c a.si.now) a.anchor.now a.other.now a.g a.i a.bits.now a.level (given e) j.judged-call.result j.judged-call.ensures e.if-call-ne0.false,
     )
 
 pub judged-call-requires : goal.judged-call-requires
