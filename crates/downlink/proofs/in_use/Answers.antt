@@ -5,15 +5,7 @@ use borrow.Author.Rules.{rules}
 use Rattle.sending.specs.Answer.{back_of}
 use Rattle.elements.proofs.Laws.{use_used, use_unused}
 use Rattle.downlink.proofs.Joined.{content_ours, content_unused}
-use Rattle.downlink.proofs.in_use.Goals.{After-used_elements-w}
 use Rattle.downlink.proofs.in_use.Goals as goal
-
--- it is below the used elements
-below : (c : After-used_elements-w) → c.at-1.given.0.0 < c.used_elements-w.result
-below c =
-    let k = c in
-    let s = k in
-    omega (arith, c.used_elements-w.ensures.0, s.requires.2 k.at-1.given.0.0 k.at-1.given.1)
 
 pub returns-in-Used : goal.returns-in-Used
 returns-in-Used c =
@@ -32,7 +24,7 @@ returns-in-Unused c =
     let a = c in
     let s = a in
     λ x e.
-    let o = use_unused s.args.b.layout s.args.b.low s.args.b.width x a.at-in-Unused-1.given.0.0 (sym e ∙ a.in-Unused.is) in
+    let o = use_unused s.args.b.layout s.args.b.low s.args.b.width x c.in-Unused.kind (sym e ∙ a.in-Unused.is) in
     c.not_ours.ensures ∙ ap back_of (content_unused s.args.b s.args.i x _ o.0 (sym o.1))
 
 pub used_elements-w-requires : goal.used_elements-w-requires
@@ -42,12 +34,12 @@ pub carried_by-unit-requires : goal.carried_by-unit-requires
 carried_by-unit-requires c = c.requires.0
 
 pub item-requires : goal.item-requires
-item-requires c = let w = c in (omega (arith, c.carried_by-unit.ensures.1), omega (arith, w.used_elements-w.ensures.2), below w.before)
+item-requires c = let w = c in (omega (arith, c.carried_by-unit.ensures.1), omega (arith, w.used_elements-w.ensures.2), omega (arith, c.used_elements-w.ensures.0, c.requires.2 c.in-Used.e c.in-Used.is))
 
 pub item-requires-in-Used : goal.item-requires-in-Used
 item-requires-in-Used c =
     let w = c in
-    (omega (arith, w.requires.1), omega (arith, w.used_elements-w.ensures.2), below w.before.before)
+    (omega (arith, w.requires.1), omega (arith, w.used_elements-w.ensures.2), omega (arith, c.used_elements-w.ensures.0, c.requires.2 c.in-Used.e c.in-Used.is))
 
 pub ours-requires : goal.ours-requires
 ours-requires c = tt

@@ -8,6 +8,6 @@ returns c =
     let a = c in
     let g = a.args.b in (
       c.count.ensures,
-      omega (arith, c.count.ensures, count_some g.layout-1 g.low g.width a.requires.part),
-      omega (arith, c.count.ensures, count_le g.layout-1 g.low g.width),
+      omega (arith, c.count.ensures, count_some g.layout g.low g.width a.requires.part),
+      omega (arith, c.count.ensures, count_le g.layout g.low g.width),
     )
