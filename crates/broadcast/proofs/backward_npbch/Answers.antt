@@ -12,16 +12,31 @@ use Rattle.broadcast.specs.Channels.{npbch_of}
 use Rattle.broadcast.proofs.Channels.{npbch_sent, fits, backward_refused, backward_outside, backward_not, backward_at}
 use Rattle.broadcast.proofs.Frames.{npbch_before}
 use Rattle.broadcast.proofs.backward_npbch.Goals.{Start}
+use Rattle.broadcast.proofs.backward_npbch.Lts as lts
+use Rattle.broadcast.proofs.backward_npbch.Reads as reads
 use Rattle.broadcast.proofs.backward_npbch.Tie as tie
 use Rattle.broadcast.proofs.backward_npbch.Goals as goal
 
-abbrev start : tie.After-is_inside → Start
+-- places of the code, as they are before what is known of a slice is added
+abbrev AfterIsInside : Type 0
+AfterIsInside = lts.After-is_inside tie.the-claims reads.Pre reads.Post
+
+abbrev ElseNotIsInside : Type 0
+ElseNotIsInside = lts.Else2 tie.the-claims reads.Pre reads.Post
+
+abbrev AfterNpbchBurstB : Type 0
+AfterNpbchBurstB = lts.After-npbch_burst tie.the-claims reads.Pre reads.Post
+
+abbrev ElseNotIsNpbch : Type 0
+ElseNotIsNpbch = lts.Else3 tie.the-claims reads.Pre reads.Post
+
+abbrev start : AfterIsInside → Start
 start c = c.before.before.before.before.before
 
-inside : (c : tie.Else-not-is_inside) → inside_grid (start c.before).args.slot (start c.before).args.l (start c.before).args.k ≡ true
+inside : (c : ElseNotIsInside) → inside_grid (start c.before).args.slot (start c.before).args.l (start c.before).args.k ≡ true
 inside c = sym c.is_inside.ensures ∙ c.if-not-is_inside.false
 
-fit : (c : tie.After-npbch_burst-b) → Fits c.npbch_burst-b.result
+fit : (c : AfterNpbchBurstB) → Fits c.npbch_burst-b.result
 fit c =
     let i = c in
     let r = i in
@@ -29,7 +44,7 @@ fit c =
     fits a.c _ _ (npbch_of a.c.config) (npbch_sent a.c.config) (sym r.refusal-no.ensures ∙ i.if-no-ne0.false) _ c.npbch_burst-b.ensures
 
 -- the subframe is the channel's
-is_own_lem : (c : tie.Else-not-is_npbch) → npbch ((start c.before.before.before).args.t % 640) ≡ true
+is_own_lem : (c : ElseNotIsNpbch) → npbch ((start c.before.before.before).args.t % 640) ≡ true
 is_own_lem c = sym c.is_npbch.ensures ∙ c.if-not-is_npbch.false
 
 pub refusal-no-requires : goal.refusal-no-requires

@@ -11,16 +11,31 @@ use Rattle.downlink.proofs.Joined.{inside_parts, use_below}
 use Rattle.broadcast.specs.Channels.{sib1_of}
 use Rattle.broadcast.proofs.Channels.{sib1_sent, fits, backward_refused, backward_outside, backward_not, backward_at}
 use Rattle.broadcast.proofs.backward_sib1.Goals.{Start}
+use Rattle.broadcast.proofs.backward_sib1.Lts as lts
+use Rattle.broadcast.proofs.backward_sib1.Reads as reads
 use Rattle.broadcast.proofs.backward_sib1.Tie as tie
 use Rattle.broadcast.proofs.backward_sib1.Goals as goal
 
-abbrev start : tie.After-is_inside → Start
+-- places of the code, as they are before what is known of a slice is added
+abbrev AfterIsInside : Type 0
+AfterIsInside = lts.After-is_inside tie.the-claims reads.Pre reads.Post
+
+abbrev ElseNotIsInside : Type 0
+ElseNotIsInside = lts.Else2 tie.the-claims reads.Pre reads.Post
+
+abbrev AfterSib1BurstB : Type 0
+AfterSib1BurstB = lts.After-sib1_burst tie.the-claims reads.Pre reads.Post
+
+abbrev ElseNotIsSib1 : Type 0
+ElseNotIsSib1 = lts.Else3 tie.the-claims reads.Pre reads.Post
+
+abbrev start : AfterIsInside → Start
 start c = c.before.before.before.before.before
 
-inside : (c : tie.Else-not-is_inside) → inside_grid (start c.before).args.slot (start c.before).args.l (start c.before).args.k ≡ true
+inside : (c : ElseNotIsInside) → inside_grid (start c.before).args.slot (start c.before).args.l (start c.before).args.k ≡ true
 inside c = sym c.is_inside.ensures ∙ c.if-not-is_inside.false
 
-fit : (c : tie.After-sib1_burst-b) → Fits c.sib1_burst-b.result
+fit : (c : AfterSib1BurstB) → Fits c.sib1_burst-b.result
 fit c =
     let i = c in
     let r = i in
@@ -28,7 +43,7 @@ fit c =
     fits a.c _ _ (sib1_of a.c.config) (sib1_sent a.c.config) (sym r.refusal-no.ensures ∙ i.if-no-ne0.false) _ c.sib1_burst-b.ensures
 
 -- the subframe is the channel's
-is_own_lem : (c : tie.Else-not-is_sib1) → (let a = (start c.before.before.before).args in sib1 a.c.config.identity a.c.config.sib1 (a.t % 2560)) ≡ true
+is_own_lem : (c : ElseNotIsSib1) → (let a = (start c.before.before.before).args in sib1 a.c.config.identity a.c.config.sib1 (a.t % 2560)) ≡ true
 is_own_lem c = sym c.is_sib1.ensures ∙ c.if-not-is_sib1.false
 
 pub refusal-no-requires : goal.refusal-no-requires

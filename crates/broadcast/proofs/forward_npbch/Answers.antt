@@ -10,21 +10,36 @@ use Rattle.sync.specs.Sync.{npbch}
 use Rattle.broadcast.specs.Channels.{npbch_of}
 use Rattle.broadcast.proofs.Channels.{npbch_sent, fits, forward_refused, forward_past, forward_at}
 use Rattle.broadcast.proofs.Frames.{npbch_at}
+use Rattle.broadcast.proofs.forward_npbch.Lts as lts
+use Rattle.broadcast.proofs.forward_npbch.Reads as reads
 use Rattle.broadcast.proofs.forward_npbch.Tie as tie
 use Rattle.broadcast.proofs.forward_npbch.Goals as goal
 
-fit : (c : tie.After-npbch_burst-b) → Fits c.npbch_burst-b.result
+-- places of the code, as they are before what is known of a slice is added
+abbrev AfterNpbchBurstB : Type 0
+AfterNpbchBurstB = lts.After-npbch_burst tie.the-claims reads.Pre reads.Post
+
+abbrev AfterSentSubframes : Type 0
+AfterSentSubframes = lts.After-sent_subframes tie.the-claims reads.Pre reads.Post
+
+abbrev ElsePTotal : Type 0
+ElsePTotal = lts.Else2 tie.the-claims reads.Pre reads.Post
+
+abbrev AfterQuotientI : Type 0
+AfterQuotientI = lts.After-quotient tie.the-claims reads.Pre reads.Post
+
+fit : (c : AfterNpbchBurstB) → Fits c.npbch_burst-b.result
 fit c =
     let r = c in
     let a = r.args in
     fits a.c _ _ (npbch_of a.c.config) (npbch_sent a.c.config) (sym r.refusal-no.ensures ∙ c.if-no-ne0.false) _ c.npbch_burst-b.ensures
 
-all : (c : tie.After-sent_subframes) → c.sent_subframes.result * c.used_elements-w.result ≡ places c.npbch_burst-b.result
+all : (c : AfterSentSubframes) → c.sent_subframes.result * c.used_elements-w.result ≡ places c.npbch_burst-b.result
 all c = ap₂ (λ (x y : ℕ). x * y) c.sent_subframes.ensures.0 c.used_elements-w.ensures.0
 
 -- how many places there are, and that the position is one of them
-module _ (c : tie.Else-p-total) where
-  abbrev b : tie.After-npbch_burst-b
+module _ (c : ElsePTotal) where
+  abbrev b : AfterNpbchBurstB
   b = c.before.before.before
 
   abbrev p : ℕ
@@ -51,7 +66,7 @@ module _ (c : tie.Else-p-total) where
   rest = rest_below npbch 640 b.npbch_burst-b.result p (fit b) w held c.used_elements-w.ensures.0
 
 -- unit and element of it
-module _ (c : tie.After-quotient-i) where
+module _ (c : AfterQuotientI) where
   split : p c.before % w c.before + c.quotient-i.result * w c.before ≡ p c.before
   split =
       ap (λ (i : ℕ). p c.before % w c.before + i * w c.before) c.quotient-i.ensures
@@ -113,7 +128,7 @@ overflow_sub-e c = omega (arith, split c.before)
 pub element_at-x-requires : goal.element_at-x-requires
 element_at-x-requires c =
     let f = fit (b c.before.before.before) in
-    (f.layout, f.part, omega (arith, element (c), rest c.before.before.before))
+    (f.layout, f.part, omega (arith, element c.before.before, rest c.before.before.before))
 
 pub carried_by-unit-requires : goal.carried_by-unit-requires
 carried_by-unit-requires c = fit (b c.before.before.before.before)

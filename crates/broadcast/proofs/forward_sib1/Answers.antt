@@ -11,24 +11,42 @@ use Rattle.sync.specs.Sync.{sib1_copies, sib1}
 use Rattle.broadcast.specs.Channels.{sib1_of}
 use Rattle.broadcast.proofs.Channels.{sib1_sent, fits, forward_refused, forward_past, forward_at}
 use Rattle.broadcast.proofs.Frames.{sib1_below, sib1_at}
+use Rattle.broadcast.proofs.forward_sib1.Lts as lts
+use Rattle.broadcast.proofs.forward_sib1.Reads as reads
 use Rattle.broadcast.proofs.forward_sib1.Tie as tie
 use Rattle.broadcast.proofs.forward_sib1.Goals as goal
 
-fit : (c : tie.After-sib1_burst-b) → Fits c.sib1_burst-b.result
+-- places of the code, as they are before what is known of a slice is added
+abbrev AfterSib1BurstB : Type 0
+AfterSib1BurstB = lts.After-sib1_burst tie.the-claims reads.Pre reads.Post
+
+abbrev AfterSentSubframes : Type 0
+AfterSentSubframes = lts.After-sent_subframes tie.the-claims reads.Pre reads.Post
+
+abbrev ElsePTotal : Type 0
+ElsePTotal = lts.Else2 tie.the-claims reads.Pre reads.Post
+
+abbrev AfterQuotientI : Type 0
+AfterQuotientI = lts.After-quotient tie.the-claims reads.Pre reads.Post
+
+abbrev AfterSib1FrameFrame : Type 0
+AfterSib1FrameFrame = lts.After-sib1_frame tie.the-claims reads.Pre reads.Post
+
+fit : (c : AfterSib1BurstB) → Fits c.sib1_burst-b.result
 fit c =
     let r = c in
     let a = r.args in
     fits a.c _ _ (sib1_of a.c.config) (sib1_sent a.c.config) (sym r.refusal-no.ensures ∙ c.if-no-ne0.false) _ c.sib1_burst-b.ensures
 
-all : (c : tie.After-sent_subframes) → c.sent_subframes.result * c.used_elements-w.result ≡ places c.sib1_burst-b.result
+all : (c : AfterSentSubframes) → c.sent_subframes.result * c.used_elements-w.result ≡ places c.sib1_burst-b.result
 all c = ap₂ (λ (x y : ℕ). x * y) c.sent_subframes.ensures.0 c.used_elements-w.ensures.0
 
-own : tie.After-sib1_burst-b → ℕ → Bool
+own : AfterSib1BurstB → ℕ → Bool
 own c = let a = c.args.c.config in sib1 a.identity a.sib1
 
 -- how many places there are, and that the position is one of them
-module _ (c : tie.Else-p-total) where
-  abbrev b : tie.After-sib1_burst-b
+module _ (c : ElsePTotal) where
+  abbrev b : AfterSib1BurstB
   b = c.before.before.before
 
   abbrev p : ℕ
@@ -55,7 +73,7 @@ module _ (c : tie.Else-p-total) where
   rest = rest_below (own b) 2560 b.sib1_burst-b.result p (fit b) w held c.used_elements-w.ensures.0
 
 -- unit and element of it
-module _ (c : tie.After-quotient-i) where
+module _ (c : AfterQuotientI) where
   split : p c.before % w c.before + c.quotient-i.result * w c.before ≡ p c.before
   split =
       ap (λ (i : ℕ). p c.before % w c.before + i * w c.before) c.quotient-i.ensures
@@ -67,7 +85,7 @@ module _ (c : tie.After-quotient-i) where
   below : c.quotient-i.result < sib1_copies (b c.before).before.before.before.before.before.args.c.config.sib1 * 8
   below = omega (arith, c.quotient-i.ensures, unit c.before, ap sent_subframes (b c.before).sib1_burst-b.ensures)
 
-in_period : (c : tie.After-sib1_frame-frame) → c.sib1_frame-frame.result < 256
+in_period : (c : AfterSib1FrameFrame) → c.sib1_frame-frame.result < 256
 in_period c =
     let a = (b c.before.before).args.c.config in
     omega (arith, c.sib1_frame-frame.ensures, sib1_below a.identity a.sib1 c.quotient-i.result (below c.before))

@@ -16,47 +16,59 @@ use Rattle.fill.proofs.Laid.{halves, length_laid, front_size, joined_size, back_
 use Rattle.fill.proofs.Rowwise.{few, slots_room}
 use Rattle.fill.proofs.Answering.{output_size, output_refused, output_filled, both_slots}
 use Rattle.fill.proofs.fill_lent.Goals.{Start}
+use Rattle.fill.proofs.fill_lent.Lts as lts
+use Rattle.fill.proofs.fill_lent.Reads as reads
 use Rattle.fill.proofs.fill_lent.Tie as tie
 use Rattle.fill.proofs.fill_lent.Goals as goal
 
+-- places of the code, as they are before what is known of a slice is added
+abbrev ElseCallNe0 : Type 0
+ElseCallNe0 = lts.Else1 tie.the-claims reads.Pre reads.Post
+
+abbrev AfterLayoutLayout : Type 0
+AfterLayoutLayout = lts.After-layout tie.the-claims reads.Pre reads.Post
+
+abbrev AfterWriteSlotNext : Type 0
+AfterWriteSlotNext = lts.After-write_slot tie.the-claims reads.Pre reads.Post
+
 -- ---- an accepted call: its output has the right size, and its symbols have their bits
 
-abbrev start : tie.Else-call-ne0 → Start
+abbrev start : ElseCallNe0 → Start
 start c = c.before.before.before.before.before.before.before.before
 
-abbrev given : tie.Else-call-ne0 → List Float
+abbrev given : ElseCallNe0 → List Float
 given c = (start c).args.out.now
 
-sized : (c : tie.Else-call-ne0) → length (given c) ≡ numbers
+sized : (c : ElseCallNe0) → length (given c) ≡ numbers
 sized c =
     let j = c in
     let a = (start c).args in
     output_size (lent_cell a.c a.si.now) a.anchor.now a.other.now a.g a.i a.bits.now a.level (given c) j.judged-call.result j.judged-call.ensures c.if-call-ne0.false
 
-prepared : (c : tie.After-layout-layout) → Prepared c.layout-layout.result c.judged-call.result.first (start c.before).args.bits.now
+prepared : (c : AfterLayoutLayout) → Prepared c.layout-layout.result c.judged-call.result.first (start c.before).args.bits.now
 prepared c =
     let j = c in
     subst (λ (g : Layout). Prepared g j.judged-call.result.first (start c.before).args.bits.now) (sym c.layout-layout.ensures)
     (j.judged-call.ensures.prepared c.if-call-ne0.false)
 
 -- both slots' symbols have their bits
-room : (c : tie.After-layout-layout) → let first = c.judged-call.result.first in
+room : (c : AfterLayoutLayout) → let first = c.judged-call.result.first in
     let u = used c.layout-layout.result 0 subcarriers in
     first + count u (0 * slot_elements) slot_elements + count u (1 * slot_elements) slot_elements ≤ 4 * length (start c.before).args.bits.now
 room c = slots_room c.layout-layout.result c.judged-call.result.first _ (prepared c).room
 
 -- ---- the front half written over
 
-abbrev accepted : tie.After-write_slot-next → tie.After-layout-layout
+abbrev accepted : AfterWriteSlotNext → AfterLayoutLayout
 accepted c = c.before.before.before
 
-abbrev half : tie.After-write_slot-next → List Float
+abbrev half : AfterWriteSlotNext → List Float
 half c = c.write_slot-next.new.0 ++ drop slot_numbers (given (accepted c).before)
 
-front : (c : tie.After-write_slot-next) → length c.write_slot-next.new.0 ≡ slot_numbers
+front : (c : AfterWriteSlotNext) → length c.write_slot-next.new.0 ≡ slot_numbers
 front c = ap length c.write_slot-next.ensures.1 ∙ length_laid _ slot_elements
 
-half_sized : (c : tie.After-write_slot-next) → length (half c) ≡ numbers
+half_sized : (c : AfterWriteSlotNext) → length (half c) ≡ numbers
 half_sized c = joined_size slot_numbers c.write_slot-next.new.0 (given (accepted c).before) (front c) (sized (accepted c).before)
 
 -- ---- the answers

@@ -18,10 +18,19 @@ use Rattle.fill.specs.Fill.{laid}
 use Rattle.fill.specs.Quick.{written_in_row}
 use Rattle.fill.proofs.Laid.{laid_none, laid_more}
 use Rattle.fill.proofs.write_row.Goals.{Start}
+use Rattle.fill.proofs.write_row.Lts as lts
+use Rattle.fill.proofs.write_row.Reads as reads
 use Rattle.fill.proofs.write_row.Tie as tie
 use Rattle.fill.proofs.write_row.Goals as goal
 
-abbrev start : tie.At-loop-k goal.the-invariant-loop-k goal.the-decreases-loop-k → Start
+-- places of the code, as they are before what is known of a slice is added
+abbrev AtLoopK : Type 0
+AtLoopK = lts.At-loop tie.the-claims reads.Pre reads.Post goal.the-invariant-loop-k goal.the-decreases-loop-k
+
+abbrev AfterHasOurs : Type 0
+AfterHasOurs = lts.After-has tie.the-claims reads.Pre reads.Post goal.the-invariant-loop-k goal.the-decreases-loop-k
+
+abbrev start : AtLoopK → Start
 start c = c.before.before.before
 
 pub loop-k-init : goal.loop-k-init
@@ -34,13 +43,13 @@ loop-k-init c =
           ∙ ap (λ (x : List Float). take (2 * a.start) a.out-1.now ++ x) (laid_none _),
     )
 
-inside : (c : tie.After-has-ours goal.the-invariant-loop-k goal.the-decreases-loop-k) → 2 * ((start c.before.before).args.start + c.loop-k.k) + 1 < length c.loop-k.out
+inside : (c : AfterHasOurs) → 2 * ((start c.before.before).args.start + c.loop-k.k) + 1 < length c.loop-k.out
 inside c =
     let l = c in
     omega (arith, c.loop-k-test.true, l.loop-k.invariant.1, (start l.before.before).requires.0, (start l.before.before).requires.1)
 
 -- the symbol after element k
-next : (c : tie.After-has-ours goal.the-invariant-loop-k goal.the-decreases-loop-k) → let l = c.before.before in l.loop-k.n + bool_byte c.has-ours.result ≡ (start l).args.c + rank (has_in (start l).args.row) (l.loop-k.k + 1)
+next : (c : AfterHasOurs) → let l = c.before.before in l.loop-k.n + bool_byte c.has-ours.result ≡ (start l).args.c + rank (has_in (start l).args.row) (l.loop-k.k + 1)
 next c =
     let l = c in
     omega (arith, l.loop-k.invariant.2, ap bool_byte c.has-ours.ensures, rank_on (has_in (start l.before.before).args.row) l.loop-k.k)

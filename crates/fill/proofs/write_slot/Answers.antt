@@ -13,10 +13,16 @@ use Rattle.fill.specs.Quick.{written_in, written_in_row}
 use Rattle.fill.proofs.Laid.{laid_none, laid_all}
 use Rattle.fill.proofs.Rowwise.{none_yet, few, row_next, row_room, row_laid}
 use Rattle.fill.proofs.write_slot.Goals.{Start}
+use Rattle.fill.proofs.write_slot.Lts as lts
+use Rattle.fill.proofs.write_slot.Reads as reads
 use Rattle.fill.proofs.write_slot.Tie as tie
 use Rattle.fill.proofs.write_slot.Goals as goal
 
-abbrev start : tie.At-loop-l goal.the-invariant-loop-l goal.the-decreases-loop-l → Start
+-- places of the code, as they are before what is known of a slice is added
+abbrev AtLoopL : Type 0
+AtLoopL = lts.At-loop tie.the-claims reads.Pre reads.Post goal.the-invariant-loop-l goal.the-decreases-loop-l
+
+abbrev start : AtLoopL → Start
 start c = c.before.before.before
 
 pub loop-l-init : goal.loop-l-init

@@ -14,18 +14,30 @@ use Rattle.downlink.specs.Mapping.{places, sending_of}
 use Rattle.downlink.specs.Answers.{refused_place, place_of}
 use Rattle.downlink.proofs.Joined.{places_small, sent_small, forward_is, unit_below, rest_below}
 use Rattle.plain_downlink.proofs.burst_forward.Goals.{Start}
+use Rattle.plain_downlink.proofs.burst_forward.Lts as lts
+use Rattle.plain_downlink.proofs.burst_forward.Reads as reads
 use Rattle.plain_downlink.proofs.burst_forward.Tie as tie
 use Rattle.plain_downlink.proofs.burst_forward.Goals as goal
+
+-- places of the code, as they are before what is known of a slice is added
+abbrev AfterSentSubframes : Type 0
+AfterSentSubframes = lts.After-sent_subframes tie.the-claims reads.Pre reads.Post
+
+abbrev ElsePositionTotal : Type 0
+ElsePositionTotal = lts.Else1 tie.the-claims reads.Pre reads.Post
+
+abbrev AfterCountUsedW : Type 0
+AfterCountUsedW = lts.After-count_used tie.the-claims reads.Pre reads.Post
 
 abbrev u : Start → ℕ → Bool
 u s = left_in s.args.p s.args.laid (messages_in s.args.si.now)
 
-all : (c : tie.After-sent_subframes) → c.sent_subframes.result * c.count_used-w.result ≡ places c.args.b
+all : (c : AfterSentSubframes) → c.sent_subframes.result * c.count_used-w.result ≡ places c.args.b
 all c = ap₂ (λ (x y : ℕ). x * y) c.sent_subframes.ensures.0 c.count_used-w.ensures.0
 
 -- the position is one of the places: its subframe is sent, and its element is used
-module _ (c : tie.Else-position-total) where
-  abbrev w : tie.After-count_used-w
+module _ (c : ElsePositionTotal) where
+  abbrev w : AfterCountUsedW
   w = c.before.before
 
   abbrev s : Start

@@ -13,8 +13,17 @@ use Rattle.subframes.specs.Subframes.{messages_in}
 use Rattle.subframes.specs.Scaffold.{left_in}
 use Rattle.subframes.proofs.Left.{left_again}
 use Rattle.plain_downlink.proofs.usable_at.Goals.{Start}
+use Rattle.plain_downlink.proofs.usable_at.Lts as lts
+use Rattle.plain_downlink.proofs.usable_at.Reads as reads
 use Rattle.plain_downlink.proofs.usable_at.Tie as tie
 use Rattle.plain_downlink.proofs.usable_at.Goals as goal
+
+-- places of the code, as they are before what is known of a slice is added
+abbrev ElseAheadD : Type 0
+ElseAheadD = lts.Else1 tie.the-claims reads.Pre reads.Post goal.the-invariant-loop-ahead goal.the-decreases-loop-ahead
+
+abbrev AtLoopAhead : Type 0
+AtLoopAhead = lts.At-loop tie.the-claims reads.Pre reads.Post goal.the-invariant-loop-ahead goal.the-decreases-loop-ahead
 
 -- what is searched repeats, and has some
 module _ (s : Start) where
@@ -25,8 +34,8 @@ module _ (s : Start) where
   again = left_again s.args.p s.args.laid (messages_in s.args.si.now) s.requires.0.on
 
 -- past the test: the one looked for lies beyond
-module _ (c : tie.Else-ahead-d goal.the-invariant-loop-ahead goal.the-decreases-loop-ahead) where
-  abbrev l : tie.At-loop-ahead goal.the-invariant-loop-ahead goal.the-decreases-loop-ahead
+module _ (c : ElseAheadD) where
+  abbrev l : AtLoopAhead
   l = c.before.before
 
   abbrev a : Start

@@ -13,12 +13,8 @@ use Rattle.messages.proofs.Repeating.{remaining_again}
 use Rattle.subframes.proofs.Left.{allows_again}
 use Rattle.search_space.proofs.Listing.{set_more}
 use Rattle.search_space.proofs.blocks_beside.Goals.{After-block-ends, Start}
+use Rattle.search_space.proofs.blocks_beside.Invariants.{Stands}
 use Rattle.search_space.proofs.blocks_beside.Goals as goal
-
--- the search is at block i: what follows `skip` after `from` is what follows i blocks after the start
-abbrev Stands : (ℕ → Bool) → ℕ → ℕ → ℕ → ℕ → ℕ → Type 0
-Stands u start size i from skip = (k : ℕ) → select u all_periods from (skip + k) ≡ select u all_periods start (i * size + k)
-
 
 
 -- one block on

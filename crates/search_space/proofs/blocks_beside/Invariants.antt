@@ -14,6 +14,10 @@ use Rattle.subframes.proofs.Left.{allows_again}
 use Rattle.search_space.proofs.Listing.{set_more}
 use Rattle.search_space.proofs.blocks_beside.Given as goal
 
+-- the search is at block i: what follows `skip` after `from` is what follows i blocks after the start
+abbrev pub Stands : (ℕ → Bool) → ℕ → ℕ → ℕ → ℕ → ℕ → Type 0
+Stands u start size i from skip = (k : ℕ) → select u all_periods from (skip + k) ≡ select u all_periods start (i * size + k)
+
 abbrev pub invariant-loop-i : goal.invariant-loop-i
 invariant-loop-i l =
     (l.i ≤ l.many) × (length l.first ≡ 8) × (length l.last ≡ 8)

@@ -4,11 +4,17 @@ use Rattle.elements.specs.declared.Layout.{Layout}
 use Rattle.transmitted.specs.Quick.{Prepared}
 use Rattle.transmitted.proofs.Going.{goes_within}
 use Rattle.transmitted.proofs.Answering.{element_inside, element_refused, element_answered}
+use Rattle.transmitted.proofs.element_lent.Lts as lts
+use Rattle.transmitted.proofs.element_lent.Reads as reads
 use Rattle.transmitted.proofs.element_lent.Tie as tie
 use Rattle.transmitted.proofs.element_lent.Goals as goal
 
+-- places of the code, as they are before what is known of a slice is added
+abbrev AfterLayout : Type 0
+AfterLayout = lts.After-layout tie.the-claims reads.Pre reads.Post
+
 -- what an accepted call has
-prepared : (c : tie.After-layout) → let j = c.before.before.before in
+prepared : (c : AfterLayout) → let j = c.before.before.before in
     Prepared c.layout.result j.judged-call.result.first j.args.bits.now
 prepared c =
     let j = c in

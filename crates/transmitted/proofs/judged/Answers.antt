@@ -10,23 +10,32 @@ use Rattle.npdsch.specs.Questions.{burst_of}
 use Rattle.npdsch.proofs.Accepting.{question}
 use Rattle.transmitted.proofs.Calling.{refused_early, refused_late, accepted}
 use Rattle.transmitted.proofs.judged.Goals.{Start}
+use Rattle.transmitted.proofs.judged.Lts as lts
+use Rattle.transmitted.proofs.judged.Reads as reads
 use Rattle.transmitted.proofs.judged.Tie as tie
 use Rattle.transmitted.proofs.judged.Goals as goal
 
-abbrev args : tie.After-ready-q → Start
+-- places of the code, as they are before what is known of a slice is added
+abbrev AfterReadyQ : Type 0
+AfterReadyQ = lts.After-ready tie.the-claims reads.Pre reads.Post
+
+abbrev ElseQNe0 : Type 0
+ElseQNe0 = lts.Else1 tie.the-claims reads.Pre reads.Post
+
+abbrev args : AfterReadyQ → Start
 args q = q.before.before.before.before.before.before
 
 -- the cell
-abbrev cell : tie.After-ready-q → Cell
+abbrev cell : AfterReadyQ → Cell
 cell q = lent_cell (args q).args.c (args q).args.si.now
 
 -- the question judged
-asked : (q : tie.After-ready-q) → ReadyFor (cell q) (bitmap_in (args q).args.c (own_buffer (args q).args.c (args q).args.anchor.now (args q).args.other.now))
+asked : (q : AfterReadyQ) → ReadyFor (cell q) (bitmap_in (args q).args.c (own_buffer (args q).args.c (args q).args.anchor.now (args q).args.other.now))
     (refusal_of (cell q) (args q).args.anchor.now (args q).args.other.now (args q).args.g) (burst_of (args q).args.c (args q).args.g)
     q.ready-q.result q.judged_lent-v.result.pattern q.judged_lent-v.result.laid
 asked q = question _ _ _ _ q.judged_lent-v.result q.judged_lent-v.ensures q.ready-q.result q.ready-q.ensures
 
-fits : (c : tie.Else-q-ne0) → Fits c.ready-q.result.burst
+fits : (c : ElseQNe0) → Fits c.ready-q.result.burst
 fits c = (asked c.before.before).answerable.fits c.if-q-ne0.false
 
 pub returns-then-q-ne0 : goal.returns-then-q-ne0
