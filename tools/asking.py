@@ -11,8 +11,8 @@ import sys
 from pathlib import Path
 
 ROOT = Path(__file__).resolve().parent.parent
-QUERY = ROOT / "target/bin/query"
-BUILD = "rt check query"
+QUERY = ROOT / "crates/query/out/query"
+BUILD = "(cd crates/query && rt run </dev/null)"
 DOWNLINK = ("down", "control", "npbch", "sib1")
 CHANNELS = {
     "up": "NPUSCH", "ack": "Acknowledgement", "down": "NPDSCH", "control": "NPDCCH", "npbch": "NPBCH", "sib1": "SIB1",
