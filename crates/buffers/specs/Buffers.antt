@@ -1,5 +1,6 @@
 -- Cells, grants and answers as buffers of numbers, in the order of include/nbiot_numbers.h, and what a call replies.
-use Rattle.std.specs.Prelude.{Bool, cond, ◌&&◌, List, [], ◌∷◌, ◌++◌, ℕ, zero, suc, ◌+◌, ltb, Float, length, get_or, drop}
+use Rattle.std.specs.Prelude.{Bool, cond, ◌&&◌, List, [], ◌∷◌, ◌++◌, length, get_or, drop}
+use Rattle.std.specs.Prelude.{ℕ, zero, suc, ◌+◌, ltb, Float}
 use Rattle.subframes.specs.Subframes.{messages_in}
 use Rattle.cell.specs.declared.CellConfig.{CellConfig}
 use Rattle.cell.specs.declared.Cell.{Cell}
@@ -92,10 +93,12 @@ npdsch_at s i = record {
 }
 
 abbrev pub npdcch_at : List ℕ → ℕ → NpdcchGrant
-npdcch_at s i = record { n = get_or s i 0; r = get_or s (i + 1) 0; format = get_or s (i + 2) 0; ncce = get_or s (i + 3) 0 }
+npdcch_at s i =
+    record { n = get_or s i 0; r = get_or s (i + 1) 0; format = get_or s (i + 2) 0; ncce = get_or s (i + 3) 0 }
 
 abbrev pub search_space_at : List ℕ → ℕ → SearchSpace
-search_space_at s i = record { n = get_or s i 0; rmax = get_or s (i + 1) 0; g = get_or s (i + 2) 0; alpha = get_or s (i + 3) 0 }
+search_space_at s i =
+    record { n = get_or s i 0; rmax = get_or s (i + 1) 0; g = get_or s (i + 2) 0; alpha = get_or s (i + 3) 0 }
 
 -- a walk's record: the position, the eight numbers of a downlink grant's cell, the grant, and the cell's messages. An
 -- uplink walk has a cell of zeros, which is not looked at.
@@ -146,7 +149,8 @@ cause_numbers a = a.no ∷ cause_number a.cause ∷ []
 abbrev pub candidate_numbers : List Candidate → ℕ → ℕ → List ℕ
 candidate_numbers list k zero = []
 candidate_numbers list k (suc n) =
-    (get_or list k blank).first ∷ (get_or list k blank).r ∷ (get_or list k blank).last ∷ candidate_numbers list (suc k) n
+    (get_or list k blank).first ∷ (get_or list k blank).r ∷ (get_or list k blank).last
+    ∷ candidate_numbers list (suc k) n
 
 abbrev pub search_numbers : SearchAnswer → List ℕ
 search_numbers a = a.no ∷ a.start ∷ a.count ∷ candidate_numbers a.list 0 room

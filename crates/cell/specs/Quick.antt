@@ -79,7 +79,8 @@ cause_on c own t =
 -- E after the cell's refusal number
 unfoldable pub count_after : ℕ → CellConfig → ElementCount
 count_after refusal c =
-    cond (eqb refusal 0) (record { no = 0; e = rank (eligible (layout_of c)) elements }) (record { no = refusal; e = 0 })
+    cond (eqb refusal 0) (record { no = 0; e = rank (eligible (layout_of c)) elements })
+    (record { no = refusal; e = 0 })
 
 -- what acceptance says of the numbers
 pub record WellFormed (c : CellConfig) : Type 0 where

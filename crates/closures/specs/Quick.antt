@@ -1,5 +1,6 @@
 -- For the code alone. What the quick code works out on the way.
-use Rattle.std.specs.Prelude.{Bool, true, false, cond, ◌≡◌, ℕ, ◌+◌, ◌-◌, ◌*◌, ◌/◌, ◌%◌, min, max, ◌^◌, ◌<◌, ◌≤◌, eqb, leb}
+use Rattle.std.specs.Prelude.{Bool, true, false, cond, ◌≡◌}
+use Rattle.std.specs.Prelude.{ℕ, ◌+◌, ◌-◌, ◌*◌, ◌/◌, ◌%◌, ◌^◌, min, max, ◌<◌, ◌≤◌, eqb, leb}
 use Rattle.counting.specs.Counting.{rank}
 use Rattle.counting.specs.Scaffold.{Nth}
 use Rattle.closures.specs.declared.Closure.{Closure}

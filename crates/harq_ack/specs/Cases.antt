@@ -40,7 +40,8 @@ pub record AckCases : Type 0 where
   pub narrow_field : (plan_of (narrow 100 15) none ≡ one_copy 61 64) × (tone_of_first (narrow 100 15) ≡ 45)
   -- the last n at 15 kHz: slot numbers past 2^32
   pub latest : (copies : ℕ) → copies ≤ 7
-      → (plan_of (record { n = last_npdsch_subframe; spacing = 1; field = 15; copies = copies }) none).first ≡ 2 ^ 32 + 34
+      → (plan_of (record { n = last_npdsch_subframe; spacing = 1; field = 15; copies = copies }) none).first
+      ≡ 2 ^ 32 + 34
   -- 128 copies are 512 slots: three gaps of 20 slots at 3.75 kHz, none at 15 kHz
   pub narrow_gaps : (g : HarqAckGrant) → g.n ≤ last_npdsch_subframe → g.field ≤ 15 → g.spacing ≡ 0 → g.copies ≡ 7
       → (plan_of g none).last ≡ (plan_of g none).first + 571

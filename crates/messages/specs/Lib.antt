@@ -1,5 +1,5 @@
--- Interface: `at`, `only`, `listed`, `MessageCases`, `AllLaid`, `are_listed`, `no_messages`, `all_periods`, `remaining`,
--- `is_message`.
+-- Interface: `at`, `only`, `listed`, `MessageCases`, `AllLaid`, `are_listed`, `no_messages`, `all_periods`,
+-- `remaining`, `is_message`.
 pub mod Messages
 pub mod Meaning
 pub mod Quick

@@ -1,6 +1,7 @@
 -- System information messages: 02 L5; TS 36.331 clause 5.2.3a. u is any test of a subframe: what is free before
 -- messages are laid.
-use Rattle.std.specs.Prelude.{Bool, cond, not, ◌&&◌, ◌||◌, List, [], ◌∷◌, ℕ, zero, suc, ◌+◌, ◌-◌, ◌*◌, ◌/◌, ◌%◌, eqb, leb, ltb}
+use Rattle.std.specs.Prelude.{Bool, cond, not, ◌&&◌, ◌||◌, List, [], ◌∷◌}
+use Rattle.std.specs.Prelude.{ℕ, zero, suc, ◌+◌, ◌-◌, ◌*◌, ◌/◌, ◌%◌, eqb, leb, ltb}
 use mir.Val.{bool_byte}
 use Rattle.counting.specs.Listed.{is_one_of}
 use Rattle.messages.specs.declared.Schedule.{Schedule}

@@ -16,9 +16,11 @@ use Rattle.symbol.specs.Outgoing.{numbers_of}
 use Rattle.fill.specs.Refusals.{fill_refusal}
 use Rattle.fill.specs.Fill.{output_of}
 use Rattle.transmitted.specs.Element.{element_answer}
-use Rattle.buffers.specs.Buffers.{config_at, cell_in, windows_of, npusch_at, harq_ack_at, npdsch_at, npdcch_at, search_space_at}
+use Rattle.buffers.specs.Buffers.{config_at, cell_in, windows_of, npusch_at, harq_ack_at, npdsch_at, npdcch_at}
+use Rattle.buffers.specs.Buffers.{search_space_at}
 use Rattle.buffers.specs.Buffers.{npusch_walk, harq_ack_walk, npdsch_walk, npdcch_walk}
-use Rattle.buffers.specs.Buffers.{uplink_plan_numbers, downlink_plan_numbers, uplink_place_numbers, downlink_place_numbers}
+use Rattle.buffers.specs.Buffers.{uplink_plan_numbers, downlink_plan_numbers}
+use Rattle.buffers.specs.Buffers.{uplink_place_numbers, downlink_place_numbers}
 use Rattle.buffers.specs.Buffers.{back_numbers, downlink_back_numbers, search_numbers}
 use Rattle.buffers.specs.Buffers.{cause_numbers, count_numbers, lacks, windows_short, too_short, put, put_stepped}
 use Rattle.buffers.specs.Buffers.{put_element}
@@ -44,7 +46,8 @@ bitmap_numbers c anchor other =
 
 unfoldable pub bitmap : List ℕ → List ℕ → List ℕ → List ℕ → Reply
 bitmap cell anchor other answer =
-    cond (lacks 8 cell || lacks 3 answer) (too_short, answer) (put (bitmap_numbers (cell_in cell 0 8) anchor other) answer)
+    cond (lacks 8 cell || lacks 3 answer) (too_short, answer)
+    (put (bitmap_numbers (cell_in cell 0 8) anchor other) answer)
 
 unfoldable pub cause : List ℕ → List ℕ → List ℕ → ℕ → List ℕ → Reply
 cause cell anchor other t answer =
@@ -115,7 +118,8 @@ forward_down cell anchor other grant p answer =
 unfoldable pub backward_down : List ℕ → List ℕ → List ℕ → List ℕ → ℕ → ℕ → ℕ → ℕ → List ℕ → Reply
 backward_down cell anchor other grant t slot l k answer =
     cond (lacks 8 cell || (lacks 5 grant || lacks 6 answer)) (too_short, answer)
-    (put (downlink_back_numbers (down.backward_of (cell_in cell 0 8) anchor other (npdsch_at grant 0) t slot l k)) answer)
+    (put (downlink_back_numbers (down.backward_of (cell_in cell 0 8) anchor other (npdsch_at grant 0) t slot l k))
+    answer)
 
 unfoldable pub step_down : List ℕ → List ℕ → List ℕ → List ℕ → StepReply
 step_down walk anchor other answer =
@@ -137,7 +141,8 @@ forward_control cell anchor other grant p answer =
 unfoldable pub backward_control : List ℕ → List ℕ → List ℕ → List ℕ → ℕ → ℕ → ℕ → ℕ → List ℕ → Reply
 backward_control cell anchor other grant t slot l k answer =
     cond (lacks 8 cell || (lacks 4 grant || lacks 6 answer)) (too_short, answer)
-    (put (downlink_back_numbers (control.backward_of (cell_in cell 0 8) anchor other (npdcch_at grant 0) t slot l k)) answer)
+    (put (downlink_back_numbers (control.backward_of (cell_in cell 0 8) anchor other (npdcch_at grant 0) t slot l k))
+    answer)
 
 unfoldable pub step_control : List ℕ → List ℕ → List ℕ → List ℕ → StepReply
 step_control walk anchor other answer =

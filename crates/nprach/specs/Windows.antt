@@ -98,7 +98,8 @@ windows_refusal ms a n ws =
 
 -- group u overlaps none of them in time and tone, so it is open to the grant
 abbrev pub open_to : ℕ → ℕ → ℕ → Windows → ℕ → Bool
-open_to spacing tone tones ws = is_clear (group_ms spacing) (narrow_tones spacing * tone) (narrow_tones spacing * tones) ws
+open_to spacing tone tones ws =
+    is_clear (group_ms spacing) (narrow_tones spacing * tone) (narrow_tones spacing * tones) ws
 
 abbrev pub refusal_on : ℕ → ℕ → ℕ → Windows → ℕ
 refusal_on spacing tone tones =

@@ -25,7 +25,8 @@ up_to (suc n) = up_to n ++ (n ∷ [])
 
 -- the codeword slots that the first n transmitted slots carry, read off their first places
 abbrev pub carried_slots : NpuschGrant → ℕ → List ℕ
-carried_slots g n = map (λ i. (forward_of g none (i * slot_data (shape_of g))).symbol / slot_data (shape_of g)) (up_to n)
+carried_slots g n =
+    map (λ i. (forward_of g none (i * slot_data (shape_of g))).symbol / slot_data (shape_of g)) (up_to n)
 
 -- the first half of P5
 abbrev pub first_pass : List ℕ
@@ -41,7 +42,8 @@ last_tone n mcs = record { n = n; spacing = 0; subcarrier = 47; units = 0; copie
 
 -- P5: three tones at 15 kHz, one resource unit in 4 copies
 abbrev pub three_tones : ℕ → ℕ → ℕ → NpuschGrant
-three_tones n delay mcs = record { n = n; spacing = 1; subcarrier = 12; units = 0; copies = 2; delay = delay; mcs = mcs }
+three_tones n delay mcs =
+    record { n = n; spacing = 1; subcarrier = 12; units = 0; copies = 2; delay = delay; mcs = mcs }
 
 -- P4 and P6 leave most fields free: they are in range
 pub record FreeInRange (g : NpuschGrant) : Type 0 where
@@ -89,7 +91,8 @@ one_tone tone = record { n = 100; spacing = 0; subcarrier = tone; units = 0; cop
 
 -- at 15 kHz, one copy of one resource unit
 abbrev pub one_copy : ℕ → ℕ → NpuschGrant
-one_copy n subcarrier = record { n = n; spacing = 1; subcarrier = subcarrier; units = 0; copies = 0; delay = 0; mcs = 0 }
+one_copy n subcarrier =
+    record { n = n; spacing = 1; subcarrier = subcarrier; units = 0; copies = 0; delay = 0; mcs = 0 }
 
 pub record WindowCases : Type 0 where
   -- 5.6 ms of each 40: 3 of 20 groups are closed at 3.75 kHz, and the 256 ms go on meanwhile

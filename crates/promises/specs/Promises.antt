@@ -145,7 +145,8 @@ pub record Promises : Type 0 where
       → p < (npusch.plan_of g ws).places
       → KeepsClear g.spacing (first_tone g.spacing g.subcarrier) (grant_tones g) ws
       (npusch.forward_of g ws p).slot
-  pub ack_clear : (g : HarqAckGrant) (ws : Windows) → (ack.plan_of g ws).no ≡ 0 → (p : ℕ) → p < (ack.plan_of g ws).places
+  pub ack_clear : (g : HarqAckGrant) (ws : Windows) → (ack.plan_of g ws).no ≡ 0
+      → (p : ℕ) → p < (ack.plan_of g ws).places
       → KeepsClear g.spacing (tone_of g.spacing g.field) 1 ws (ack.forward_of g ws p).slot
   -- the test of a group that the answers read is such a meeting, for every window that is listed
   pub meeting : (ms : ℕ) (w : Window) (u : ℕ) → is_listed w ≡ true → (overlaps ms w u ≡ true) ↔ Meeting ms w u

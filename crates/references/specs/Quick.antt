@@ -18,7 +18,8 @@ taken_at_1 cports = cond (ltb cports 4) 0 2
 abbrev pub closed_count : ℕ → ℕ → ℕ → ℕ
 closed_count nports cports control =
     84 - 6 * control
-    - (4 * nports + (4 - bool_byte (leb 1 control)) * taken_at_0 cports + (2 - bool_byte (leb 2 control)) * taken_at_1 cports)
+    - (4 * nports + (4 - bool_byte (leb 1 control)) * taken_at_0 cports
+    + (2 - bool_byte (leb 2 control)) * taken_at_1 cports)
 
 -- ---- the references of a symbol, so many of six
 

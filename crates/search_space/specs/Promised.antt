@@ -33,8 +33,10 @@ Before a b = (a.first < b.first) ⊎ ((a.first ≡ b.first) × (a.r < b.r))
 -- the list starts with all candidates, each once and nothing else; at j is the j-th usable subframe from the start on
 pub record ListsAll (at : ℕ → ℕ) (rmax count : ℕ) (list : List Candidate) : Type 0 where
   pub size : length list ≡ room
-  pub each : (x : Label) → is_candidate rmax x ≡ true → (k : ℕ) × (k < count) × (get_or list k blank ≡ candidate_at at x)
-  pub only : (k : ℕ) → k < count → (x : Label) × (is_candidate rmax x ≡ true) × (get_or list k blank ≡ candidate_at at x)
+  pub each : (x : Label) → is_candidate rmax x ≡ true
+      → (k : ℕ) × (k < count) × (get_or list k blank ≡ candidate_at at x)
+  pub only : (k : ℕ) → k < count
+      → (x : Label) × (is_candidate rmax x ≡ true) × (get_or list k blank ≡ candidate_at at x)
   pub sorted : (i k : ℕ) → i < k → k < count → Before (get_or list i blank) (get_or list k blank)
   pub once : (i k : ℕ) → i < count → k < count → get_or list i blank ≡ get_or list k blank → i ≡ k
   pub zeros : (k : ℕ) → count ≤ k → get_or list k blank ≡ blank

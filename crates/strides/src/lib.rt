@@ -227,7 +227,8 @@ fn alone(table: Timetable, p: Pattern, l: Lane) -> u64
 // What is kept, and with it what a window of this entry leaves.
 fn keep(table: Timetable, p: Pattern, kept: Kept, whose: Whose) -> Kept
     requires { Sized table × Allowing p × Keeps table (allows p) kept }
-    ensures { Keeps table (allows p) result × (kept_of result whose ≡ alone_of table (allows p) (lane_at table whose) + 1) }
+    ensures { Keeps table (allows p) result
+        × (kept_of result whose ≡ alone_of table (allows p) (lane_at table whose) + 1) }
 {
     if kept_of(kept, whose) == 0 {
         return kept_with(kept, whose, alone(table, p, lane_at(table, whose)) + 1);

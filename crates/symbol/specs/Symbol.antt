@@ -22,4 +22,5 @@ symbol_of bits level c =
 
 -- from 2^-20 to 2^20; a comparison with a NaN is false
 unfoldable pub level_in_range : Float → Bool
-level_in_range level = Ieee.le (Ieee.of_bits binary32 0x35800000) level && Ieee.le level (Ieee.of_bits binary32 0x49800000)
+level_in_range level =
+    Ieee.le (Ieee.of_bits binary32 0x35800000) level && Ieee.le level (Ieee.of_bits binary32 0x49800000)

@@ -17,7 +17,8 @@ use Rattle.transmitted.specs.Refusals.{call_refusal}
 -- what goes out at element x of a subframe whose first symbol is `first`
 unfoldable pub goes_in : Layout → ℕ → ℕ → Outgoing
 goes_in g first x =
-    cond (used g 0 subcarriers x) (Ours (first + number_of g 0 subcarriers x)) (goes_out (Content.not_ours (kind_of g x)))
+    cond (used g 0 subcarriers x) (Ours (first + number_of g 0 subcarriers x))
+    (goes_out (Content.not_ours (kind_of g x)))
 
 -- the symbols of the subframe have their bits
 pub record Prepared (g : Layout) (first : ℕ) (bits : List ℕ) : Type 0 where

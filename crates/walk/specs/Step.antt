@@ -51,7 +51,8 @@ unfoldable pub asked : Cell → List ℕ → List ℕ → Grant → Asked
 asked c anchor other (Npusch g ws) = uplink_asked (up.plan_of g ws) (up.forward_of g ws)
 asked c anchor other (HarqAck g ws) = uplink_asked (ack.plan_of g ws) (ack.forward_of g ws)
 asked c anchor other (Npdsch g) = downlink_asked (down.plan_of c anchor other g) (down.forward_of c anchor other g)
-asked c anchor other (Npdcch g) = downlink_asked (control.plan_of c anchor other g) (control.forward_of c anchor other g)
+asked c anchor other (Npdcch g) =
+    downlink_asked (control.plan_of c anchor other g) (control.forward_of c anchor other g)
 
 abbrev pub asked_of : Walk → List ℕ → List ℕ → Asked
 asked_of w anchor other = asked w.cell anchor other w.grant
