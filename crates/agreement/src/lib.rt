@@ -1,6 +1,7 @@
 // That both engines answer alike. Each function asks the quick engine and the plain one the same, compares every number
 // of the two answers, and is proved to answer true on any input.
 #![tactic(auto)]
+
 ghost use Rattle.std.specs.Prelude.{true, ◌≡◌};
 ghost use Rattle.agreement.specs.Telling.{Tells};
 

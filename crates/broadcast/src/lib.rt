@@ -1,5 +1,6 @@
 // NPBCH and SIB1, which the anchor broadcasts by itself: forward and backward within a period.
 #![tactic(auto)]
+
 ghost use Rattle.std.specs.Prelude.{◌≡◌, true, cond, ◌*◌, ◌^◌, ◌<◌, ◌≤◌, ltb};
 ghost use Rattle.counting.specs.Counting.{rank};
 ghost use Rattle.sync.specs.Sync.{sib1_copies, sib1};

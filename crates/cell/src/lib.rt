@@ -2,6 +2,7 @@
 // What ends in `_lent` has the cell's eight numbers and, as lent numbers `si`, its messages: these are read where they
 // are needed, and a cell without any pays nothing for them. The questions on a `Cell` lend its messages to these.
 #![tactic(auto)]
+
 ghost use Rattle.std.specs.Prelude.{◌≡◌, true, cond, ◌&&◌, ◌||◌, eqb, leb};
 ghost use Rattle.std.specs.Int.Bits.{bit_and};
 ghost use Rattle.spans.specs.Pattern.{Regular};

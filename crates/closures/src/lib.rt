@@ -2,6 +2,7 @@
 // found without a search, closure over closure; beside a fifth, whose period fits none of theirs, the search goes by
 // its periods, whole cycles by division.
 #![tactic(auto)]
+
 ghost use Rattle.std.specs.Prelude.{true, ◌≡◌, ℕ, ◌+◌, ◌-◌, ◌*◌, ◌/◌, ◌%◌, min, max, ◌^◌, ◌<◌, ◌≤◌};
 ghost use Rattle.counting.specs.Counting.{rank, select};
 ghost use Rattle.closures.specs.Closures.{leaves_open, clear, is_free, idle, no_closures};

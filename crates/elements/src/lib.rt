@@ -1,5 +1,6 @@
 // Which elements of a downlink subframe carry data, counted row by row.
 #![tactic(auto)]
+
 ghost use Rattle.std.specs.Prelude.{false, ◌≡◌, ◌+◌, ◌*◌, ◌/◌, ◌^◌, ◌<◌, ◌≤◌};
 ghost use Rattle.grid.specs.Grid.{subcarriers, symbols, slots, elements, element_of};
 ghost use Rattle.counting.specs.Counting.{in_range};

@@ -1,5 +1,6 @@
 // NPDSCH on one port: the numbers of one transmitted subframe.
 #![tactic(auto)]
+
 ghost use Rattle.std.specs.Prelude.{◌≡◌, ◌++◌, ◌+◌, ◌*◌, ◌^◌, ◌≤◌, ◌<◌, length, take, set};
 ghost use Rattle.counting.specs.Counting.{rank, count};
 ghost use Rattle.grid.specs.Grid.{subcarriers, slots, slot_elements};

@@ -1,5 +1,6 @@
 // The grids' sizes and element numbers, and the constant tables.
 #![tactic(auto)]
+
 ghost use Rattle.std.specs.Prelude.{◌≡◌, ◌<◌, ◌≤◌};
 ghost use Rattle.grid.specs.Grid.{subcarriers, symbols, slots, elements, element_of, slot_of, symbol_of};
 ghost use Rattle.grid.specs.Grid.{subcarrier_of, uplink_subcarriers};

@@ -1,5 +1,6 @@
 // Acknowledgements on NPUSCH format 2: the grant's refusals, its shape, and the questions on it.
 #![tactic(auto)]
+
 ghost use Rattle.std.specs.Prelude.{◌≡◌, ◌≤◌};
 ghost use Rattle.nprach.specs.Windows.{none};
 ghost use Rattle.harq_ack.specs.Fields.{tone_of, delay_of};

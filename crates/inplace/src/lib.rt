@@ -1,5 +1,6 @@
 // The step of a walk in place: the caller's own record is moved.
 #![tactic(auto)]
+
 ghost use Rattle.std.specs.Prelude.{◌≡◌};
 ghost use Rattle.walk.specs.Step.{stepped_of};
 

@@ -1,5 +1,6 @@
 // System information messages: their numbers, and refusal 21's test of them.
 #![tactic(auto)]
+
 ghost use Rattle.std.specs.Prelude.{not, ◌||◌, ◌≡◌};
 ghost use Rattle.counting.specs.Listed.{is_one_of};
 ghost use Rattle.messages.specs.Messages.{windows, periods, distances, sizes, is_listed, are_listed};

@@ -2,6 +2,7 @@
 // include/nbiot_numbers.h. What follows a cell's eight numbers is lent on as its messages.
 // A buffer that is too short gets 255, before anything else is judged, and nothing is written.
 #![tactic(auto)]
+
 ghost use Rattle.std.specs.Prelude.{[], ◌≡◌};
 ghost use Rattle.npusch.specs.Questions as up;
 ghost use Rattle.harq_ack.specs.Questions as ack;

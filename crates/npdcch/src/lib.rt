@@ -1,5 +1,6 @@
 // NPDCCH: plan, forward and backward of control sent in usable subframes.
 #![tactic(auto)]
+
 ghost use Rattle.std.specs.Prelude.{◌≡◌, ◌≤◌};
 ghost use Rattle.cell.specs.Quick.{lent_cell};
 ghost use Rattle.downlink.specs.Quick.{Judged};

@@ -1,5 +1,6 @@
 // Random access windows, which postpone uplink slots: their numbers, and the groups of slots that they close.
 #![tactic(auto)]
+
 ghost use Rattle.std.specs.Prelude.{true, not, ◌&&◌, ◌||◌, ◌≡◌, ◌+◌, ◌/◌, ◌^◌, ◌<◌, ◌≤◌};
 ghost use Rattle.numerology.specs.Numerology.{group_ms};
 ghost use Rattle.nprach.specs.Windows.{is_one_of, periods, starts, repetitions, is_listed, are_listed, shares_tone};

@@ -1,5 +1,6 @@
 // NPUSCH format 1: an uplink grant's refusals, its shape, and the questions on it.
 #![tactic(auto)]
+
 ghost use Rattle.std.specs.Prelude.{◌≡◌};
 ghost use Rattle.nprach.specs.Windows.{none};
 ghost use Rattle.npusch.specs.Quick.{sizes_of};

@@ -1,5 +1,6 @@
 // Uplink slots by subcarrier spacing.
 #![tactic(auto)]
+
 ghost use Rattle.std.specs.Prelude.{◌≡◌, ◌^◌, ◌<◌};
 ghost use Rattle.numerology.specs.Numerology.{by_spacing, slots_in, first_after, group_of, group_ms, narrow_tones};
 

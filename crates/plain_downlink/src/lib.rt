@@ -1,6 +1,7 @@
 // The plain engine's forward, and where its walk ends, of NPDSCH and NPDCCH: one subframe at a time and one element at
 // a time, with running counts and none of the quick search. Its time grows with the way it goes.
 #![tactic(auto)]
+
 ghost use Rattle.std.specs.Prelude.{Bool, ◌≡◌, ◌+◌, ◌*◌, ◌^◌, ◌≤◌, ◌<◌};
 ghost use Rattle.counting.specs.Counting.{select};
 ghost use Rattle.sending.specs.Answer.{place_at};

@@ -1,6 +1,7 @@
 // The plain engine's uplink half: forward, and the number of places, of NPUSCH and of acknowledgements. It uses none
 // of the quick search: it goes one slot and one element at a time.
 #![tactic(auto)]
+
 ghost use Rattle.std.specs.Prelude.{◌≡◌, ℕ};
 ghost use Rattle.uplink.specs.Fits.{Fits, OpenRepeats};
 ghost use Rattle.uplink.specs.Elements.{slot_data};

@@ -1,6 +1,7 @@
 // Uplink questions on a shape beside random access windows: refusals 19 and 20, and the slots that the windows leave.
 // Where there is none, the shape is asked by itself, which is quicker.
 #![tactic(auto)]
+
 ghost use Rattle.std.specs.Prelude.{◌≡◌};
 ghost use Rattle.uplink.specs.Fits.{Fits};
 ghost use Rattle.uplink.specs.Answers.{plan_answer, forward_answer, backward_answer};

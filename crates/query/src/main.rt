@@ -1,5 +1,6 @@
 // Reads questions on standard input, one a line, and writes an answer line for each on standard output.
 #![tactic(auto)]
+
 ghost use Rattle.std.specs.Prelude.{◌+◌, ◌≤◌};
 
 use libc::{STDERR_FILENO, STDIN_FILENO, STDOUT_FILENO};

@@ -1,5 +1,6 @@
 // The questions of the text program: a line read, and the values kept from line to line.
 #![tactic(auto)]
+
 mod reading;
 mod values;
 

@@ -1,5 +1,6 @@
 // Six subcarriers, after which the references repeat: where these lie, and how many elements carry data.
 #![tactic(auto)]
+
 ghost use Rattle.std.specs.Prelude.{◌≡◌, ◌<◌, ◌≤◌};
 ghost use mir.Val.{bool_byte};
 ghost use Rattle.references.specs.Quick.{taken_at_0, taken_at_1, closed_count, marks_of};

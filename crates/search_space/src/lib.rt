@@ -1,5 +1,6 @@
 // The UE-specific search space of NPDCCH: where it starts, and its candidates from there on.
 #![tactic(auto)]
+
 ghost use Rattle.std.specs.Prelude.{◌≡◌, true, ℕ, ◌*◌, ◌+◌, ◌≤◌, ◌<◌, ◌^◌, length, get_or};
 ghost use Rattle.counting.specs.Counting.{next, rank, select};
 ghost use Rattle.grid.specs.Grid.{last_subframe};

@@ -1,6 +1,7 @@
 // The quick search among usable subframes: whole periods by division, spans of forty by a count of ones, the last
 // span by its digits.
 #![tactic(auto)]
+
 ghost use Rattle.std.specs.Prelude.{true, ◌≡◌, ◌+◌, ◌*◌, ◌/◌, ◌%◌, ◌<◌, ◌≤◌, ◌^◌, eqb};
 ghost use Rattle.std.specs.Int.Count.{ones};
 ghost use Rattle.counting.specs.Counting.{rank, select};

@@ -1,6 +1,7 @@
 // Units passed at once: those in which no window is open, and a window that meets no other; others one by one. And how
 // many subframes of them remain.
 #![tactic(auto)]
+
 ghost use Rattle.std.specs.Prelude.{true, false, ◌≡◌, ℕ, ◌+◌, ◌^◌, ◌<◌, ◌≤◌};
 ghost use Rattle.counting.specs.Counting.{rank};
 ghost use Rattle.spans.specs.Pattern.{allows};

@@ -2,6 +2,7 @@
 // it is the pattern's own. Messages are lent as their numbers, `si`, and read where they are laid: a record of them
 // would be copied from call to call.
 #![tactic(auto)]
+
 ghost use Rattle.std.specs.Prelude.{true, ◌≡◌, ◌+◌, ◌<◌, ◌^◌, eqb, length, ◌≤◌};
 ghost use Rattle.counting.specs.Counting.{rank, select};
 ghost use Rattle.spans.specs.Found.{found_among};

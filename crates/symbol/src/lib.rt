@@ -1,5 +1,6 @@
 // QPSK symbols from lent bits, and what an element of the grid gets: a symbol, a reference or nothing.
 #![tactic(auto)]
+
 ghost use Rattle.std.specs.Prelude.{true, cond, ◌≡◌, ◌*◌, ◌<◌, length};
 ghost use Rattle.symbol.specs.Symbol.{signed, level_in_range};
 ghost use Rattle.symbol.specs.Scaffold.{qpsk_of, Within};

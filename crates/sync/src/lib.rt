@@ -1,5 +1,6 @@
 // What the anchor leaves of its subframes, and what takes the others.
 #![tactic(auto)]
+
 ghost use Rattle.std.specs.Prelude.{◌≡◌, ◌&&◌, ltb, ◌<◌};
 ghost use Rattle.sync.specs.Quick.{anchor_pattern};
 ghost use Rattle.sync.specs.Sync.{even, npbch, npss, nsss, sib1_copies, sib1_place, sib1};

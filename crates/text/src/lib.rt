@@ -1,5 +1,6 @@
 // Text: names, numbers and hex bytes read from a part of a line, and the same put into a page of output.
 #![tactic(auto)]
+
 mod digits;
 mod hex;
 mod lines;

@@ -1,6 +1,7 @@
 // The search among the subframes that messages leave of those that a pattern allows: by strides over units, and whole
 // periods by division.
 #![tactic(auto)]
+
 ghost use Rattle.std.specs.Prelude.{true, false, ◌≡◌, ℕ, ◌+◌, ◌*◌, ◌%◌, ◌^◌, ◌<◌, ◌≤◌, eqb};
 ghost use Rattle.counting.specs.Counting.{rank, select};
 ghost use Rattle.counting.specs.Scaffold.{Nth};

@@ -1,5 +1,6 @@
 // A transmitted subframe of an NPDSCH on one port: the call judged, and what goes out at an element.
 #![tactic(auto)]
+
 ghost use Rattle.std.specs.Prelude.{◌≡◌, ◌%◌, ◌^◌, ◌<◌};
 ghost use Rattle.grid.specs.Grid.{subcarriers, symbols, slots, element_of};
 ghost use Rattle.elements.specs.Elements.{count_of};

@@ -1,6 +1,7 @@
 // Messages in units: time counted in stretches in which no window opens or closes and no copy begins but where one
 // begins. What the entries want where a unit begins, and what they need of it.
 #![tactic(auto)]
+
 ghost use Rattle.std.specs.Prelude.{true, ◌≡◌, ◌+◌, ◌-◌, ◌*◌, ◌^◌, min, max, ◌<◌, ◌≤◌};
 ghost use Rattle.std.specs.Int.Count.{ones};
 ghost use Rattle.counting.specs.Counting.{rank, count};

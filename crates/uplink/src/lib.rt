@@ -1,6 +1,7 @@
 // Uplink questions on a shape: the numbers that place a grant's codeword on uplink slots, whatever kind of grant they
 // are made from.
 #![tactic(auto)]
+
 ghost use Rattle.std.specs.Prelude.{Bool, ◌≡◌, ℕ, ◌-◌, ◌^◌, ◌<◌};
 ghost use Rattle.sending.specs.CopyOrder.{carried};
 ghost use Rattle.sending.specs.Answer.{extent_of};

@@ -1,6 +1,7 @@
 // The walk: the places of a grant one after the other, by a record of the caller's own. What a step asks; `inplace`
 // moves the record.
 #![tactic(auto)]
+
 ghost use Rattle.std.specs.Prelude.{◌≡◌};
 ghost use Rattle.walk.specs.Step.{from_uplink, from_downlink, refused_step, finished_step, asked_of};
 ghost use Rattle.walk.specs.Quick.{walk_at, is_end, stopped_at};

@@ -10,7 +10,7 @@ use Rattle.cell.proofs.why_not.Goals as goal
 apart : (c : Joined-laid) → (c.args.laid && allows c.args.p c.args.t) ≡ false
 apart c =
     elim c.if-laid.branch [
-      then-laid+else-is_allowed w ↦ rw w.if-laid.true (sym w.is_allowed.ensures ∙ w.if-is_allowed.false)
+      | then-laid+else-is_allowed w ↦ rw w.if-laid.true (sym w.is_allowed.ensures ∙ w.if-is_allowed.false)
       | else-laid w ↦ rw w.if-laid.false refl
     ]
 

@@ -5,7 +5,7 @@ least-requires c = tt
 
 pub returns : goal.returns
 returns c = λ j. record {
-      period = c.args.b.period;
-      phase = c.args.b.phase;
-      closed = c.least.ensures j;
-    }
+  period = c.args.b.period;
+  phase = c.args.b.phase;
+  closed = c.least.ensures j;
+}

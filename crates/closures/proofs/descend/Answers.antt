@@ -67,10 +67,10 @@ overflow_add-result-2 c = omega (arith, fits c.before, c.requires)
 pub returns : goal.returns
 unfolding descend_of
 returns c = (
-      rw (ne_eqb c.args.b.closed 0 c.if-closed-eq0.false) (let a = c.args in λ j. record {
-        at = c.most.ensures j + a.c.shift;
-        sum = a.m.sum + (a.m.at + a.b.phase) / a.b.period * a.c.per;
-      }),
-      small c,
-      omega (arith, fits c.before, c.requires),
-    )
+  rw (ne_eqb c.args.b.closed 0 c.if-closed-eq0.false) (let a = c.args in λ j. record {
+    at = c.most.ensures j + a.c.shift;
+    sum = a.m.sum + (a.m.at + a.b.phase) / a.b.period * a.c.per;
+  }),
+  small c,
+  omega (arith, fits c.before, c.requires),
+)

@@ -14,8 +14,8 @@ idle-requires-4 c = tt
 
 pub returns : goal.returns
 returns c = λ j. record {
-      b1 = c.idle.ensures j;
-      b2 = c.idle-2.ensures j;
-      b3 = c.idle-3.ensures j;
-      b4 = c.idle-4.ensures j;
-    }
+  b1 = c.idle.ensures j;
+  b2 = c.idle-2.ensures j;
+  b3 = c.idle-3.ensures j;
+  b4 = c.idle-4.ensures j;
+}

@@ -41,7 +41,7 @@ module _ (c : Joined-left-j) where
       → Held s.args.gap s.args.nested s.args.t (s.args.t + s.args.n) 0 c.if-left-j.first
   first h =
       elim c.if-left-j.branch [
-        then-left-j w ↦ held 0 0 c.if-left-j.first (omega (arith, w.if-left-j.true)) (omega (arith, w.if-left-j.true, l.loop-at.invariant.3)) (omega (arith, w.first-is))
+        | then-left-j w ↦ held 0 0 c.if-left-j.first (omega (arith, w.if-left-j.true)) (omega (arith, w.if-left-j.true, l.loop-at.invariant.3)) (omega (arith, w.first-is))
         | else-left-j w ↦
             subst (λ (m : ℕ). Held s.args.gap s.args.nested s.args.t (s.args.t + s.args.n) 0 m) (sym w.first-is)
             (l.loop-at.invariant.5 (omega (arith, w.if-left-j.false, l.loop-at.invariant.2)))

@@ -45,9 +45,11 @@ pub element_at-x-requires : goal.element_at-x-requires
 element_at-x-requires c =
     let a = c.args in
     let all = all a.b _ _ c.sent_subframes.ensures.0 c.used_elements-w.ensures.0 in
-    let held : a.position < places a.b = omega (arith, c.if-position-total.false, all) in
-    (c.requires.1.layout, c.requires.1.part,
-    rest_below (left_in a.p a.laid (messages_in a.si.now)) all_periods a.b a.position c.requires.1 c.used_elements-w.result held c.used_elements-w.ensures.0)
+    let held : a.position < places a.b = omega (arith, c.if-position-total.false, all) in (
+      c.requires.1.layout,
+      c.requires.1.part,
+      rest_below (left_in a.p a.laid (messages_in a.si.now)) all_periods a.b a.position c.requires.1 c.used_elements-w.result held c.used_elements-w.ensures.0,
+    )
 
 pub item-requires : goal.item-requires
 item-requires c =

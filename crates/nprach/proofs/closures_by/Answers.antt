@@ -21,8 +21,8 @@ closure-requires-4 c = let p = c.requires in (p.0, p.1, p.2, p.3, listed_4 c.arg
 pub returns : goal.returns
 unfolding closures_of
 returns c = λ j. record {
-      b1 = c.closure.ensures j;
-      b2 = c.closure-2.ensures j;
-      b3 = c.closure-3.ensures j;
-      b4 = c.closure-4.ensures j;
-    }
+  b1 = c.closure.ensures j;
+  b2 = c.closure-2.ensures j;
+  b3 = c.closure-3.ensures j;
+  b4 = c.closure-4.ensures j;
+}

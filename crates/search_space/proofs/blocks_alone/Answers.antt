@@ -71,13 +71,13 @@ rank_of-k-requires c = (c.requires.0, counts c)
 
 pub loop-i-init : goal.loop-i-init
 loop-i-init c = (
-      omega arith,
-      refl,
-      refl,
-      λ j h. absurd (omega arith),
-      λ j h. absurd (omega arith),
-      omega (arith, c.rank_of-k.ensures, zero-mul c.args.x.size),
-    )
+  omega arith,
+  refl,
+  refl,
+  λ j h. absurd (omega arith),
+  λ j h. absurd (omega arith),
+  omega (arith, c.rank_of-k.ensures, zero-mul c.args.x.size),
+)
 
 pub overflow_sub-size : goal.overflow_sub-size
 overflow_sub-size c = omega (arith, (start c).requires.3.size.0)

@@ -16,7 +16,6 @@ use Rattle.search_space.proofs.blocks_beside.Goals.{After-block-ends, Start}
 use Rattle.search_space.proofs.blocks_beside.Invariants.{Stands}
 use Rattle.search_space.proofs.blocks_beside.Goals as goal
 
-
 -- one block on
 module _ (c : After-block-ends) where
   abbrev start : Start
@@ -78,16 +77,16 @@ loop-i-preserved c =
 
 pub loop-i-init : goal.loop-i-init
 loop-i-init c = (
-      omega arith,
-      refl,
-      refl,
-      λ k h. absurd (omega arith),
-      λ k h. absurd (omega arith),
-      (omega (arith, c.requires.3), omega arith),
-      λ k.
-          let e : 0 + k ≡ 0 * c.args.x.size + k = omega (arith, zero-mul c.args.x.size) in
-          ap (select (remaining c.args.ms (allows c.args.p)) all_periods c.args.start) e,
-    )
+  omega arith,
+  refl,
+  refl,
+  λ k h. absurd (omega arith),
+  λ k h. absurd (omega arith),
+  (omega (arith, c.requires.3), omega arith),
+  λ k.
+      let e : 0 + k ≡ 0 * c.args.x.size + k = omega (arith, zero-mul c.args.x.size) in
+      ap (select (remaining c.args.ms (allows c.args.p)) all_periods c.args.start) e,
+)
 
 pub overflow_sub-size : goal.overflow_sub-size
 overflow_sub-size c = omega (arith, c.requires.4.size.0)

@@ -18,7 +18,6 @@ use Rattle.search_space.proofs.listed.Goals.{After-digit-j, Start}
 use Rattle.search_space.proofs.listed.Invariants.{made}
 use Rattle.search_space.proofs.listed.Goals as goal
 
-
 -- the two blocks of candidate k
 module _ (c : After-digit-j) where
   abbrev start : Start

@@ -11,7 +11,6 @@ use Rattle.strides.specs.Quick.{Keeps}
 use Rattle.timetable.proofs.scan.Invariants.{wanted}
 use Rattle.timetable.proofs.scan.Goals as goal
 
-
 pub returns-then-found : goal.returns-then-found
 returns-then-found c =
     let d = c in

@@ -11,7 +11,6 @@ use Rattle.units.proofs.run.Goals.{After-free_before-next, In-loop-n, At-loop-n,
 use Rattle.units.proofs.run.Invariants.{wanted}
 use Rattle.units.proofs.run.Goals as goal
 
-
 pub loop-n-init : goal.loop-n-init
 loop-n-init c =
     let a = c.args in

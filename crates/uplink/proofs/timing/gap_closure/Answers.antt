@@ -29,7 +29,7 @@ overflow_add-result c =
 
 pub returns : goal.returns
 returns c = λ j. record {
-      period = c.over_group-period.ensures j;
-      phase = c.over_group-closed.ensures j + (c.over_group-period.ensures j - c.requires.1 j % c.over_group-period.ensures j);
-      closed = c.over_group-closed.ensures j;
-    }
+  period = c.over_group-period.ensures j;
+  phase = c.over_group-closed.ensures j + (c.over_group-period.ensures j - c.requires.1 j % c.over_group-period.ensures j);
+  closed = c.over_group-closed.ensures j;
+}
