@@ -5,7 +5,7 @@ use Prim.Native.Nat.{ℕ, ◌+◌, ◌-◌, ◌%◌, min, ◌^◌, ◌≤◌, �
 use native.Mathlib.Nat.{mod-lt, mod-eq_of_lt, mod-add-mod, add-mod_right}
 use native.Mathlib.Omega.{arith}
 use borrow.Author.Tests.{lt-ltb, le-ltb}
-use Rattle.counting.specs.Counting.{rank, count, select}
+use Rattle.counting.specs.Counting.{rank, select}
 use Rattle.counting.specs.Scaffold.{Nth}
 use Rattle.counting.proofs.Rank.{rank_count, count_same, rank_none, rank_later}
 use Rattle.counting.proofs.Select.{select_within, nth_of}

@@ -1,24 +1,24 @@
 -- A regular pattern: how many subframes it allows before any span, and that it repeats.
-use mathlib.Core.Bool.{Bool, true, false, cond, not, ◌&&◌, ◌||◌}
+use mathlib.Core.Bool.{Bool, true, false, cond, ◌&&◌, ◌||◌}
 use mathlib.Core.Path.{◌≡◌, refl, sym, ap, ap₂, ◌∙◌, subst}
 use mathlib.Core.Logic.{◌⊎◌, inl, inr, ⊎_elim}
 use Prim.Native.Nat.{ℕ, zero, suc, ◌+◌, ◌-◌, ◌*◌, ◌/◌, ◌%◌, ◌^◌, ◌≤◌, ◌<◌}
-use native.Mathlib.Nat.{add-mod_right, add_comm, zero-add, mod-eq_of_lt, mod-lt, add-mul, zero-mul, mul-zero, mul-le-mul, pow-succ', div-add-mod', div-lt_iff_lt-mul}
+use native.Mathlib.Nat.{add-mod_right, add_comm, mod-eq_of_lt, mod-lt, add-mul, zero-mul, mul-zero, mul-le-mul, pow-succ', div-add-mod', div-lt_iff_lt-mul}
 use native.Mathlib.Omega.{arith}
 use lib.Count.{ones, ones_step}
-use lib.Dec.{leb, ltb, eqb}
+use lib.Dec.{eqb}
 use lib.Pow.{pow_mono}
 use mir.Val.{bool_byte}
-use borrow.Author.Tests.{le-leb, lt-leb, lt-ltb, le-ltb, eq-eqb, ne_eqb}
-use Rattle.counting.specs.Counting.{rank, count, select, among_first, in_range}
+use borrow.Author.Tests.{eq-eqb, ne_eqb}
+use Rattle.counting.specs.Counting.{rank, select, in_range}
 use Rattle.counting.specs.Bits.{bit_at}
 use Rattle.counting.specs.Scaffold.{NthOne}
-use Rattle.counting.proofs.Facts.{order, truth}
-use Rattle.counting.proofs.Rank.{rank_zero, rank_suc, rank_le, rank_mono, rank_strict, rank_later, rank_same, count_between}
-use Rattle.counting.proofs.Range.{in_range_lem, below_range, above_range, and_none, rank_before, rank_inside, rank_after}
+use Rattle.counting.proofs.Facts.{order}
+use Rattle.counting.proofs.Rank.{rank_zero, rank_suc, rank_le, rank_same}
+use Rattle.counting.proofs.Range.{in_range_lem, below_range, above_range, rank_before, rank_inside, rank_after}
 use Rattle.counting.proofs.Ones.{span_top, span_all, ones_above, one_below}
-use Rattle.counting.proofs.Select.{nth_of, among_parts}
-use Rattle.counting.proofs.Period.{rank_split, rank_periods, repeats_times, select_is, is_select}
+use Rattle.counting.proofs.Select.{nth_of}
+use Rattle.counting.proofs.Period.{rank_split, rank_periods, repeats_times, is_select}
 use Rattle.spans.specs.declared.Pattern.{Pattern}
 use Rattle.spans.specs.Pattern.{span, spans_of, mask_bit, with_sib1, mask_at, allows, period_of, Regular, Landed, Picked}
 

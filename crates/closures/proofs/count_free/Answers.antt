@@ -1,5 +1,4 @@
 use native.Mathlib.Omega.{arith}
-use borrow.Author.Rules.{rules}
 use Rattle.closures.proofs.Cycles.{counted}
 use Rattle.closures.proofs.count_free.Goals as goal
 

@@ -2,7 +2,6 @@ use mathlib.Core.Path.{◌≡◌, sym, ap, ◌∙◌}
 use Prim.Native.Nat.{ℕ, ◌+◌, ◌-◌, ◌*◌, ◌/◌, ◌%◌, ◌≤◌, ◌<◌}
 use native.Mathlib.Nat.{mod-lt, mod_self, div-add-mod', add-mul-mod_self_right}
 use native.Mathlib.Omega.{arith}
-use borrow.Author.Rules.{rules}
 use Rattle.closures.specs.Quick.{count_before}
 use Rattle.closures.proofs.count_over.Goals.{Else-closed-eq0, After-before-2}
 use Rattle.closures.proofs.count_over.Goals as goal

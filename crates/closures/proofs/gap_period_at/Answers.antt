@@ -1,7 +1,6 @@
 use mathlib.Core.Path.{refl}
 use Prim.Native.Nat.{◌≤◌}
 use native.Mathlib.Omega.{arith}
-use borrow.Author.Rules.{rules}
 use Rattle.closures.proofs.GapPeriods.{closed_below, from_to, rounded}
 use Rattle.closures.proofs.gap_period_at.Goals.{After-before-to, Start}
 use Rattle.closures.proofs.gap_period_at.Goals as goal

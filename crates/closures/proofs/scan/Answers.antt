@@ -1,13 +1,13 @@
 use mathlib.Core.Bool.{Bool}
 use mathlib.Core.Path.{◌≡◌, refl, sym, ap, subst}
-use Prim.Native.Nat.{ℕ, ◌+◌, ◌-◌, ◌^◌, ◌≤◌, ◌<◌}
+use Prim.Native.Nat.{ℕ, ◌+◌, ◌^◌, ◌<◌}
 use native.Mathlib.Omega.{arith}
 use Rattle.counting.specs.Counting.{rank}
 use Rattle.counting.specs.Scaffold.{Nth}
 use Rattle.counting.proofs.Rank.{rank_le, rank_strict}
 use Rattle.counting.proofs.Select.{nth_of}
 use Rattle.closures.specs.Closures.{is_free}
-use Rattle.closures.specs.Quick.{Begins, Held}
+use Rattle.closures.specs.Quick.{Held}
 use Rattle.closures.proofs.scan.Goals.{then-left-j, else-left-j, Joined-left-j, At-loop-at, Start, Then-left-here}
 use Rattle.closures.proofs.scan.Goals as goal
 

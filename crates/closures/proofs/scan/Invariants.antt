@@ -1,13 +1,7 @@
 -- The search: `left` free numbers are still to be passed from `at` on, and once one was passed, `first` is the count of the first.
-use mathlib.Core.Bool.{Bool}
-use mathlib.Core.Path.{◌≡◌, refl, sym, ap, subst}
-use mathlib.Core.Logic.{⊎_elim}
-use Prim.Native.Nat.{ℕ, ◌+◌, ◌-◌, ◌^◌, ◌≤◌, ◌<◌}
-use native.Mathlib.Omega.{arith}
+use mathlib.Core.Path.{◌≡◌}
+use Prim.Native.Nat.{◌+◌, ◌-◌, ◌≤◌, ◌<◌}
 use Rattle.counting.specs.Counting.{rank}
-use Rattle.counting.specs.Scaffold.{Nth}
-use Rattle.counting.proofs.Rank.{rank_le, rank_strict}
-use Rattle.counting.proofs.Select.{nth_of}
 use Rattle.closures.specs.Closures.{is_free}
 use Rattle.closures.specs.Quick.{Begins, Held}
 use Rattle.closures.proofs.scan.Given as goal

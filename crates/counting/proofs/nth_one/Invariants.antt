@@ -1,14 +1,8 @@
 -- The search by four digits: `left` ones are still to be passed from digit i on.
 use Prim.Native.Nat.{◌+◌, ◌-◌, ◌/◌, ◌%◌, ◌^◌, ◌≤◌}
-use mathlib.Core.Path.{◌≡◌, ap}
-use native.Mathlib.Omega.{arith}
-use native.Mathlib.Nat.{div-one}
-use borrow.Author.Rules.{rules}
+use mathlib.Core.Path.{◌≡◌}
 use Rattle.counting.specs.Counting.{rank}
 use Rattle.counting.specs.Bits.{bit_at}
-use Rattle.counting.proofs.Rank.{rank_zero}
-use Rattle.counting.proofs.Ones.{ones_rank}
-use Rattle.counting.proofs.Fours.{four_on, four_passed, four_found}
 use Rattle.counting.proofs.nth_one.Given as goal
 
 abbrev pub invariant-loop-i : goal.invariant-loop-i

@@ -1,5 +1,4 @@
 use native.Mathlib.Omega.{arith}
-use borrow.Author.Rules.{rules}
 use Rattle.counting.proofs.Fours.{ones_packed}
 use Rattle.counting.proofs.ones_of_four.Goals as goal
 

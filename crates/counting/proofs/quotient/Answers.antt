@@ -1,7 +1,6 @@
 use mathlib.Core.Path.{refl}
 use native.Mathlib.Omega.{arith}
 use native.Mathlib.Nat.{div-le_self}
-use borrow.Author.Rules.{rules}
 use Rattle.counting.proofs.quotient.Goals as goal
 
 pub overflow_cast-result-3 : goal.overflow_cast-result-3

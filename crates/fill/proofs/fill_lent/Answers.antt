@@ -78,7 +78,7 @@ returns-then-call-ne0 c =
     let j = c in
     let a = j.args in (
       j.judged-call.ensures.number,
-      output_refused (lent_cell a.c a.si.now) a.anchor.now a.other.now a.g a.i a.bits.now a.level a.out-1.now j.judged-call.result j.judged-call.ensures c.if-call-ne0.true,
+      output_refused (lent_cell a.c a.si.now) a.anchor.now a.other.now a.g a.i a.bits.now a.level a.out.now j.judged-call.result j.judged-call.ensures c.if-call-ne0.true,
     )
 
 pub returns : goal.returns

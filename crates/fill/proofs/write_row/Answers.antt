@@ -39,8 +39,8 @@ loop-k-init c =
       omega arith,
       c.requires.1,
       omega (arith, rank_zero (has_in a.row)),
-      ap (λ (i : ℕ). take (2 * i) a.out-1.now) (add-zero a.start) ∙ sym (append-nil (take (2 * a.start) a.out-1.now))
-          ∙ ap (λ (x : List Float). take (2 * a.start) a.out-1.now ++ x) (laid_none _),
+      ap (λ (i : ℕ). take (2 * i) a.out.now) (add-zero a.start) ∙ sym (append-nil (take (2 * a.start) a.out.now))
+          ∙ ap (λ (x : List Float). take (2 * a.start) a.out.now ++ x) (laid_none _),
     )
 
 inside : (c : AfterHasOurs) → 2 * ((start c.before.before).args.start + c.loop-k.k) + 1 < length c.loop-k.out
@@ -76,7 +76,7 @@ loop-k-preserved c =
       ap length p.put.ensures ∙ simp length-set l.loop-k.invariant.1,
       next h.before.before.before.before.before.before,
       ap (λ (i : ℕ). take (2 * i) p.put.new.0) on ∙ ap (take (2 * (a.start + k + 1))) p.put.ensures
-          ∙ laid_more (take (2 * a.start) a.out-1.now) _ l.loop-k.out (a.start + k) k w.written.result (inside h.before.before.before.before.before.before) l.loop-k.invariant.3 s,
+          ∙ laid_more (take (2 * a.start) a.out.now) _ l.loop-k.out (a.start + k) k w.written.result (inside h.before.before.before.before.before.before) l.loop-k.invariant.3 s,
     )
 
 pub returns : goal.returns
@@ -87,7 +87,7 @@ returns c =
       l.loop-k.invariant.2 ∙ ap (λ (k : ℕ). a.c + rank (has_in a.row) k) e,
       l.loop-k.invariant.1,
       sym (ap (λ (k : ℕ). take (2 * (a.start + k)) l.loop-k.out) e) ∙ l.loop-k.invariant.3
-          ∙ ap (λ (k : ℕ). take (2 * a.start) a.out-1.now ++ laid (written_in_row a.row a.c a.bits.now a.four) k) e,
+          ∙ ap (λ (k : ℕ). take (2 * a.start) a.out.now ++ laid (written_in_row a.row a.c a.bits.now a.four) k) e,
     )
 
 pub has-ours-requires : goal.has-ours-requires

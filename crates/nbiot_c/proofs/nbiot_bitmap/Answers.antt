@@ -17,7 +17,7 @@ returns-then-no-ne0 c =
     let x = e.args in
     let numbers = refused_numbers _ x.anchor.now x.other.now j.judge_lent-no.ensures p.if-no-ne0.true in
     replied _ e.short2.ensures.says e.if-short2.false
-    (p.put3.ensures ∙ ap (λ l. put l x.answer-1.now) numbers ∙ simp (n.config_at-c.ensures, to_end))
+    (p.put3.ensures ∙ ap (λ l. put l x.answer.now) numbers ∙ simp (n.config_at-c.ensures, to_end))
 
 pub returns : goal.returns
 unfolding bitmap
@@ -30,7 +30,7 @@ returns c =
     let x = e.args in
     let numbers = accepted_numbers _ x.anchor.now x.other.now j.judge_lent-no.ensures b.if-no-ne0.false b.bytes-n.ensures in
     replied _ e.short2.ensures.says e.if-short2.false
-    (p.put3-2.ensures ∙ ap (λ l. put l x.answer-1.now) numbers ∙ simp (n.config_at-c.ensures, to_end))
+    (p.put3-2.ensures ∙ ap (λ l. put l x.answer.now) numbers ∙ simp (n.config_at-c.ensures, to_end))
 
 pub short2-requires : goal.short2-requires
 unfolding bitmap

@@ -1,5 +1,5 @@
 use mathlib.Core.List.{[]}
-use mathlib.Core.Logic.{inl, inr, ⊎_elim}
+use mathlib.Core.Logic.{inl, inr}
 use mathlib.Core.Path.{◌∙◌}
 use native.Mathlib.Omega.{arith}
 use borrow.Author.Rules.{rules}
@@ -8,6 +8,7 @@ use Rattle.buffers.specs.Buffers.{harq_ack_walk}
 use Rattle.buffers.proofs.Replies.{unread, replied}
 use Rattle.buffers.proofs.Steps.{next_fits, stepped_by}
 use Rattle.nbiot_c.specs.Calls.{step_ack}
+use Rattle.nbiot_c.proofs.nbiot_step_ack_windows.Goals.{then-a-eq14, else-a-eq14}
 use Rattle.nbiot_c.proofs.nbiot_step_ack_windows.Goals as goal
 
 pub short_beside-requires : goal.short_beside-requires
@@ -42,7 +43,7 @@ pub put_step-requires : goal.put_step-requires
 unfolding step_ack asked
 put_step-requires c = let f = c in let e = f in let x = e.args in
     let long = e.short_beside.ensures in let a = from_uplink f.forward_ack_beside-a.result in
-    (omega (arith, long.first e.if-short_beside.false), long.last e.if-short_beside.false, next_fits (harq_ack_walk x.walk-1.now x.windows.now) [] [] a (simp (f.forward_ack_beside-a.ensures, f.harq_ack_at-g.ensures)))
+    (omega (arith, long.first e.if-short_beside.false), long.last e.if-short_beside.false, next_fits (harq_ack_walk x.walk.now x.windows.now) [] [] a (simp (f.forward_ack_beside-a.ensures, f.harq_ack_at-g.ensures)))
 
 pub shape_of-walk : goal.shape_of-walk
 unfolding step_ack asked
@@ -57,5 +58,8 @@ unfolding step_ack asked
 returns c = let p = c in let j = p in let f = j in
     let e = f in let x = e.args in
     replied _ e.short_beside.ensures.says e.if-short_beside.false (p.put_step.ensures
-    ∙ stepped_by (harq_ack_walk x.walk-1.now x.windows.now) [] [] (from_uplink f.forward_ack_beside-a.result) (simp (f.forward_ack_beside-a.ensures, f.harq_ack_at-g.ensures)) x.walk-1.now x.answer-1.now
-    (⊎_elim (λ h. inl (h.0.true, h.3 ∙ h.2.ensures ∙ simp (h.1.ensures, f.harq_ack_at-g.ensures))) (λ h. inr (h.0.left, h.1)) j.if-a-eq14.branch))
+    ∙ stepped_by (harq_ack_walk x.walk.now x.windows.now) [] [] (from_uplink f.forward_ack_beside-a.result) (simp (f.forward_ack_beside-a.ensures, f.harq_ack_at-g.ensures)) x.walk.now x.answer.now
+    (elim j.if-a-eq14.branch [
+      then-a-eq14 w ↦ inl (w.if-a-eq14.true, w.end-is ∙ w.uplink_end-end.ensures ∙ simp (w.plan_ack_beside.ensures, f.harq_ack_at-g.ensures))
+      | else-a-eq14 w ↦ inr (w.if-a-eq14.false, w.end-is)
+    ]))

@@ -1,4 +1,4 @@
-use mathlib.Core.Logic.{inl, inr, ⊎_elim}
+use mathlib.Core.Logic.{inl, inr}
 use mathlib.Core.Path.{◌∙◌}
 use native.Mathlib.Omega.{arith}
 use borrow.Author.Rules.{rules}
@@ -8,6 +8,7 @@ use Rattle.buffers.proofs.Replies.{unread, replied}
 use Rattle.buffers.proofs.Steps.{next_fits, stepped_by}
 use Rattle.nbiot_c.specs.Calls.{step_control}
 use Rattle.buffers.proofs.Parts.{to_end}
+use Rattle.nbiot_c.proofs.nbiot_step_control.Goals.{then-a-eq14, else-a-eq14}
 use Rattle.nbiot_c.proofs.nbiot_step_control.Goals as goal
 
 pub short2-requires : goal.short2-requires
@@ -71,7 +72,7 @@ unfolding step_control asked
 put_step-requires c = let f = c in let n = f in let e = n in
     let x = e.args in
     let long = e.short2.ensures in let a = from_downlink f.forward_lent-a.result in
-    (omega (arith, long.first e.if-short2.false), long.last e.if-short2.false, next_fits (npdcch_walk x.walk-1.now) x.anchor.now x.other.now a (simp (f.forward_lent-a.ensures, n.npdcch_at-g.ensures, n.config_at-c.ensures, to_end)))
+    (omega (arith, long.first e.if-short2.false), long.last e.if-short2.false, next_fits (npdcch_walk x.walk.now) x.anchor.now x.other.now a (simp (f.forward_lent-a.ensures, n.npdcch_at-g.ensures, n.config_at-c.ensures, to_end)))
 
 pub shape_of-walk : goal.shape_of-walk
 unfolding step_control asked
@@ -87,5 +88,8 @@ returns c = let p = c in let j = p in let f = j in
     let n = f in let e = n in
     let x = e.args in
     replied _ e.short2.ensures.says e.if-short2.false (p.put_step.ensures
-    ∙ stepped_by (npdcch_walk x.walk-1.now) x.anchor.now x.other.now (from_downlink f.forward_lent-a.result) (simp (f.forward_lent-a.ensures, n.npdcch_at-g.ensures, n.config_at-c.ensures, to_end)) x.walk-1.now x.answer-1.now
-    (⊎_elim (λ h. inl (h.0.true, h.5 ∙ h.4.ensures ∙ simp (h.3.ensures, n.npdcch_at-g.ensures, n.config_at-c.ensures, to_end))) (λ h. inr (h.0.left, h.1)) j.if-a-eq14.branch))
+    ∙ stepped_by (npdcch_walk x.walk.now) x.anchor.now x.other.now (from_downlink f.forward_lent-a.result) (simp (f.forward_lent-a.ensures, n.npdcch_at-g.ensures, n.config_at-c.ensures, to_end)) x.walk.now x.answer.now
+    (elim j.if-a-eq14.branch [
+      then-a-eq14 w ↦ inl (w.if-a-eq14.true, w.end-is ∙ w.downlink_end-end.ensures ∙ simp (w.plan_lent.ensures, n.npdcch_at-g.ensures, n.config_at-c.ensures, to_end))
+      | else-a-eq14 w ↦ inr (w.if-a-eq14.false, w.end-is)
+    ]))

@@ -1,4 +1,3 @@
-use borrow.Author.Rules.{rules}
 use Rattle.numerology.proofs.Spacing.{first_narrow, first_wide}
 use Rattle.numerology.proofs.first_after.Goals as goal
 

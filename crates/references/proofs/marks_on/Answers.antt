@@ -1,5 +1,4 @@
 use native.Mathlib.Omega.{arith}
-use borrow.Author.Rules.{rules}
 use Rattle.references.proofs.Held.{held}
 use Rattle.references.proofs.marks_on.Goals as goal
 

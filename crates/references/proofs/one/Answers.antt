@@ -1,5 +1,4 @@
 use mathlib.Core.Path.{refl}
-use borrow.Author.Rules.{rules}
 use Rattle.counting.proofs.Facts.{byte_le}
 use Rattle.references.proofs.one.Goals as goal
 

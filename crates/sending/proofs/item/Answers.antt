@@ -1,6 +1,5 @@
 use native.Mathlib.Nat.{mul-le-mul, le_of_lt}
 use native.Mathlib.Omega.{arith}
-use borrow.Author.Rules.{rules}
 use Rattle.sending.proofs.item.Goals as goal
 
 pub overflow_mul-result : goal.overflow_mul-result

@@ -1,9 +1,8 @@
 use Prim.Native.Nat.{ℕ, ◌+◌, ◌/◌, ◌%◌, ◌*◌, ◌-◌, ◌^◌, ◌≤◌, ◌<◌}
-use mathlib.Core.Path.{◌≡◌, ap, ap₂, subst}
+use mathlib.Core.Path.{◌≡◌, ap, subst}
 use native.Mathlib.Omega.{arith}
 use native.Mathlib.Nat.{div-le_self, mod-lt, mul-le-mul, div-add-mod'}
-use Rattle.spans.specs.Pattern.{spans_of, period_of, Picked, allows}
-use Rattle.counting.specs.Counting.{rank}
+use Rattle.spans.specs.Pattern.{period_of, Picked}
 use Rattle.spans.proofs.Laws.{few_spans, at_quick}
 use Rattle.spans.proofs.at.Goals.{After-quotient-q, After-in_period-per, After-power_of_two-period, After-pick}
 use Rattle.spans.proofs.at.Goals as goal

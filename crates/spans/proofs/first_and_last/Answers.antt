@@ -1,7 +1,5 @@
-use mathlib.Core.Path.{ap}
-use Prim.Native.Nat.{ℕ, ◌+◌}
+use Prim.Native.Nat.{◌+◌}
 use native.Mathlib.Omega.{arith}
-use borrow.Author.Rules.{rules}
 use Rattle.counting.proofs.Rank.{rank_le}
 use Rattle.spans.specs.Pattern.{allows, OnesOf}
 use Rattle.spans.proofs.Laws.{nth_is}

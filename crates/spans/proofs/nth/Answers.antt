@@ -1,7 +1,6 @@
 use mathlib.Core.Path.{ap}
 use Prim.Native.Nat.{ℕ, ◌+◌}
 use native.Mathlib.Omega.{arith}
-use borrow.Author.Rules.{rules}
 use Rattle.counting.proofs.Rank.{rank_le}
 use Rattle.spans.specs.Pattern.{allows}
 use Rattle.spans.proofs.Laws.{nth_is}

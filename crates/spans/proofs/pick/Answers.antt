@@ -3,7 +3,6 @@ use Prim.Native.Nat.{ℕ, ◌+◌, ◌-◌, ◌*◌, ◌^◌, ◌≤◌, ◌<◌
 use mathlib.Core.Path.{◌≡◌, ap, subst}
 use native.Mathlib.Omega.{arith}
 use native.Mathlib.Nat.{mul-le-mul}
-use borrow.Author.Rules.{rules}
 use lib.Count.{ones, ones-le}
 use Rattle.spans.proofs.Laws.{Stretch, few_spans, few_of_period, in_lead, in_sib1, in_tail, ready, landed}
 use Rattle.spans.proofs.pick.Goals.{Then-k-lead, Then-j-a, Else-j-a, Start}

@@ -1,5 +1,4 @@
 use mathlib.Core.Path.{sym, ap, ◌∙◌}
-use borrow.Author.Rules.{rules}
 use Rattle.symbol.specs.Outgoing.{sent_of, answer_of}
 use Rattle.symbol.proofs.Picked.{picked}
 use Rattle.symbol.proofs.answer.Goals as goal

@@ -1,6 +1,5 @@
 use native.Mathlib.Omega.{arith}
 use borrow.Author.Tests.{eq-eqb, ne_eqb}
-use mathlib.Core.Path.{refl}
 use Rattle.grid.proofs.UplinkGrid.subcarriers.Goals as goal
 
 pub returns-then-spacing-eq0 : goal.returns-then-spacing-eq0

@@ -1,5 +1,4 @@
 use mathlib.Core.Path.{◌∙◌}
-use borrow.Author.Rules.{rules}
 use borrow.Author.Tests.{lt-ltb, le-ltb}
 use Rattle.grid.specs.Tables.{downlink_delay}
 use Rattle.grid.proofs.tables.downlink_delay.Goals as goal
