@@ -2,9 +2,9 @@
 use mathlib.Core.Bool.{Bool, true, false, not, cond, ◌&&◌, ◌||◌, and-true}
 use mathlib.Core.Path.{◌≡◌, refl, sym, ap, ◌∙◌}
 use mathlib.Core.Logic.{⊎_elim}
-use Prim.Native.Nat.{ℕ, ◌+◌, ◌*◌, ◌≤◌, ◌<◌}
+use Prim.Native.Nat.{ℕ, ◌+◌, ◌≤◌, ◌<◌}
 use native.Mathlib.Omega.{arith}
-use lib.Dec.{eqb, ltb, leb}
+use lib.Dec.{ltb, leb}
 use borrow.Author.Tests.{ltb-true, leb-true, le-leb, lt-ltb, ne_eqb}
 use Rattle.counting.specs.Counting.{rank, in_range}
 use Rattle.counting.specs.Scaffold.{Lists}
@@ -13,7 +13,6 @@ use Rattle.counting.proofs.Range.{in_range_lem}
 use Rattle.counting.proofs.Rank.{rank_le, rank_same, rank_strict}
 use Rattle.counting.proofs.Select.{lists_below}
 use Rattle.grid.specs.Grid.{subcarriers, elements, element_of, slot_of, symbol_of, subcarrier_of}
-use Rattle.elements.specs.Elements.{ncce_width}
 use Rattle.elements.specs.declared.Layout.{Layout}
 use Rattle.elements.specs.declared.ElementUse.{ElementUse}
 use Rattle.elements.specs.declared.ElementUse.TheVariants.{Used, Unused}

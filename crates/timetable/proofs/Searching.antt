@@ -1,11 +1,10 @@
 -- The search over periods: a scan of one period finds the subframe, or says how many a period has.
-use mathlib.Core.Bool.{Bool, true, false, ◌&&◌}
+use mathlib.Core.Bool.{Bool, true}
 use mathlib.Core.Path.{◌≡◌, refl, sym, ap, subst, ◌∙◌}
 use mathlib.Core.Logic.{⊎_elim}
 use Prim.Native.Nat.{ℕ, ◌+◌, ◌-◌, ◌*◌, ◌/◌, ◌%◌, ◌^◌, ◌≤◌, ◌<◌}
 use native.Mathlib.Nat.{mul-add, add-mul, one-mul, mul-zero, mod-lt, div-add-mod', mod-add-div'}
 use native.Mathlib.Omega.{arith}
-use lib.Dec.{leb}
 use Rattle.counting.specs.Counting.{rank, count, select}
 use Rattle.counting.specs.Scaffold.{Nth}
 use Rattle.counting.proofs.Facts.{order}
@@ -22,7 +21,7 @@ use Rattle.units.specs.declared.Spot.{Spot}
 use Rattle.timetable.specs.declared.Sought.{Sought}
 use Rattle.timetable.specs.declared.Hit.{Hit}
 use Rattle.messages.specs.Messages.{all_periods, are_listed, remaining}
-use Rattle.units.specs.Quick.{timetable_of, begin_of, unit_need, wants_in, Serves, Exact, Allowing, SpotAt}
+use Rattle.units.specs.Quick.{begin_of, unit_need, wants_in, Serves, Exact, Allowing, SpotAt}
 use Rattle.timetable.specs.Quick.{Scanned, SightAt, moved, Hits, Sighted, Struck, SoughtAt}
 use Rattle.messages.proofs.Repeating.{repeats_at_last, remaining_free}
 use Rattle.units.proofs.Finding.{base_repeats, far, allowing, remaining_again}

@@ -1,6 +1,6 @@
 -- What remains, asked at any subframe: whole periods are taken off, and the unit in which it lies says the rest.
-use mathlib.Core.Bool.{Bool, true, false, ◌&&◌}
-use mathlib.Core.Path.{◌≡◌, refl, sym, ap, ◌∙◌}
+use mathlib.Core.Bool.{Bool, true, ◌&&◌}
+use mathlib.Core.Path.{◌≡◌, sym, ap, ◌∙◌}
 use Prim.Native.Nat.{ℕ, ◌+◌, ◌-◌, ◌*◌, ◌/◌, ◌%◌, ◌^◌, ◌≤◌, ◌<◌}
 use native.Mathlib.Nat.{mod-lt, div-add-mod', le-div_iff_mul-le, mul_assoc, mul_comm, mul-le-mul_left}
 use native.Mathlib.Omega.{arith}

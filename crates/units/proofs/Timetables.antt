@@ -1,7 +1,7 @@
 -- A listed schedule counted in units of 2^k frames, k that of the shortest distance of copies: its numbers, and its places.
 use mathlib.Core.Bool.{Bool, true, false, ◌&&◌}
 use mathlib.Core.Path.{◌≡◌, refl, sym, ap, subst, ◌∙◌}
-use mathlib.Core.Logic.{◌⊎◌, ⊎_elim}
+use mathlib.Core.Logic.{⊎_elim}
 use Prim.Native.Nat.{ℕ, min, max, ◌+◌, ◌-◌, ◌*◌, ◌/◌, ◌^◌, ◌≤◌}
 use native.Mathlib.Nat.{mul_assoc, mul_comm, mod-lt, le_of_mul-le-mul_left}
 use native.Mathlib.Omega.{arith}

@@ -1,10 +1,5 @@
 -- The first byte at the top; ten bits four times.
-use mathlib.Core.Path.{◌≡◌, sym, ◌∙◌}
-use Prim.Native.Nat.{ℕ, ◌≤◌}
 use native.Mathlib.Omega.{arith}
-use lib.ListN.{length}
-use borrow.Author.Rules.{rules}
-use Rattle.bitmap.specs.Bitmap.{bytes_of}
 use Rattle.bitmap.proofs.Forty.{five_bytes, forty_bits, some_bytes, loaded_none, loaded_ten, loaded_forty}
 use Rattle.bitmap.proofs.load.Goals as goal
 

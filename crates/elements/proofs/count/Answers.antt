@@ -1,11 +1,10 @@
-use mathlib.Core.Path.{◌≡◌, sym, ◌∙◌}
-use Prim.Native.Nat.{◌-◌, ◌*◌, ◌≤◌}
+use mathlib.Core.Path.{◌≡◌, sym}
 use native.Mathlib.Omega.{arith}
 use Rattle.counting.proofs.Rank.{rank_le}
 use Rattle.grid.specs.Grid.{elements}
 use Rattle.elements.specs.Elements.{used}
 use Rattle.elements.specs.Quick.{rows, six_in_rows}
-use Rattle.elements.proofs.Closed.{closed, six_mono, rows_second, rows_counted}
+use Rattle.elements.proofs.Closed.{closed, rows_second, rows_counted}
 use Rattle.elements.proofs.count.Goals.{After-closed_count}
 use Rattle.elements.proofs.count.Goals as goal
 

@@ -1,7 +1,6 @@
 use mathlib.Core.Path.{◌≡◌, ◌∙◌}
 use Prim.Native.Nat.{◌+◌}
 use native.Mathlib.Omega.{arith}
-use borrow.Author.Rules.{rules}
 use Rattle.elements.specs.Quick.{six_before}
 use Rattle.elements.proofs.Marked.{free_some}
 use Rattle.elements.proofs.Closed.{six_at}

@@ -1,7 +1,6 @@
 use mathlib.Core.Path.{refl}
 use Prim.Native.Nat.{◌*◌, ◌≤◌}
 use native.Mathlib.Omega.{arith}
-use borrow.Author.Rules.{rules}
 use Rattle.references.proofs.Held.{held}
 use Rattle.elements.proofs.nth_in.Goals.{After-one-upper}
 use Rattle.elements.proofs.nth_in.Goals as goal

@@ -1,5 +1,4 @@
 use mathlib.Core.Path.{refl}
-use borrow.Author.Rules.{rules}
 use Rattle.elements.specs.Quick.{sums_of}
 use Rattle.elements.proofs.sums.Goals as goal
 

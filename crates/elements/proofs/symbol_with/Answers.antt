@@ -2,7 +2,6 @@ use mathlib.Core.Path.{sym, subst}
 use Prim.Native.Nat.{ℕ, ◌+◌, ◌-◌, ◌*◌, ◌%◌, ◌^◌, ◌≤◌, ◌<◌}
 use native.Mathlib.Omega.{arith}
 use lib.Bits.{and_le_l}
-use borrow.Author.Rules.{rules}
 use Rattle.grid.specs.Grid.{symbols}
 use Rattle.elements.proofs.Closed.{once, highest, passed_of, symbol_with, Lies, symbol_found, bytes_low, six_few}
 use Rattle.elements.proofs.symbol_with.Goals.{Start}

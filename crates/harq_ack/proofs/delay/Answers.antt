@@ -1,6 +1,5 @@
 use mathlib.Core.Path.{ap₂, ◌∙◌}
 use Prim.Native.Nat.{ℕ}
-use borrow.Author.Rules.{rules}
 use Rattle.numerology.specs.Numerology.{by_spacing}
 use Rattle.harq_ack.specs.Fields.{delay_of}
 use Rattle.harq_ack.proofs.Accepting.{by_fours_lem}

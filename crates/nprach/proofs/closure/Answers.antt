@@ -4,7 +4,6 @@ use Prim.Native.Nat.{◌+◌, ◌-◌, ◌*◌}
 use native.Mathlib.Nat.{div-div-eq-div-mul}
 use native.Mathlib.Omega.{arith}
 use borrow.Author.Rules.{rules}
-use borrow.Author.Tests.{not-true, not-false}
 use Rattle.counting.proofs.Facts.{both_parts}
 use Rattle.nprach.specs.Windows.{units_of_ms, shares_tone}
 use Rattle.nprach.specs.Quick.{closure_of}

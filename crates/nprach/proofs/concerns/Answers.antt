@@ -1,6 +1,5 @@
 use mathlib.Core.Path.{refl}
 use native.Mathlib.Omega.{arith}
-use borrow.Author.Tests.{not-true, not-false}
 use Rattle.nprach.proofs.Listing.{numbers}
 use Rattle.nprach.proofs.concerns.Goals as goal
 

@@ -1,7 +1,6 @@
 use mathlib.Core.Bool.{true}
 use mathlib.Core.Path.{◌≡◌, sym, ◌∙◌}
 use native.Mathlib.Omega.{arith}
-use borrow.Author.Tests.{not-true, not-false}
 use Rattle.sending.specs.Answer.{refused_back}
 use Rattle.uplink.specs.Scaffold.{back_in}
 use Rattle.nprach.specs.Windows.{are_listed}

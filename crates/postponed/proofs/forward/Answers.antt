@@ -1,7 +1,6 @@
 use mathlib.Core.Bool.{true}
 use mathlib.Core.Path.{◌≡◌, sym, ◌∙◌}
 use native.Mathlib.Omega.{arith}
-use borrow.Author.Tests.{not-true, not-false}
 use Rattle.uplink.specs.Answers.{refused_place}
 use Rattle.uplink.specs.Scaffold.{place_in}
 use Rattle.nprach.specs.Windows.{are_listed}

@@ -1,7 +1,6 @@
 use mathlib.Core.Bool.{true}
 use mathlib.Core.Path.{◌≡◌, sym, ◌∙◌}
 use native.Mathlib.Omega.{arith}
-use borrow.Author.Tests.{not-true, not-false}
 use Rattle.sending.specs.Answer.{extent_of}
 use Rattle.uplink.specs.Answers.{refused_plan, plan_shown}
 use Rattle.nprach.specs.Windows.{are_listed}

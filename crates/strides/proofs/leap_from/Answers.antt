@@ -1,18 +1,13 @@
 use mathlib.Core.Bool.{true, false}
-use mathlib.Core.Path.{◌≡◌, refl, sym, ap, subst, ◌∙◌}
-use Prim.Native.Nat.{ℕ, ◌+◌, ◌-◌, ◌≤◌, ◌<◌}
+use mathlib.Core.Path.{◌≡◌, sym, ap, subst, ◌∙◌}
+use Prim.Native.Nat.{ℕ, ◌+◌, ◌≤◌, ◌<◌}
 use native.Mathlib.Omega.{arith}
 use mir.Val.{bool_byte}
-use borrow.Author.Rules.{rules}
 use Rattle.spans.specs.Pattern.{allows}
 use Rattle.units.specs.declared.Lane.{Lane}
 use Rattle.strides.specs.declared.Leap.{Leap}
-use Rattle.strides.specs.declared.Stride.{Stride}
-use Rattle.strides.specs.declared.Kept.{Kept}
 use Rattle.strides.specs.declared.Whose.{Whose}
-use Rattle.strides.specs.declared.Stretch.TheVariants.{Alone, Busy}
-use Rattle.strides.specs.declared.Stretch.TheVariants as stretch
-use Rattle.strides.specs.Quick.{lane_at, Apart, Keeps, Quiet, Stretches, Strode, past_of, Leapt}
+use Rattle.strides.specs.Quick.{lane_at, Apart, Keeps, Quiet, Strode, Leapt}
 use Rattle.strides.proofs.Striding.{past_leaps, past_keeps}
 use Rattle.strides.proofs.leap_from.Goals.{In-Quiet, After-lane_at-units, In-Alone, After-kept_of, After-keep-k, In-Busy}
 use Rattle.strides.proofs.leap_from.Goals as goal

@@ -1,4 +1,3 @@
-use Prim.Native.Nat.{◌-◌}
 use native.Mathlib.Omega.{arith}
 use Rattle.units.proofs.Lanes.{place_on, short}
 use Rattle.strides.proofs.quiet.Goals as goal

@@ -1,4 +1,3 @@
-use borrow.Author.Rules.{rules}
 use borrow.Author.Tests.{lt-ltb, le-ltb}
 use Rattle.subframes.specs.Subframes.{messages_in}
 use Rattle.subframes.proofs.messages_in.Goals as goal

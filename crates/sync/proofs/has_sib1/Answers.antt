@@ -1,7 +1,6 @@
 use mathlib.Core.Path.{◌≡◌}
 use Prim.Native.Nat.{◌%◌}
 use native.Mathlib.Omega.{arith}
-use borrow.Author.Rules.{rules}
 use Rattle.sync.proofs.has_sib1.Goals.{Else-k-eq1}
 use Rattle.sync.proofs.has_sib1.Goals as goal
 

@@ -1,8 +1,6 @@
 use Prim.Native.Nat.{ℕ, zero, suc, ◌%◌}
 use mathlib.Core.Path.{◌≡◌, refl}
 use native.Mathlib.Omega.{arith}
-use borrow.Author.Rules.{rules}
-use borrow.Author.Tests.{eq-eqb, ne_eqb}
 use Rattle.sync.specs.Quick.{anchor_pattern}
 use Rattle.sync.proofs.pattern.Goals.{Else-k-eq1, Else-identity-eq0}
 use Rattle.sync.proofs.pattern.Goals as goal

@@ -1,13 +1,11 @@
-use mathlib.Core.Path.{◌≡◌, refl, sym, ap, subst}
-use Prim.Native.Nat.{ℕ, ◌-◌, ◌^◌, ◌≤◌, ◌<◌}
+use mathlib.Core.Path.{◌≡◌}
+use Prim.Native.Nat.{◌^◌, ◌≤◌, ◌<◌}
 use native.Mathlib.Nat.{mul-le-mul}
 use native.Mathlib.Omega.{arith}
 use Rattle.spans.specs.Pattern.{allows}
 use Rattle.messages.specs.declared.Messages.{Messages}
 use Rattle.units.specs.declared.Sight.{Sight}
-use Rattle.counting.specs.Counting.{rank}
-use Rattle.messages.specs.Messages.{remaining}
-use Rattle.units.specs.Quick.{begin_of, Serves, Exact, Small}
+use Rattle.units.specs.Quick.{begin_of, Serves, Exact}
 use Rattle.timetable.specs.Quick.{Scanned}
 use Rattle.strides.proofs.Apart.{none_keeps}
 use Rattle.timetable.proofs.Searching.{passed_all}

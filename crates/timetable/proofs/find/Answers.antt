@@ -8,7 +8,7 @@ use Rattle.spans.specs.Pattern.{allows}
 use Rattle.messages.specs.declared.Messages.{Messages}
 use Rattle.messages.specs.Messages.{remaining}
 use Rattle.units.specs.declared.Sight.{Sight}
-use Rattle.units.specs.Quick.{begin_of, Serves, Exact}
+use Rattle.units.specs.Quick.{Serves, Exact}
 use Rattle.timetable.specs.Quick.{moved}
 use Rattle.timetable.proofs.Searching.{passed, found_early, whole_again}
 use Rattle.timetable.proofs.find.Goals.{Else-once-end, After-reach-r, Start, After-quotient-whole, After-reach-again}

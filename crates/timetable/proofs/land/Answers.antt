@@ -1,8 +1,6 @@
-use mathlib.Core.Path.{◌≡◌, sym, ap, ◌∙◌}
 use Prim.Native.Nat.{ℕ, ◌+◌, ◌^◌, ◌≤◌, ◌<◌}
 use native.Mathlib.Omega.{arith}
 use native.Mathlib.Nat.{mul-le-mul}
-use Rattle.counting.specs.Counting.{rank}
 use Rattle.counting.proofs.Rank.{rank_zero, rank_le}
 use Rattle.counting.proofs.Select.{nth_of}
 use Rattle.counting.proofs.Period.{is_select, select_below}

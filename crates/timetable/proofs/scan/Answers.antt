@@ -1,14 +1,5 @@
-use mathlib.Core.Path.{◌≡◌, refl, ◌∙◌}
-use Prim.Native.Nat.{ℕ, ◌+◌, ◌-◌, ◌≤◌}
+use mathlib.Core.Path.{refl, ◌∙◌}
 use native.Mathlib.Omega.{arith}
-use Rattle.counting.specs.Counting.{rank}
-use Rattle.spans.specs.Pattern.{allows}
-use Rattle.messages.specs.declared.Messages.{Messages}
-use Rattle.messages.specs.Messages.{remaining}
-use Rattle.units.specs.declared.Wants.{Wants}
-use Rattle.units.specs.Quick.{begin_of, Small, Serves, Exact}
-use Rattle.strides.specs.Quick.{Keeps}
-use Rattle.timetable.proofs.scan.Invariants.{wanted}
 use Rattle.timetable.proofs.scan.Goals as goal
 
 pub returns-then-found : goal.returns-then-found

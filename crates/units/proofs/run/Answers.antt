@@ -1,11 +1,11 @@
-use mathlib.Core.Path.{◌≡◌, sym, ap, ap₂, subst, ◌∙◌}
-use Prim.Native.Nat.{ℕ, suc, ◌+◌, ◌-◌, ◌≤◌}
+use mathlib.Core.Path.{◌≡◌, sym, ap, ap₂, ◌∙◌}
+use Prim.Native.Nat.{ℕ, suc, ◌+◌, ◌-◌}
 use native.Mathlib.Omega.{arith}
 use Rattle.counting.specs.Counting.{rank, count}
 use Rattle.spans.specs.Pattern.{allows}
 use Rattle.units.specs.declared.Wants.{Wants}
 use Rattle.units.specs.declared.UnitStep.{UnitStep}
-use Rattle.units.specs.Quick.{begin_of, unit_step_of, Small, wants_from, rest_from}
+use Rattle.units.specs.Quick.{begin_of, unit_step_of, wants_from, rest_from}
 use Rattle.units.proofs.Lanes.{run_none, run_on, unit_free}
 use Rattle.units.proofs.run.Goals.{After-free_before-next, In-loop-n, At-loop-n, Start, After-pass-r}
 use Rattle.units.proofs.run.Invariants.{wanted}

@@ -1,12 +1,9 @@
-use mathlib.Core.Path.{◌≡◌, sym, ap, ap₂, subst, ◌∙◌}
-use Prim.Native.Nat.{ℕ, suc, ◌+◌, ◌-◌, ◌≤◌}
-use native.Mathlib.Omega.{arith}
-use Rattle.counting.specs.Counting.{rank, count}
+use mathlib.Core.Path.{◌≡◌}
+use Prim.Native.Nat.{ℕ, ◌+◌, ◌-◌, ◌≤◌}
+use Rattle.counting.specs.Counting.{rank}
 use Rattle.spans.specs.Pattern.{allows}
 use Rattle.units.specs.declared.Wants.{Wants}
-use Rattle.units.specs.declared.UnitStep.{UnitStep}
-use Rattle.units.specs.Quick.{begin_of, unit_step_of, Small, wants_from, rest_from}
-use Rattle.units.proofs.Lanes.{run_none, run_on, unit_free}
+use Rattle.units.specs.Quick.{begin_of, Small, wants_from, rest_from}
 use Rattle.units.proofs.run.Given as goal
 
 abbrev pub wanted : ℕ → ℕ → ℕ → ℕ → Wants

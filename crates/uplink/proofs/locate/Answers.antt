@@ -1,5 +1,4 @@
 use mathlib.Core.Path.{sym, subst}
-use borrow.Author.Rules.{rules}
 use Rattle.uplink.specs.declared.SentIndex.{SentIndex}
 use Rattle.uplink.specs.Scaffold.{all_open}
 use Rattle.uplink.specs.Quick.{Located}

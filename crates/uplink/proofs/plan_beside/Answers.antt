@@ -1,6 +1,5 @@
 use mathlib.Core.Path.{ap, ◌∙◌}
 use Prim.Native.Nat.{ℕ, ◌-◌}
-use borrow.Author.Rules.{rules}
 use Rattle.closures.specs.Closures.{clear}
 use Rattle.uplink.specs.Timing.{slot_at}
 use Rattle.uplink.proofs.plan_beside.Goals as goal

@@ -1,7 +1,6 @@
 use mathlib.Core.Path.{ap, ◌∙◌}
 use Prim.Native.Nat.{ℕ, ◌+◌}
 use native.Mathlib.Omega.{arith}
-use borrow.Author.Rules.{rules}
 use Rattle.grid.proofs.Rules.{uplink_delay_bound}
 use Rattle.numerology.specs.Numerology.{first_after}
 use Rattle.npusch.proofs.fields.start.Goals as goal

@@ -1,15 +1,8 @@
-use mathlib.Core.Path.{◌≡◌, sym, ap, ◌∙◌}
-use mathlib.Core.Logic.{⊎_elim}
-use Prim.Native.Nat.{◌+◌, ◌-◌, ◌*◌, ◌<◌}
-use native.Mathlib.Nat.{zero-mul, add-mul, one-mul, mul-le-mul_right}
-use native.Mathlib.Omega.{arith}
+use mathlib.Core.Path.{◌≡◌}
+use Prim.Native.Nat.{◌+◌, ◌-◌, ◌*◌}
 use Rattle.counting.specs.Counting.{rank}
-use Rattle.counting.proofs.Facts.{order}
-use Rattle.counting.proofs.Rank.{rank_zero, rank_later}
-use Rattle.counting.proofs.Select.{is_select_below}
-use Rattle.grid.specs.Grid.{symbols, uplink_elements, uplink_element_of, uplink_symbol_of, uplink_subcarrier_of}
-use Rattle.grid.proofs.Numbering.{uplink_symbol_of_lem, uplink_subcarrier_of_lem}
-use Rattle.uplink.specs.Elements.{carries_data, slot_data, element_at}
+use Rattle.grid.specs.Grid.{symbols}
+use Rattle.uplink.specs.Elements.{carries_data}
 use Rattle.plain_uplink.proofs.elements.nth.Given as goal
 
 abbrev pub invariant-loop-s : goal.invariant-loop-s

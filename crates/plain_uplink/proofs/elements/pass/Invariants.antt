@@ -1,11 +1,6 @@
-use mathlib.Core.Path.{◌≡◌, sym, ap, ◌∙◌}
+use mathlib.Core.Path.{◌≡◌}
 use Prim.Native.Nat.{◌+◌, ◌-◌, ◌*◌, ◌≤◌}
-use native.Mathlib.Omega.{arith}
-use borrow.Author.Rules.{rules}
-use mir.Val.{bool_byte}
 use Rattle.counting.specs.Counting.{rank}
-use Rattle.counting.proofs.Facts.{byte_some}
-use Rattle.counting.proofs.Select.{scan_on}
 use Rattle.grid.specs.Grid.{uplink_element_of}
 use Rattle.uplink.specs.Elements.{carries_data}
 use Rattle.plain_uplink.proofs.elements.pass.Given as goal

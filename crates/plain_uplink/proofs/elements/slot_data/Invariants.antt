@@ -1,12 +1,8 @@
-use mathlib.Core.Path.{◌≡◌, sym, ap, ◌∙◌}
-use Prim.Native.Nat.{ℕ, ◌+◌, ◌-◌, ◌*◌, ◌≤◌}
-use native.Mathlib.Nat.{zero-mul, mul-le-mul_right}
-use native.Mathlib.Omega.{arith}
+use mathlib.Core.Path.{◌≡◌}
+use Prim.Native.Nat.{◌-◌, ◌*◌, ◌≤◌}
 use Rattle.counting.specs.Counting.{rank}
-use Rattle.counting.proofs.Rank.{rank_zero, rank_le}
 use Rattle.grid.specs.Grid.{symbols}
-use Rattle.uplink.specs.Elements.{carries_data, slot_data}
-use Rattle.uplink.proofs.Lines.{some_data, slot_data_small}
+use Rattle.uplink.specs.Elements.{carries_data}
 use Rattle.plain_uplink.proofs.elements.slot_data.Given as goal
 
 abbrev pub invariant-loop-l : goal.invariant-loop-l

@@ -1,12 +1,6 @@
-use mathlib.Core.Path.{◌≡◌, ap, ◌∙◌}
+use mathlib.Core.Path.{◌≡◌}
 use Prim.Native.Nat.{◌+◌, ◌-◌, ◌*◌, ◌≤◌}
-use native.Mathlib.Nat.{add-mul, one-mul, mul-le-mul_right, le_of_lt}
-use native.Mathlib.Omega.{arith}
-use borrow.Author.Rules.{rules}
-use mir.Val.{bool_byte}
 use Rattle.counting.specs.Counting.{rank}
-use Rattle.counting.proofs.Facts.{byte_le}
-use Rattle.counting.proofs.Rank.{rank_on, rank_le}
 use Rattle.grid.specs.Grid.{uplink_element_of}
 use Rattle.uplink.specs.Elements.{carries_data}
 use Rattle.plain_uplink.proofs.elements.symbol_data.Given as goal

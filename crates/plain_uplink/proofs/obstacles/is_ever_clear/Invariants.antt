@@ -1,11 +1,6 @@
-use mathlib.Core.Path.{◌≡◌, sym, ap, ◌∙◌}
+use mathlib.Core.Path.{◌≡◌}
 use Prim.Native.Nat.{◌-◌, ◌/◌, ◌≤◌}
-use native.Mathlib.Nat.{div-le_self}
-use native.Mathlib.Omega.{arith}
-use borrow.Author.Tests.{lt-ltb, le-ltb}
-use mir.Val.{bool_byte}
 use Rattle.counting.specs.Counting.{rank}
-use Rattle.counting.proofs.Rank.{rank_zero, rank_on, rank_strict}
 use Rattle.nprach.specs.Windows.{all_periods}
 use Rattle.plain_uplink.specs.Obstacles.{clear_of}
 use Rattle.plain_uplink.proofs.obstacles.is_ever_clear.Given as goal

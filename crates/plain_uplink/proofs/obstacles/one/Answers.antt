@@ -1,7 +1,6 @@
 use mathlib.Core.Bool.{true, ◌&&◌}
 use mathlib.Core.Path.{◌≡◌, refl, sym, ap, ◌∙◌}
 use native.Mathlib.Omega.{arith}
-use borrow.Author.Tests.{not-true, not-false}
 use mir.Val.{bool_byte}
 use Rattle.counting.proofs.Facts.{both_parts}
 use Rattle.nprach.specs.Windows.{shares_tone}

@@ -2,7 +2,6 @@ use mathlib.Core.Bool.{Bool, true}
 use mathlib.Core.Path.{◌≡◌, refl, sym, ap, ap₂, ◌∙◌}
 use Prim.Native.Nat.{ℕ, ◌/◌}
 use lib.Dec.{ltb}
-use borrow.Author.Tests.{not-true, not-false}
 use Rattle.counting.specs.Counting.{rank}
 use Rattle.nprach.specs.Windows.{all_periods, are_listed, windows_refusal}
 use Rattle.numerology.specs.Numerology.{group_ms}

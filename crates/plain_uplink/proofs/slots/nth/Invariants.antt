@@ -1,16 +1,9 @@
-use mathlib.Core.Bool.{Bool}
-use mathlib.Core.Path.{◌≡◌, sym, ap, ◌∙◌}
-use Prim.Native.Nat.{ℕ, ◌+◌, ◌-◌, ◌%◌, ◌^◌, ◌≤◌, ◌<◌}
-use native.Mathlib.Nat.{zero-mod, mod-lt}
-use native.Mathlib.Omega.{arith}
-use borrow.Author.Rules.{rules}
-use mir.Val.{bool_byte}
+use mathlib.Core.Path.{◌≡◌}
+use Prim.Native.Nat.{◌+◌, ◌-◌, ◌%◌, ◌≤◌}
 use Rattle.counting.specs.Counting.{rank}
-use Rattle.counting.proofs.Facts.{byte_some}
-use Rattle.counting.proofs.Rank.{rank_zero, rank_on}
 use Rattle.uplink.specs.Timing.{gap_period, active}
 use Rattle.plain_uplink.specs.Obstacles.{clear_of}
-use Rattle.plain_uplink.proofs.SlotSteps.{tested, next_slot, next_rest, goal, goal_small, arrived, not_yet}
+use Rattle.plain_uplink.proofs.SlotSteps.{goal}
 use Rattle.plain_uplink.proofs.slots.nth.Given as goal
 
 abbrev pub invariant-loop-left : goal.invariant-loop-left

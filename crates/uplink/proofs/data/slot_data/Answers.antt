@@ -1,5 +1,4 @@
 use native.Mathlib.Omega.{arith}
-use borrow.Author.Rules.{rules}
 use Rattle.uplink.proofs.Lines.{slot_data_lem, some_data, slot_data_small}
 use Rattle.uplink.proofs.data.slot_data.Goals as goal
 

@@ -1,7 +1,6 @@
 use Prim.Native.Nat.{◌+◌, ◌-◌, ◌%◌, ◌<◌}
 use native.Mathlib.Nat.{mod-lt}
 use native.Mathlib.Omega.{arith}
-use borrow.Author.Rules.{rules}
 use Rattle.uplink.proofs.Grouped.{some_round, gap_usable}
 use Rattle.uplink.proofs.timing.gap_closure.Goals.{After-over_group-period}
 use Rattle.uplink.proofs.timing.gap_closure.Goals as goal

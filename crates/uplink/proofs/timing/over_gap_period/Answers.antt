@@ -1,7 +1,6 @@
 use mathlib.Core.Path.{ap, sym, ◌∙◌}
 use Prim.Native.Nat.{ℕ, ◌/◌}
 use native.Mathlib.Nat.{div-div-eq-div-mul}
-use borrow.Author.Rules.{rules}
 use Rattle.uplink.proofs.timing.over_gap_period.Goals as goal
 
 pub returns-then-period-eq148 : goal.returns-then-period-eq148

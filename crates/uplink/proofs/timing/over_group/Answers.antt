@@ -1,7 +1,6 @@
 use mathlib.Core.Path.{ap, sym, ◌∙◌}
 use Prim.Native.Nat.{ℕ, ◌/◌}
 use native.Mathlib.Nat.{div-one}
-use borrow.Author.Rules.{rules}
 use Rattle.uplink.proofs.timing.over_group.Goals as goal
 
 pub returns-then-group-eq1 : goal.returns-then-group-eq1
