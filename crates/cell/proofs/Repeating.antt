@@ -18,7 +18,7 @@ use Rattle.bitmap.proofs.Forty.{allowed_forty}
 use Rattle.sync.specs.Sync.{by_schedule}
 use Rattle.sync.specs.Quick.{anchor_pattern}
 use Rattle.sync.proofs.Taken.{taken, anchor_regular, anchor_allows}
-use Rattle.messages.specs.Messages.{are_listed, remaining}
+use Rattle.messages.specs.Messages.{are_listed}
 use Rattle.messages.proofs.Repeating.{remaining_again}
 use Rattle.cell.specs.declared.CellConfig.{CellConfig}
 use Rattle.cell.specs.declared.Cell.{Cell}

@@ -1,24 +1,21 @@
 -- The masks of a well-formed cell say of each subframe whether it is free, and what is left in the pattern is what is usable.
 use mathlib.Core.Bool.{Bool, true, false, cond, not, ◌&&◌}
 use mathlib.Core.List.{List}
-use mathlib.Core.Path.{◌≡◌, refl, sym, ap, ap₂, ◌∙◌, subst, fun_ext}
-use mathlib.Core.Logic.{◌⊎◌, inl, inr, ⊎_elim}
-use Prim.Native.Nat.{ℕ, zero, suc, ◌+◌, ◌-◌, ◌*◌, ◌/◌, ◌%◌, ◌^◌, ◌≤◌, ◌<◌}
-use native.Mathlib.Nat.{mul-pos, zero-add, zero-mul, mul-zero}
+use mathlib.Core.Path.{◌≡◌, refl, sym, ap, ap₂, ◌∙◌, fun_ext}
+use mathlib.Core.Logic.{⊎_elim}
+use Prim.Native.Nat.{ℕ, ◌+◌, ◌-◌, ◌*◌, ◌/◌, ◌%◌, ◌<◌}
+use native.Mathlib.Nat.{zero-add}
 use native.Mathlib.Omega.{arith}
 use lib.Bits.{bit_and, and_le_l}
 use lib.Count.{ones}
-use lib.Dec.{eqb}
-use lib.ListN.{take}
-use borrow.Author.Tests.{eq-eqb, ne_eqb}
-use Rattle.counting.specs.Counting.{rank, select}
+use Rattle.counting.specs.Counting.{rank}
 use Rattle.counting.proofs.Facts.{order}
 use Rattle.counting.proofs.Rank.{rank_zero}
 use Rattle.counting.proofs.Ones.{and_bits, span_all}
-use Rattle.counting.proofs.Period.{rank_whole, repeats_times, select_same}
+use Rattle.counting.proofs.Period.{rank_whole}
 use Rattle.spans.specs.declared.Pattern.{Pattern}
-use Rattle.spans.specs.Pattern.{span, mask_bit, with_sib1, mask_at, allows, period_of, Regular}
-use Rattle.spans.proofs.Laws.{ones_none, ones_some, mask_bits, repeats}
+use Rattle.spans.specs.Pattern.{span, mask_bit, with_sib1, mask_at, allows}
+use Rattle.spans.proofs.Laws.{ones_none, ones_some, mask_bits}
 use Rattle.bitmap.specs.Bitmap.{allowed}
 use Rattle.bitmap.specs.Quick.{Loaded, BitmapFits}
 use Rattle.bitmap.proofs.Forty.{allowed_forty, allowed_front}

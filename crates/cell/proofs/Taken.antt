@@ -1,14 +1,12 @@
 -- What is free by what the anchor takes, what is usable by what messages take, and the cause once usability is known.
 use mathlib.Core.Bool.{Bool, true, false, cond, not, ◌&&◌, ◌||◌}
 use mathlib.Core.List.{List}
-use mathlib.Core.Path.{◌≡◌, refl, sym, ap, ◌∙◌}
-use mathlib.Core.Logic.{◌⊎◌, inl, inr}
+use mathlib.Core.Path.{◌≡◌, refl, ap, ◌∙◌}
 use Prim.Native.Nat.{ℕ}
 use native.Mathlib.Omega.{arith}
 use lib.Dec.{ltb}
 use mir.Val.{bool_byte}
 use borrow.Author.Tests.{ltb-false, eq-eqb, ne_eqb}
-use Rattle.counting.proofs.Facts.{truth}
 use Rattle.bitmap.specs.Bitmap.{allowed}
 use Rattle.sync.specs.Sync.{npbch, npss, nsss, sib1}
 use Rattle.sync.proofs.Taken.{taken}

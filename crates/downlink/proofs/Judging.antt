@@ -1,7 +1,7 @@
 -- A question judged: by the cell, then by the grant.
 use mathlib.Core.Bool.{Bool, true, false, cond, not}
 use mathlib.Core.List.{List}
-use mathlib.Core.Path.{◌≡◌, refl, sym, ap, ◌∙◌, subst}
+use mathlib.Core.Path.{◌≡◌, sym, ap, ◌∙◌, subst}
 use Prim.Native.Nat.{ℕ, ◌≤◌}
 use native.Mathlib.Omega.{arith}
 use lib.Dec.{eqb, ltb}
@@ -11,7 +11,7 @@ use Rattle.grid.specs.Tables.{is_repetition}
 use Rattle.cell.specs.declared.Cell.{Cell}
 use Rattle.cell.specs.declared.Verdict.{Verdict}
 use Rattle.cell.specs.Bitmap.{own_buffer, bitmap_in}
-use Rattle.cell.specs.Judge.{judge_of, cell_refusal}
+use Rattle.cell.specs.Judge.{judge_of}
 use Rattle.cell.specs.Quick.{VerdictOn}
 use Rattle.cell.proofs.Accepted.{accepted_form, form_numbers}
 use Rattle.cell.specs.Quick.{WellFormed}

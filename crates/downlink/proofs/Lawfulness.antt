@@ -1,10 +1,10 @@
 -- A burst over usable subframes is lawful.
 use mathlib.Core.Bool.{Bool}
-use mathlib.Core.Path.{◌≡◌, refl, sym, ap, ◌∙◌}
-use Prim.Native.Nat.{ℕ, ◌+◌, ◌*◌, ◌<◌}
+use mathlib.Core.Path.{◌≡◌, refl}
+use Prim.Native.Nat.{ℕ, ◌+◌, ◌<◌}
 use native.Mathlib.Nat.{mod-one}
 use native.Mathlib.Omega.{arith}
-use Rattle.counting.specs.Counting.{rank, select}
+use Rattle.counting.specs.Counting.{rank}
 use Rattle.counting.proofs.Period.{lists}
 use Rattle.sending.specs.Demand.{Lawful}
 use Rattle.sending.proofs.CopyOrder.{copied, carried_below}

@@ -1,6 +1,4 @@
-use mathlib.Core.Path.{◌≡◌}
 use borrow.Author.Tests.{eq-eqb, ne_eqb}
-use Rattle.cell.specs.Quick.{ShowsLoaded}
 use Rattle.cell.proofs.Showing.{shows_anchor, shows_other}
 use Rattle.cell.proofs.pattern.Goals as goal
 

@@ -1,16 +1,11 @@
-use mathlib.Core.Bool.{Bool, true, cond}
+use mathlib.Core.Bool.{Bool, cond}
 use mathlib.Core.List.{List}
 use mathlib.Core.Path.{◌≡◌, refl, sym, ap, ◌∙◌}
-use Prim.Native.Nat.{ℕ, ◌≤◌, ◌<◌, ◌^◌}
+use Prim.Native.Nat.{ℕ}
 use native.Mathlib.Omega.{arith}
-use borrow.Author.Rules.{rules}
-use borrow.Author.Tests.{not-true, not-false}
-use Rattle.counting.specs.Counting.{select}
-use Rattle.grid.specs.Grid.{slots, symbols, subcarriers}
 use Rattle.sending.proofs.Answer.{outside_at}
 use Rattle.spans.specs.declared.Pattern.{Pattern}
 use Rattle.spans.specs.declared.Found.{Found}
-use Rattle.spans.specs.declared.Found.TheVariants.{At}
 use Rattle.messages.specs.Messages.{all_periods}
 use Rattle.subframes.specs.Subframes.{messages_in}
 use Rattle.subframes.specs.Scaffold.{left_in}
@@ -22,7 +17,6 @@ use Rattle.spans.specs.Found.{found_among}
 use Rattle.spans.proofs.Located.{at_index, at_below, at_between, at_nothing}
 use Rattle.downlink.specs.declared.Burst.{Burst}
 use Rattle.downlink.specs.Mapping.{sent_subframes, first_of, sending_of}
-use Rattle.downlink.specs.Answers.{inside_grid}
 use Rattle.downlink.proofs.Joined.{inside_parts, backward_unsent, backward_sent}
 use Rattle.downlink.proofs.Skipped.{joined, outside_none, unmissed_none, missed_why, sent_none}
 use Rattle.downlink.proofs.burst_backward.Goals as goal

@@ -3,7 +3,6 @@ use mathlib.Core.List.{List}
 use mathlib.Core.Path.{◌≡◌, sym, ap, ◌∙◌}
 use Prim.Native.Nat.{ℕ, ◌+◌, ◌-◌}
 use native.Mathlib.Omega.{arith}
-use borrow.Author.Rules.{rules}
 use Rattle.counting.specs.Counting.{select}
 use Rattle.counting.proofs.Period.{select_from}
 use Rattle.messages.specs.Messages.{all_periods}
@@ -11,7 +10,7 @@ use Rattle.spans.specs.declared.Pattern.{Pattern}
 use Rattle.subframes.specs.Subframes.{messages_in}
 use Rattle.subframes.specs.Scaffold.{left_in}
 use Rattle.subframes.proofs.Left.{left_again}
-use Rattle.downlink.specs.Mapping.{first_of, sent_subframes}
+use Rattle.downlink.specs.Mapping.{first_of}
 use Rattle.downlink.proofs.Joined.{places_small}
 use Rattle.downlink.proofs.burst_plan.Goals.{Start}
 use Rattle.downlink.proofs.burst_plan.Goals as goal

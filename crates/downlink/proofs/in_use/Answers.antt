@@ -1,7 +1,5 @@
-use mathlib.Core.Path.{◌≡◌, sym, ap, ◌∙◌}
-use Prim.Native.Nat.{ℕ, ◌<◌}
+use mathlib.Core.Path.{sym, ap, ◌∙◌}
 use native.Mathlib.Omega.{arith}
-use borrow.Author.Rules.{rules}
 use Rattle.sending.specs.Answer.{back_of}
 use Rattle.elements.proofs.Laws.{use_used, use_unused}
 use Rattle.downlink.proofs.Joined.{content_ours, content_unused}

@@ -1,6 +1,4 @@
 use mathlib.Core.Path.{sym, ◌∙◌}
-use native.Mathlib.Omega.{arith}
-use borrow.Author.Rules.{rules}
 use Rattle.counting.proofs.Period.{select_from}
 use Rattle.messages.specs.Messages.{all_periods}
 use Rattle.subframes.specs.Subframes.{messages_in}

@@ -1,5 +1,4 @@
 use native.Mathlib.Omega.{arith}
-use borrow.Author.Rules.{rules}
 use Rattle.elements.proofs.Laws.{count_some, count_le}
 use Rattle.downlink.proofs.used_elements.Goals as goal
 
