@@ -1,8 +1,7 @@
 // What is told in words: help, and the meanings of the refusal numbers.
 ghost use Rattle.std.specs.Prelude.{◌+◌, ◌≤◌, length};
 
-use bytes::scan::find;
-use text::{Number, Page, put};
+use text::{Number, Page, find, put};
 
 // The text of docs/help.txt.
 const HELP: [u8; 6317] =

@@ -3,8 +3,8 @@
 
 ghost use Rattle.std.specs.Prelude.{◌+◌, ◌≤◌};
 
-use libc::{STDERR_FILENO, STDIN_FILENO, STDOUT_FILENO};
 use questions::{Line, Values};
+use std::io::Read;
 use text::Page;
 
 mod asking;
@@ -51,30 +51,31 @@ fn answer(
     }
 }
 
-fn complain(text: &[u8]) {
-    io::write_all(STDERR_FILENO, text);
+// What cannot be complained of is let go.
+fn complain(rt: &impl Eprint, text: &str) {
+    let _ = rt.eprintln(text);
 }
 
 // Writes the answers, and says whether they could be written.
-fn write_out(out: &Page, count: usize) -> bool
+fn write_out(rt: &(impl Print + Eprint), out: &Page, count: usize) -> bool
     requires { count ≤ 65536 }
 {
     let s: &[u8] = out;
-    let is_written = io::write_all(STDOUT_FILENO, &s[0..count]);
+    let is_written = rt.write_all(&s[0..count]).is_ok();
     if !is_written {
-        complain(b"query: answers could not be written\n");
+        complain(rt, "query: answers could not be written");
     }
     is_written
 }
 
 // Writes a full page, and says whether all is well.
-fn make_room(out: &Page, at: usize) -> bool
+fn make_room(rt: &(impl Print + Eprint), out: &Page, at: usize) -> bool
     requires { at ≤ 65536 }
 {
     if at <= FULL {
         return true;
     }
-    write_out(out, at)
+    write_out(rt, out, at)
 }
 
 // The place for the next answer: the page's start once the page is full and written.
@@ -98,6 +99,7 @@ fn one_more(lines: u64) -> u64 {
 // Takes a block of input, byte by byte, and answers each line that ends in it, until an answer cannot be written. Of a
 // line that is too long, two bytes more than the longest are kept: it is too long without a carriage return too.
 fn take_block(
+    rt: &(impl Print + Eprint),
     block: &[u8],
     line: &mut [u8; 4098],
     before: Progress,
@@ -115,7 +117,7 @@ fn take_block(
     while i < block.len() && is_well {
         let b = block[i];
         if b == b'\n' {
-            is_well = make_room(out, at);
+            is_well = make_room(rt, out, at);
             lines = one_more(lines);
             let asked = questions::without_return(questions::front(line, filled as u64));
             at = answer(asked, lines, v, anchor, other, data, out, next_place(at));
@@ -127,7 +129,7 @@ fn take_block(
         i += 1;
     }
     if is_well {
-        is_well = write_out(out, at);
+        is_well = write_out(rt, out, at);
     }
     Progress {
         begun: filled,
@@ -139,6 +141,7 @@ fn take_block(
 
 // Reads a block and takes it.
 fn turn(
+    rt: &(impl Input + Print + Eprint),
     line: &mut [u8; 4098],
     before: Progress,
     v: &mut Values,
@@ -147,26 +150,25 @@ fn turn(
     data: &mut [u8; 1024],
     out: &mut Page,
 ) -> Progress {
-    let mut block = io::large_buffer();
-    let got = libc::read(STDIN_FILENO, &mut block);
-    if got < 0 {
-        complain(b"query: the input could not be read\n");
+    let mut block = [0u8; 65536];
+    let got = rt.reader().read(&mut block);
+    if got.is_err() {
+        complain(rt, "query: the input could not be read");
     }
-    if got <= 0 {
-        return Progress {
+    match got {
+        Ok(n) if n > 0 => take_block(rt, &block[..n], line, before, v, anchor, other, data, out),
+        _ => Progress {
             begun: before.begun,
             lines: before.lines,
             is_open: false,
-            is_well: got == 0,
-        };
+            is_well: got.is_ok(),
+        },
     }
-    let n = io::count(got, &block);
-    take_block(&block[..n], line, before, v, anchor, other, data, out)
 }
 
-// The turns are counted down from a number that no input uses up, so that the loop is seen to end. A last line with no
+// The turns are counted up to a number that no input uses up, so that the loop is seen to end. A last line with no
 // newline is taken as if it had one.
-fn main() {
+fn main(rt: HostRuntime) {
     let mut line = [0u8; 4098];
     let mut v = questions::start();
     let mut anchor = [0u8; 64];
@@ -179,9 +181,9 @@ fn main() {
         is_open: true,
         is_well: true,
     };
-    let mut turns = u64::MAX;
-    while turns > 0 {
+    for _ in 0..u64::MAX {
         now = turn(
+            &rt,
             &mut line,
             now,
             &mut v,
@@ -190,10 +192,13 @@ fn main() {
             &mut data,
             &mut out,
         );
-        turns = if now.is_open { turns - 1 } else { 0 };
+        if !now.is_open {
+            break;
+        }
     }
     if now.is_well {
         take_block(
+            &rt,
             b"\n",
             &mut line,
             now,

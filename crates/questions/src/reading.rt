@@ -4,10 +4,9 @@ ghost use Rattle.std.specs.Prelude.{◌≤◌, ◌<◌, length};
 use crate::values::{
     ANCHOR, DATA, ENGINE, LEVEL, NAMED, NAMES, OTHER, ROOM, Values, W4, keep_schedule, keep_window,
 };
-use bytes::scan::find;
 use messages::Schedule;
 use nprach::Window;
-use text::{Number, part};
+use text::{Number, find, part};
 
 // The longest line, its end aside.
 const LONGEST: usize = 4096;

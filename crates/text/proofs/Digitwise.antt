@@ -1,15 +1,15 @@
 -- Laws of a decimal number that is read digit by digit.
 use mathlib.Core.Path.{◌≡◌, refl, sym, ap, ◌∙◌}
-use mathlib.Core.Bool.{Bool, true, false, cond, not, ◌&&◌, and-false}
+use mathlib.Core.Bool.{Bool, true, false, cond, ◌&&◌, and-false}
 use mathlib.Core.List.{List, [], ◌∷◌}
-use Prim.Native.Nat.{ℕ, zero, suc, ◌+◌, ◌*◌, ◌-◌, ◌≤◌, ◌<◌}
+use Prim.Native.Nat.{ℕ, ◌+◌, ◌*◌, ◌-◌, ◌≤◌, ◌<◌}
 use native.Mathlib.Omega.{arith}
 use native.Mathlib.Numerals.{add-one}
 use lib.Dec.{leb}
 use lib.ListN.{length, drop, get_or}
 use lib.Seq.{drop-cons}
 use borrow.Author.Tests.{leb-true, le-ltb, lt-ltb, eq-eqb, ne_eqb}
-use Rattle.text.specs.declared.digits.Number.{Number}
+use Rattle.std.proofs.lemmas.List.{drop_all}
 use Rattle.text.specs.declared.digits.Number.TheVariants.{Value, Bad}
 use Rattle.text.specs.Decimal.{is_digit, all_digits, followed_by, decimal_of}
 
@@ -54,12 +54,6 @@ unfolding followed_by
 grows [] x = omega arith
 grows (b ∷ s) x = let h = grows s (x * 10 + (b - 48)) in omega arith
 
-drop_all : (s : List ℕ) (i : ℕ) → length s ≤ i → drop i s ≡ []
-drop_all [] zero h = refl
-drop_all [] (suc i) h = refl
-drop_all (b ∷ s) zero h = absurd (omega arith)
-drop_all (b ∷ s) (suc i) h = drop_all s i (omega arith)
-
 -- a digit that takes the number past 2^64 - 1
 pub past : (s : List ℕ) (i x d : ℕ) → i < length s → followed_by x (drop i s) ≡ followed_by 0 s → d ≡ get_or s i 0 - 48 → 18446744073709551616 ≤ x * 10 + d → 18446744073709551616 ≤ followed_by 0 s
 past s i x d h e q o =
@@ -69,11 +63,11 @@ past s i x d h e q o =
 -- nothing is left
 pub end_digits : (s : List ℕ) (i : ℕ) → length s ≤ i → all_digits (drop i s) ≡ true
 unfolding all_digits
-end_digits s i h = ap all_digits (drop_all s i h)
+end_digits s i h = ap all_digits (drop_all i s h)
 
 pub end_followed : (s : List ℕ) (i x : ℕ) → length s ≤ i → followed_by x (drop i s) ≡ x
 unfolding followed_by
-end_followed s i x h = ap (followed_by x) (drop_all s i h)
+end_followed s i x h = ap (followed_by x) (drop_all i s h)
 
 -- the four ways to end
 pub none_read : (s : List ℕ) → length s ≡ 0 → Bad ≡ decimal_of s

@@ -32,6 +32,7 @@ pub fn decimal(s: &[u8]) -> Number
 }
 
 // A decimal digit's number; 10 for any other byte.
+#[tactic(auto, unfolding(crate::specs::Decimal::is_digit))]
 fn digit(b: u8) -> u64
     ensures { result ≡ cond (is_digit b) (b - 48) 10 }
 {

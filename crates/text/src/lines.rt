@@ -1,7 +1,20 @@
 // Parts and lines of a text.
-ghost use Rattle.std.specs.Prelude.{◌≤◌, ◌<◌, length};
+ghost use Rattle.std.specs.Prelude.{◌≡◌, ◌≢◌, ℕ, ◌≤◌, ◌<◌, length, slice_index};
 
-use bytes::scan::find;
+// The place of the first such byte of a text from a start on; the end where none stands before it.
+pub fn find(s: &[u8], start: usize, end: usize, byte: u8) -> usize
+    requires { (start ≤ end) × (end ≤ length s.now) }
+    ensures within { (start ≤ result) × (result ≤ end) }
+    ensures before { (k : ℕ) → start ≤ k → k < result → slice_index s.now k ≢ byte }
+    ensures found { result < end → slice_index s.now result ≡ byte }
+{
+    for i in start..end {
+        if s[i] == byte {
+            return i;
+        }
+    }
+    end
+}
 
 // A part of a text; an empty one where it starts past its end.
 pub fn part(s: &[u8], start: usize, end: usize) -> &[u8]

@@ -1,18 +1,12 @@
 -- The bitmap in force has at most five bytes.
-use mathlib.Core.Bool.{Bool, true, false, cond}
-use mathlib.Core.List.{List, []}
-use Prim.Native.Nat.{ℕ, ◌≤◌}
+use Rattle.std.proofs.Common.{Bool, true, false, cond, List, [], ℕ, ◌≤◌, arith, rules, eqb, length, take}
+use Rattle.std.proofs.Math.ListN.{length-take}
 use native.Mathlib.Nat.{min-le_left}
-use native.Mathlib.Omega.{arith}
-use borrow.Author.Rules.{rules}
-use lib.Dec.{eqb}
-use lib.ListN.{length, take, length-take}
 use Rattle.bitmap.specs.Bitmap.{bytes_of}
 use Rattle.cell.specs.declared.Cell.{Cell}
 use Rattle.cell.specs.Bitmap.{own_buffer}
 use Rattle.cell.specs.Judge.{judge_of, in_force_of}
-use Rattle.query.proofs.asking.bitmap.Statement.{statement}
-use Rattle.query.proofs.asking.bitmap.Tie as tie
+use Rattle.query.proofs.asking.bitmap.Goals as goal
 
 five : (s t : Bool) → cond s 0 (cond t 2 5) ≤ 5
 five true t = omega arith
@@ -31,10 +25,5 @@ short : (c : Cell) (anchor other : List ℕ) → length (in_force_of c anchor ot
 unfolding in_force_of
 short c anchor other = front (eqb (judge_of c anchor other) 0) (bytes_of c.config.bits) (own_buffer c.config anchor other) (few c.config.bits)
 
-put-bitmap-requires : tie.Need-put-bitmap-requires
-put-bitmap-requires c κs = (search rules, rw c.before.in_force_lem.ensures (short _ _ _))
-
-pub bitmap-spec : {M : Type 1} → statement M
-bitmap-spec =
-    tie.close
-    (tie.spec (λ c κs. search rules) (λ c κs. search rules) (λ c κs. search rules) put-bitmap-requires (λ c. search rules))
+pub put_bitmap-requires : goal.put_bitmap-requires
+put_bitmap-requires c = (search rules, rw c.bitmap.ensures (short _ _ _))
