@@ -1,13 +1,13 @@
 -- What an accepted NPDSCH grant says of its numbers.
-use mathlib.Core.Bool.{Bool, ◌||◌}
+use mathlib.Core.Bool.{◌||◌}
 use mathlib.Core.List.{List}
-use mathlib.Core.Path.{◌≡◌, refl}
-use Prim.Native.Nat.{ℕ, ◌+◌, ◌%◌, ◌≤◌, ◌<◌, ◌^◌}
+use mathlib.Core.Path.{◌≡◌}
+use Prim.Native.Nat.{ℕ, ◌≤◌, ◌<◌}
 use native.Mathlib.Omega.{arith}
 use lib.Dec.{ltb}
 use borrow.Author.Tests.{ltb-false}
 use Rattle.counting.proofs.Facts.{either_parts}
-use Rattle.grid.specs.Tables.{entry, lengths, downlink_copies}
+use Rattle.grid.specs.Tables.{entry, downlink_copies}
 use Rattle.grid.proofs.Rules.{length_bounds, downlink_copies_bounds, downlink_delay_bound, downlink_consecutive_splits, consecutive_pos, consecutive_small_lem}
 use Rattle.cell.specs.declared.CellConfig.{CellConfig}
 use Rattle.cell.specs.declared.Cell.{Cell}

@@ -12,7 +12,7 @@ use Rattle.downlink.specs.declared.Ready.{Ready}
 use Rattle.downlink.specs.declared.DownlinkPlan.{DownlinkPlan}
 use Rattle.downlink.specs.Answers.{refused_plan, plan_answer}
 use Rattle.downlink.specs.Mapping.{sending_of}
-use Rattle.downlink.specs.Quick.{ReadyFor, posed}
+use Rattle.downlink.specs.Quick.{ReadyFor}
 use Rattle.downlink.proofs.Cells.{plan_ready}
 use Rattle.plain_downlink.specs.declared.Places.{Places}
 use Rattle.plain_downlink.specs.Places.{places_in}

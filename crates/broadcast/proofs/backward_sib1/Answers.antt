@@ -1,10 +1,8 @@
 use mathlib.Core.Bool.{true}
-use mathlib.Core.Path.{◌≡◌, refl, sym, ap, ◌∙◌}
-use Prim.Native.Nat.{ℕ, ◌/◌, ◌%◌, ◌<◌, ◌≤◌, ◌^◌}
+use mathlib.Core.Path.{◌≡◌, refl, sym, ◌∙◌}
+use Prim.Native.Nat.{◌%◌}
 use native.Mathlib.Omega.{arith}
-use borrow.Author.Tests.{not-true, not-false}
 use Rattle.sync.specs.Sync.{sib1}
-use Rattle.grid.specs.Grid.{slots, symbols, subcarriers}
 use Rattle.downlink.specs.Fits.{Fits}
 use Rattle.downlink.specs.Answers.{inside_grid}
 use Rattle.downlink.proofs.Joined.{inside_parts, use_below}

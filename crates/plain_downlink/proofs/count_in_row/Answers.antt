@@ -1,8 +1,7 @@
 use mathlib.Core.Path.{◌≡◌, ap, ◌∙◌}
-use Prim.Native.Nat.{ℕ, ◌+◌, ◌-◌, ◌≤◌}
+use Prim.Native.Nat.{ℕ, ◌+◌}
 use native.Mathlib.Omega.{arith}
 use mir.Val.{bool_byte}
-use Rattle.counting.specs.Counting.{rank}
 use Rattle.counting.proofs.Facts.{byte_le}
 use Rattle.counting.proofs.Rank.{rank_le}
 use Rattle.grid.specs.Grid.{subcarriers, element_of}

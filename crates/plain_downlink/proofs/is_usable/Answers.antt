@@ -1,7 +1,6 @@
 use mathlib.Core.Path.{ap, ◌∙◌}
 use Prim.Native.Nat.{ℕ}
 use lib.Dec.{eqb}
-use Rattle.cell.specs.declared.Cause.{Cause}
 use Rattle.cell.specs.Usable.{cause_number}
 use Rattle.cell.specs.Quick.{lent_cell}
 use Rattle.plain_downlink.proofs.Seen.{seen_none}

@@ -1,6 +1,5 @@
 use mathlib.Core.Bool.{Bool, not, ◌&&◌}
 use mathlib.Core.Path.{sym, ap, ◌∙◌}
-use borrow.Author.Rules.{rules}
 use Rattle.counting.specs.Counting.{in_range}
 use Rattle.elements.specs.Elements.{control_region}
 use Rattle.elements.proofs.Rows.{row_used}

@@ -3,7 +3,6 @@ use Prim.Native.Nat.{ℕ, ◌*◌}
 use native.Mathlib.Omega.{arith}
 use Rattle.sending.proofs.Answer.{accepted, refused}
 use Rattle.downlink.proofs.Joined.{places_small}
-use Rattle.plain_downlink.specs.declared.Places.{Places}
 use Rattle.plain_downlink.specs.Places.{refused_places, places_in}
 use Rattle.plain_downlink.proofs.total.Goals as goal
 

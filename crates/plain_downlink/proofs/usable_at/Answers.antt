@@ -1,9 +1,9 @@
 use mathlib.Core.Bool.{Bool}
 use mathlib.Core.Path.{◌≡◌, sym, ap, ◌∙◌}
-use Prim.Native.Nat.{ℕ, ◌+◌, ◌-◌, ◌*◌, ◌^◌, ◌≤◌, ◌<◌}
+use Prim.Native.Nat.{ℕ, ◌+◌, ◌<◌}
 use native.Mathlib.Omega.{arith}
 use mir.Val.{bool_byte}
-use Rattle.counting.specs.Counting.{rank, select}
+use Rattle.counting.specs.Counting.{select}
 use Rattle.counting.proofs.Facts.{byte_some, byte_le}
 use Rattle.counting.proofs.Rank.{rank_on}
 use Rattle.counting.proofs.Period.{select_below, select_is}

@@ -1,17 +1,9 @@
-use mathlib.Core.Bool.{Bool}
-use mathlib.Core.Path.{◌≡◌, sym, ap, ◌∙◌}
-use Prim.Native.Nat.{ℕ, ◌+◌, ◌-◌, ◌*◌, ◌^◌, ◌≤◌, ◌<◌}
-use native.Mathlib.Omega.{arith}
-use mir.Val.{bool_byte}
+use mathlib.Core.Path.{◌≡◌}
+use Prim.Native.Nat.{◌+◌, ◌-◌, ◌≤◌}
 use Rattle.counting.specs.Counting.{rank, select}
-use Rattle.counting.proofs.Facts.{byte_some, byte_le}
-use Rattle.counting.proofs.Rank.{rank_on}
-use Rattle.counting.proofs.Period.{select_below, select_is}
-use Rattle.counting.proofs.Scan.{here, beyond}
 use Rattle.messages.specs.Messages.{all_periods}
 use Rattle.subframes.specs.Subframes.{messages_in}
 use Rattle.subframes.specs.Scaffold.{left_in}
-use Rattle.subframes.proofs.Left.{left_again}
 use Rattle.plain_downlink.proofs.usable_at.Given as goal
 
 abbrev pub invariant-loop-ahead : goal.invariant-loop-ahead

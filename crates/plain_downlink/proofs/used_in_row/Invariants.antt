@@ -1,13 +1,7 @@
-use mathlib.Core.Path.{◌≡◌, ap, ◌∙◌}
-use Prim.Native.Nat.{ℕ, ◌+◌, ◌-◌, ◌≤◌, ◌<◌}
-use native.Mathlib.Omega.{arith}
-use mir.Val.{bool_byte}
-use Rattle.counting.proofs.Facts.{byte_le}
-use Rattle.counting.proofs.Rank.{rank_mono, rank_later}
-use Rattle.counting.proofs.Select.{scan_found}
-use Rattle.grid.specs.Grid.{subcarriers, elements, element_of}
-use Rattle.elements.specs.Elements.{used, count_of, number_of}
-use Rattle.plain_downlink.proofs.Rows.{row_on}
+use mathlib.Core.Path.{◌≡◌}
+use Prim.Native.Nat.{◌+◌, ◌-◌}
+use Rattle.grid.specs.Grid.{subcarriers, element_of}
+use Rattle.elements.specs.Elements.{number_of}
 use Rattle.plain_downlink.proofs.used_in_row.Given as goal
 
 abbrev pub invariant-loop-left : goal.invariant-loop-left

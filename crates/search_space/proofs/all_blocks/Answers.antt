@@ -1,4 +1,4 @@
-use mathlib.Core.Path.{◌≡◌, ◌∙◌}
+use mathlib.Core.Path.{◌∙◌}
 use Rattle.subframes.proofs.Left.{left_laid, left_alone, some_laid, some_whole, some_of_pattern, select_alone}
 use Rattle.search_space.proofs.all_blocks.Goals as goal
 

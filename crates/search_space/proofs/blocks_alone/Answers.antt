@@ -1,12 +1,10 @@
-use mathlib.Core.Path.{◌≡◌, refl, ◌∙◌}
-use Prim.Native.Nat.{ℕ, ◌+◌, ◌-◌, ◌*◌, ◌^◌, ◌≤◌, ◌<◌}
+use mathlib.Core.Path.{refl, ◌∙◌}
+use Prim.Native.Nat.{ℕ, ◌+◌, ◌-◌, ◌*◌, ◌^◌, ◌<◌}
 use native.Mathlib.Nat.{mul-le-mul, add-mul, one-mul, zero-mul}
 use native.Mathlib.Omega.{arith}
-use borrow.Author.Rules.{rules}
-use lib.ListN.{length, get_or, length-set}
-use Rattle.counting.specs.Counting.{rank, select}
+use lib.ListN.{length-set}
 use Rattle.counting.proofs.Rank.{rank_le}
-use Rattle.spans.specs.Pattern.{allows, period_of, OnesOf}
+use Rattle.spans.specs.Pattern.{allows, OnesOf}
 use Rattle.spans.proofs.Laws.{nth_is}
 use Rattle.search_space.proofs.Listing.{set_more}
 use Rattle.search_space.proofs.blocks_alone.Goals.{After-ones_of-b, In-loop-i, Start}

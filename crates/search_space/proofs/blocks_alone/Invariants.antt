@@ -1,14 +1,8 @@
-use mathlib.Core.Path.{◌≡◌, refl, ◌∙◌}
-use Prim.Native.Nat.{ℕ, ◌+◌, ◌-◌, ◌*◌, ◌^◌, ◌≤◌, ◌<◌}
-use native.Mathlib.Nat.{mul-le-mul, add-mul, one-mul, zero-mul}
-use native.Mathlib.Omega.{arith}
-use borrow.Author.Rules.{rules}
-use lib.ListN.{length, get_or, length-set}
+use mathlib.Core.Path.{◌≡◌}
+use Prim.Native.Nat.{ℕ, ◌+◌, ◌-◌, ◌*◌, ◌≤◌, ◌<◌}
+use lib.ListN.{length, get_or}
 use Rattle.counting.specs.Counting.{rank, select}
-use Rattle.counting.proofs.Rank.{rank_le}
-use Rattle.spans.specs.Pattern.{allows, period_of, OnesOf}
-use Rattle.spans.proofs.Laws.{nth_is}
-use Rattle.search_space.proofs.Listing.{set_more}
+use Rattle.spans.specs.Pattern.{allows, period_of}
 use Rattle.search_space.proofs.blocks_alone.Given as goal
 
 abbrev pub invariant-loop-i : goal.invariant-loop-i

@@ -1,11 +1,10 @@
 use mathlib.Core.Bool.{Bool}
 use mathlib.Core.Path.{◌≡◌, refl, sym, ap, ◌∙◌}
-use Prim.Native.Nat.{ℕ, ◌+◌, ◌-◌, ◌*◌, ◌^◌, ◌≤◌, ◌<◌}
+use Prim.Native.Nat.{ℕ, ◌+◌, ◌-◌, ◌*◌, ◌^◌, ◌<◌}
 use native.Mathlib.Nat.{mul-le-mul, add-zero, add-mul, one-mul, zero-mul}
 use native.Mathlib.Omega.{arith}
-use borrow.Author.Rules.{rules}
-use lib.ListN.{length, get_or, length-set}
-use Rattle.counting.specs.Counting.{rank, select}
+use lib.ListN.{length-set}
+use Rattle.counting.specs.Counting.{select}
 use Rattle.counting.proofs.Period.{select_from, select_below}
 use Rattle.spans.specs.Pattern.{allows}
 use Rattle.messages.specs.Messages.{all_periods, remaining}

@@ -1,17 +1,10 @@
 use mathlib.Core.Bool.{Bool}
-use mathlib.Core.Path.{◌≡◌, refl, sym, ap, ◌∙◌}
+use mathlib.Core.Path.{◌≡◌}
 use Prim.Native.Nat.{ℕ, ◌+◌, ◌-◌, ◌*◌, ◌^◌, ◌≤◌, ◌<◌}
-use native.Mathlib.Nat.{mul-le-mul, add-zero, add-mul, one-mul, zero-mul}
-use native.Mathlib.Omega.{arith}
-use borrow.Author.Rules.{rules}
-use lib.ListN.{length, get_or, length-set}
-use Rattle.counting.specs.Counting.{rank, select}
-use Rattle.counting.proofs.Period.{select_from, select_below}
+use lib.ListN.{length, get_or}
+use Rattle.counting.specs.Counting.{select}
 use Rattle.spans.specs.Pattern.{allows}
 use Rattle.messages.specs.Messages.{all_periods, remaining}
-use Rattle.messages.proofs.Repeating.{remaining_again}
-use Rattle.subframes.proofs.Left.{allows_again}
-use Rattle.search_space.proofs.Listing.{set_more}
 use Rattle.search_space.proofs.blocks_beside.Given as goal
 
 -- the search is at block i: what follows `skip` after `from` is what follows i blocks after the start

@@ -1,5 +1,4 @@
 use native.Mathlib.Omega.{arith}
-use borrow.Author.Rules.{rules}
 use borrow.Author.Tests.{lt-ltb, le-ltb}
 use Rattle.grid.proofs.Rules.{repetition_bounds}
 use Rattle.search_space.specs.Quick.{cut_of}

@@ -2,7 +2,6 @@ use mathlib.Core.Path.{ap}
 use Prim.Native.Nat.{ℕ, ◌*◌, ◌≤◌}
 use native.Mathlib.Nat.{mul-le-mul}
 use native.Mathlib.Omega.{arith}
-use borrow.Author.Rules.{rules}
 use Rattle.grid.proofs.Rules.{repetition_bounds}
 use Rattle.search_space.specs.Starts.{doubled_period}
 use Rattle.search_space.proofs.Labels.{doubled_bound}

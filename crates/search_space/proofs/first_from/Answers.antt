@@ -1,6 +1,5 @@
 use mathlib.Core.Path.{refl}
 use native.Mathlib.Omega.{arith}
-use borrow.Author.Rules.{rules}
 use Prim.Native.Nat.{◌+◌, ◌-◌, ◌*◌, ◌/◌, ◌<◌}
 use Rattle.search_space.proofs.Starting.{part_first, later_first, reached}
 use Rattle.search_space.proofs.first_from.Goals.{Else-x-part}

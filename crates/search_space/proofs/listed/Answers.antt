@@ -1,15 +1,12 @@
-use mathlib.Core.Path.{◌≡◌, refl, sym, ◌∙◌}
+use mathlib.Core.Path.{◌≡◌, refl, ◌∙◌}
 use mathlib.Core.Logic.{⊎_elim}
 use Prim.Native.Nat.{ℕ, ◌+◌, ◌-◌, ◌*◌, ◌≤◌, ◌<◌}
 use native.Mathlib.Nat.{mul-le-mul}
 use native.Mathlib.Omega.{arith}
-use borrow.Author.Rules.{rules}
 use borrow.Author.Tests.{lt-ltb, le-ltb}
-use lib.ListN.{length, get_or, length-set, get_or-replicate}
+use lib.ListN.{get_or, length-set, get_or-replicate}
 use lib.Seq.{get_or-set_other}
 use Rattle.counting.proofs.Facts.{order}
-use Rattle.search_space.specs.declared.Blocks.{Blocks}
-use Rattle.search_space.specs.declared.Candidate.{Candidate}
 use Rattle.search_space.specs.Candidates.{blank}
 use Rattle.search_space.specs.Quick.{first_block, last_block, entry_in}
 use Rattle.search_space.proofs.Labels.{in_order_lem}

@@ -1,19 +1,10 @@
-use mathlib.Core.Path.{◌≡◌, refl, sym, ◌∙◌}
-use mathlib.Core.Logic.{⊎_elim}
+use mathlib.Core.Path.{◌≡◌}
 use Prim.Native.Nat.{ℕ, ◌+◌, ◌-◌, ◌*◌, ◌≤◌, ◌<◌}
-use native.Mathlib.Nat.{mul-le-mul}
-use native.Mathlib.Omega.{arith}
-use borrow.Author.Rules.{rules}
-use borrow.Author.Tests.{lt-ltb, le-ltb}
-use lib.ListN.{length, get_or, length-set, get_or-replicate}
-use lib.Seq.{get_or-set_other}
-use Rattle.counting.proofs.Facts.{order}
+use lib.ListN.{length, get_or}
 use Rattle.search_space.specs.declared.Blocks.{Blocks}
 use Rattle.search_space.specs.declared.Candidate.{Candidate}
 use Rattle.search_space.specs.Candidates.{blank}
-use Rattle.search_space.specs.Quick.{first_block, last_block, entry_in}
-use Rattle.search_space.proofs.Labels.{in_order_lem}
-use Rattle.search_space.proofs.Listing.{set_more}
+use Rattle.search_space.specs.Quick.{first_block, last_block}
 use Rattle.search_space.proofs.listed.Given as goal
 
 -- a candidate read off the blocks

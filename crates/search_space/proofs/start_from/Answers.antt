@@ -1,5 +1,4 @@
 use native.Mathlib.Omega.{arith}
-use borrow.Author.Rules.{rules}
 use Rattle.search_space.proofs.Starting.{start_here, start_next, next_soon, first_is}
 use Rattle.search_space.proofs.start_from.Goals as goal
 

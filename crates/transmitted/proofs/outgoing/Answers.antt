@@ -1,8 +1,6 @@
 use mathlib.Core.Bool.{true, false}
 use mathlib.Core.Path.{◌≡◌, sym, ◌∙◌}
-use Prim.Native.Nat.{ℕ}
 use native.Mathlib.Omega.{arith}
-use borrow.Author.Rules.{rules}
 use Rattle.grid.specs.Grid.{subcarriers, element_of}
 use Rattle.elements.specs.Elements.{used, kind_of, number_of}
 use Rattle.elements.proofs.Laws.{whole_part, used_listed, count_le, use_used, use_unused}
