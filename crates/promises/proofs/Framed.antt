@@ -1,5 +1,5 @@
 -- DEMAND 3 of every accepted NPDSCH and NPDCCH grant: both are bursts over the usable subframes of an accepted cell.
-use mathlib.Core.Bool.{Bool, true, false}
+use mathlib.Core.Bool.{Bool, true}
 use mathlib.Core.List.{List}
 use mathlib.Core.Path.{◌≡◌, refl, ap, subst, subst⁻¹}
 use mathlib.Core.Logic.{inl, inr, ⊎_elim}

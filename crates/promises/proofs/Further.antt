@@ -1,14 +1,14 @@
 -- What is promised beside demand 3 is kept: clear of the windows, the bitmap in force, messages, the cause and one element by their numbers.
-use mathlib.Core.Bool.{Bool, true, false, cond, not, ◌&&◌, ◌||◌}
+use mathlib.Core.Bool.{Bool, true, false, not, ◌&&◌}
 use mathlib.Core.List.{List}
 use mathlib.Core.Logic.{◌⊎◌, inl, inr, ⊎_elim, ◌↔◌}
-use mathlib.Core.Path.{◌≡◌, refl, sym, ap, ◌∙◌, subst}
-use Prim.Native.Nat.{ℕ, ◌+◌, ◌*◌, ◌/◌, ◌≤◌, ◌<◌}
+use mathlib.Core.Path.{◌≡◌, refl, sym, ap, ◌∙◌}
+use Prim.Native.Nat.{ℕ, ◌+◌, ◌*◌, ◌/◌, ◌<◌}
 use native.Mathlib.Decide.{ℕ_discrete}
 use native.Mathlib.Nat.{mul-add, mul-div_cancel}
 use native.Mathlib.Omega.{arith}
 use lib.Arith.{digits_lt}
-use lib.Dec.{eqb, leb, ltb}
+use lib.Dec.{leb, ltb}
 use lib.Ieee.{Float}
 use lib.ListN.{drop, take-append-drop}
 use lib.Seq.{length-take-le}
@@ -34,13 +34,12 @@ use Rattle.messages.proofs.Meaning.{all_laid}
 use Rattle.cell.proofs.Accepted.{accepted_bitmap, accepted_messages, none_in_force}
 use Rattle.cell.proofs.Taken.{usable_anchor, usable_other}
 use Rattle.cell.proofs.Repeating.{free_again}
-use Rattle.sending.specs.Sending.{Sending, Content, ours, not_ours, content_at}
+use Rattle.sending.specs.Sending.{Sending, Content, not_ours, content_at}
 use Rattle.sending.specs.Answer.{back_of, back_at}
 use Rattle.sending.proofs.Answer.{accepted, inside_at}
 use Rattle.elements.specs.declared.Layout.{Layout}
 use Rattle.elements.specs.Elements.{count_of}
 use Rattle.elements.proofs.Laws.{all_used, count_some}
-use Rattle.downlink.specs.declared.Burst.{Burst}
 use Rattle.downlink.specs.declared.DownlinkBack.{DownlinkBack}
 use Rattle.downlink.specs.declared.DownlinkPlace.{DownlinkPlace}
 use Rattle.cell.specs.Layout.{layout_of, element_count_of}
@@ -49,15 +48,12 @@ use Rattle.downlink.specs.Answers.{refused_place, place_of, inside_grid, refused
 use Rattle.npdsch.specs.declared.NpdschGrant.{NpdschGrant}
 use Rattle.npdsch.specs.Refusals.{refusal_of}
 use Rattle.npdsch.specs.Questions.{burst_of, forward_of, backward_of}
-use Rattle.symbol.specs.declared.Outgoing.{Outgoing}
-use Rattle.symbol.specs.declared.Element.{Element}
 use Rattle.symbol.specs.Outgoing.{plus_zero, answer_of, numbers_of}
-use Rattle.symbol.specs.declared.ElementNumbers.{ElementNumbers}
 use Rattle.transmitted.specs.GoesOut.{goes_out, outgoing_of}
 use Rattle.transmitted.specs.Scaffold.{sending_for}
 use Rattle.transmitted.specs.Refusals.{late_refusal, call_refusal, element_refusal}
 use Rattle.transmitted.specs.Element.{element_answer}
-use Rattle.promises.specs.Further.{Reads, first, second, third, fourth, Shares, KeepsClear, Front, InForce, MessagesLaid, CauseTold, ElementTold}
+use Rattle.promises.specs.Further.{first, second, third, fourth, Shares, KeepsClear, Front, InForce, MessagesLaid, CauseTold, ElementTold}
 use Rattle.promises.specs.Promises.{eligible_count}
 use Rattle.cell.specs.Bitmap.{bitmap_of}
 use Rattle.promises.proofs.Bridge.{ours_back, not_ours_back}

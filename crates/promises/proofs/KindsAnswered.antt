@@ -2,7 +2,7 @@
 use mathlib.Core.Bool.{Bool, true, false, cond, ◌&&◌}
 use mathlib.Core.List.{List}
 use mathlib.Core.Logic.{◌⊎◌, inl, inr}
-use mathlib.Core.Path.{◌≡◌, refl, sym, ap}
+use mathlib.Core.Path.{◌≡◌, refl}
 use Prim.Native.Nat.{ℕ, ◌≤◌}
 use native.Mathlib.Omega.{arith}
 use lib.Dec.{eqb}
@@ -13,7 +13,7 @@ use Rattle.cell.specs.declared.Cell.{Cell}
 use Rattle.cell.specs.declared.Cause.{Cause}
 use Rattle.cell.specs.Usable.{period, usable}
 use Rattle.sending.specs.declared.Back.{Back}
-use Rattle.sending.specs.Sending.{Sending, Content, ours, not_ours}
+use Rattle.sending.specs.Sending.{Sending, ours, not_ours}
 use Rattle.sending.specs.Answer.{Question, refused_back, back_at, backward_by}
 use Rattle.sending.proofs.Answer.{answer_all, kind_most}
 use Rattle.elements.specs.Elements.{kind_of}
@@ -37,7 +37,6 @@ use Rattle.npdsch.specs.Questions as npdsch
 use Rattle.npdcch.specs.Questions as npdcch
 use Rattle.broadcast.specs.Questions as broadcast
 use Rattle.symbol.specs.declared.Element.{Element}
-use Rattle.symbol.specs.declared.ElementNumbers.{ElementNumbers}
 use Rattle.symbol.specs.Outgoing.{answer_of, numbers_of}
 use Rattle.transmitted.specs.GoesOut.{goes_out, outgoing_of}
 use Rattle.transmitted.specs.Scaffold.{sending_for}

@@ -17,7 +17,6 @@ use Rattle.uplink.specs.declared.Shape.{Shape}
 use Rattle.uplink.specs.declared.UplinkPlan.{UplinkPlan}
 use Rattle.uplink.specs.Fits as uplink_fits
 use Rattle.uplink.specs.Answers as uplink
-use Rattle.uplink.specs.Mapping as uplink_mapping
 use Rattle.uplink.specs.Scaffold as uplink_scaffold
 use Rattle.uplink.proofs.Joined as uplink_joined
 use Rattle.uplink.proofs.Lines.{slot_data_small}

@@ -1,4 +1,3 @@
-use borrow.Author.Rules.{rules}
 use Rattle.buffers.proofs.cell_in.Goals as goal
 
 pub messages_from-messages-requires : goal.messages_from-messages-requires

@@ -1,4 +1,3 @@
-use borrow.Author.Rules.{rules}
 use Rattle.buffers.proofs.npdcch_walk.Goals as goal
 
 pub returns : goal.returns

@@ -1,4 +1,3 @@
-use borrow.Author.Rules.{rules}
 use Rattle.buffers.proofs.npusch_walk.Goals as goal
 
 pub no_cell-cell-requires : goal.no_cell-cell-requires

@@ -1,11 +1,8 @@
-use mathlib.Core.Path.{◌≡◌, refl, ap, ◌∙◌}
-use Prim.Native.Nat.{ℕ, ◌+◌, ◌*◌, ◌-◌, ◌≤◌, ◌<◌}
-use native.Mathlib.Omega.{arith}
-use borrow.Author.Rules.{rules}
-use lib.ListN.{length, length-set}
-use lib.Seq.{sets, length-sets}
+use mathlib.Core.Path.{◌≡◌}
+use Prim.Native.Nat.{◌-◌, ◌≤◌}
+use lib.ListN.{length}
+use lib.Seq.{sets}
 use Rattle.buffers.specs.Buffers.{candidate_numbers}
-use Rattle.buffers.proofs.Replies.{laid_next}
 use Rattle.buffers.proofs.put_candidates.Given as goal
 
 abbrev pub invariant-loop-k : goal.invariant-loop-k

@@ -1,5 +1,4 @@
 use mathlib.Core.Path.{◌∙◌}
-use borrow.Author.Rules.{rules}
 use Rattle.buffers.proofs.put_cause.Goals as goal
 
 pub cause_number-requires : goal.cause_number-requires

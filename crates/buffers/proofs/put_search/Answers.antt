@@ -1,6 +1,4 @@
-use mathlib.Core.Path.{◌≡◌}
 use native.Mathlib.Omega.{arith}
-use borrow.Author.Rules.{rules}
 use Rattle.buffers.specs.Buffers.{candidate_numbers}
 use Rattle.buffers.proofs.Replies.{put_on}
 use Rattle.buffers.proofs.put_search.Goals as goal

@@ -1,5 +1,4 @@
 use mathlib.Core.List.{[], ◌∷◌}
-use borrow.Author.Rules.{rules}
 use Rattle.buffers.proofs.Replies.{stored, put_beside}
 use Rattle.buffers.proofs.put_stepped.Goals as goal
 

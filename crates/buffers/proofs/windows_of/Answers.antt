@@ -1,4 +1,3 @@
-use borrow.Author.Rules.{rules}
 use borrow.Author.Tests.{lt-ltb, le-ltb}
 use Rattle.buffers.specs.Buffers.{windows_of}
 use Rattle.buffers.proofs.windows_of.Goals as goal

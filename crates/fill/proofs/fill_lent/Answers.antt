@@ -63,13 +63,13 @@ abbrev accepted : AfterWriteSlotNext → AfterLayoutLayout
 accepted c = c.before.before.before
 
 abbrev half : AfterWriteSlotNext → List Float
-half c = c.write_slot-next.new.0 ++ drop slot_numbers (given (accepted c).before)
+half c = c.write_slot-next.new.out ++ drop slot_numbers (given (accepted c).before)
 
-front : (c : AfterWriteSlotNext) → length c.write_slot-next.new.0 ≡ slot_numbers
+front : (c : AfterWriteSlotNext) → length c.write_slot-next.new.out ≡ slot_numbers
 front c = ap length c.write_slot-next.ensures.1 ∙ length_laid _ slot_elements
 
 half_sized : (c : AfterWriteSlotNext) → length (half c) ≡ numbers
-half_sized c = joined_size slot_numbers c.write_slot-next.new.0 (given (accepted c).before) (front c) (sized (accepted c).before)
+half_sized c = joined_size slot_numbers c.write_slot-next.new.out (given (accepted c).before) (front c) (sized (accepted c).before)
 
 -- ---- the answers
 
@@ -91,7 +91,7 @@ returns c =
     let j = e.before.before in
     let a = (start e).args in (
       sym e.if-call-ne0.false ∙ j.judged-call.ensures.number,
-      halves w.write_slot-next.new.0 (drop slot_numbers (given e)) b.write_slot.new.0 slot_numbers (front w.before.before.before.before.before.before.before)
+      halves w.write_slot-next.new.out (drop slot_numbers (given e)) b.write_slot.new.out slot_numbers (front w.before.before.before.before.before.before.before)
           ∙ ap₂ ◌++◌ w.write_slot-next.ensures.1 b.write_slot.ensures.1
           ∙ both_slots (lent_cell a.c a.si.now) a.anchor.now a.other.now a.g a.i a.bits.now a.level (given e) j.judged-call.result j.judged-call.ensures
           y.layout-layout.result f.symbols-four.result w.write_slot-next.result y.layout-layout.ensures f.symbols-four.ensures w.write_slot-next.ensures.0 e.if-call-ne0.false

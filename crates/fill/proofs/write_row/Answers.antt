@@ -75,7 +75,7 @@ loop-k-preserved c =
       omega (arith, h.loop-k-test.true),
       ap length p.put.ensures ∙ simp length-set l.loop-k.invariant.1,
       next h.before.before.before.before.before.before,
-      ap (λ (i : ℕ). take (2 * i) p.put.new.0) on ∙ ap (take (2 * (a.start + k + 1))) p.put.ensures
+      ap (λ (i : ℕ). take (2 * i) p.put.new.out) on ∙ ap (take (2 * (a.start + k + 1))) p.put.ensures
           ∙ laid_more (take (2 * a.start) a.out.now) _ l.loop-k.out (a.start + k) k w.written.result (inside h.before.before.before.before.before.before) l.loop-k.invariant.3 s,
     )
 

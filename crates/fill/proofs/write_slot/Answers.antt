@@ -54,7 +54,7 @@ loop-l-preserved c =
       omega (arith, t.loop-l-test.true),
       w.write_row-n.ensures.1,
       w.write_row-n.ensures.0 ∙ row_next a.layout a.slot l.loop-l.l t.loop-l-test.true r.used_row-row.result r.used_row-row.ensures a.c l.loop-l.n l.loop-l.invariant.2,
-      sym (ap (λ (i : ℕ). take (2 * i) w.write_row-n.new.0) on) ∙ w.write_row-n.ensures.2
+      sym (ap (λ (i : ℕ). take (2 * i) w.write_row-n.new.out) on) ∙ w.write_row-n.ensures.2
           ∙ ap (λ (x : List Float). x ++ laid (written_in_row r.used_row-row.result l.loop-l.n a.bits.now a.four) subcarriers) l.loop-l.invariant.3
           ∙ row_laid a.layout a.slot l.loop-l.l t.loop-l-test.true r.used_row-row.result r.used_row-row.ensures a.c l.loop-l.n l.loop-l.invariant.2 a.bits.now a.four,
     )

@@ -1,4 +1,3 @@
-use borrow.Author.Rules.{rules}
 use Rattle.walk.specs.Step.{asked}
 use Rattle.walk.proofs.forward_quick.Goals as goal
 

@@ -1,5 +1,4 @@
 use mathlib.Core.Path.{refl}
-use borrow.Author.Rules.{rules}
 use Rattle.walk.specs.Step.{asked}
 use Rattle.walk.proofs.places_of.Goals as goal
 

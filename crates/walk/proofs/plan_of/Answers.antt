@@ -1,5 +1,4 @@
 use mathlib.Core.Path.{refl}
-use borrow.Author.Rules.{rules}
 use Rattle.walk.specs.Step.{asked}
 use Rattle.walk.proofs.plan_of.Goals as goal
 
