@@ -1,4 +1,3 @@
-use borrow.Author.Rules.{rules}
 use Rattle.subframes.specs.Scaffold.{lent_again}
 use Rattle.fill.proofs.fill.Goals as goal
 

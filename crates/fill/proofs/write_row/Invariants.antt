@@ -1,22 +1,13 @@
-use mathlib.Core.List.{List, ◌++◌, append-nil}
-use mathlib.Core.Bool.{Bool, cond}
-use mathlib.Core.Path.{◌≡◌, sym, ap, ap₂, ◌∙◌}
-use Prim.Native.Nat.{ℕ, ◌+◌, ◌-◌, ◌*◌, ◌≤◌, ◌<◌}
-use native.Mathlib.Nat.{add-zero}
-use native.Mathlib.Omega.{arith}
-use borrow.Author.Rules.{rules}
-use lib.Ieee.{Float}
-use lib.ListN.{length, take, length-set}
-use mir.Val.{bool_byte}
+use mathlib.Core.List.{◌++◌}
+use mathlib.Core.Path.{◌≡◌}
+use Prim.Native.Nat.{◌+◌, ◌-◌, ◌*◌, ◌≤◌}
+use lib.ListN.{length, take}
 use Rattle.counting.specs.Counting.{rank}
-use Rattle.counting.proofs.Rank.{rank_zero, rank_on, rank_le, rank_strict}
 use Rattle.grid.specs.Grid.{subcarriers}
 use Rattle.grid.specs.Scaffold.{slot_numbers}
 use Rattle.elements.specs.Quick.{has_in}
-use Rattle.symbol.specs.Quick.{silence, picked_of}
 use Rattle.fill.specs.Fill.{laid}
 use Rattle.fill.specs.Quick.{written_in_row}
-use Rattle.fill.proofs.Laid.{laid_none, laid_more}
 use Rattle.fill.proofs.write_row.Given as goal
 
 abbrev pub invariant-loop-k : goal.invariant-loop-k

@@ -1,17 +1,12 @@
-use mathlib.Core.List.{List, ◌++◌}
-use mathlib.Core.Path.{◌≡◌, sym, ap, ◌∙◌}
-use Prim.Native.Nat.{ℕ, ◌+◌, ◌-◌, ◌*◌, ◌≤◌}
-use native.Mathlib.Omega.{arith}
-use lib.Ieee.{Float}
+use mathlib.Core.Path.{◌≡◌}
+use Prim.Native.Nat.{◌+◌, ◌-◌, ◌*◌, ◌≤◌}
 use lib.ListN.{length, take}
 use Rattle.counting.specs.Counting.{count}
 use Rattle.grid.specs.Grid.{subcarriers, symbols, slot_elements}
 use Rattle.grid.specs.Scaffold.{slot_numbers}
 use Rattle.elements.specs.Elements.{used}
 use Rattle.fill.specs.Fill.{laid}
-use Rattle.fill.specs.Quick.{written_in, written_in_row}
-use Rattle.fill.proofs.Laid.{laid_none, laid_all}
-use Rattle.fill.proofs.Rowwise.{none_yet, few, row_next, row_room, row_laid}
+use Rattle.fill.specs.Quick.{written_in}
 use Rattle.fill.proofs.write_slot.Given as goal
 
 abbrev pub invariant-loop-l : goal.invariant-loop-l

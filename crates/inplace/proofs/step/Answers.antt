@@ -1,13 +1,11 @@
 -- Where forward answers, p moves on; where it refuses, the record stays as it is.
-use mathlib.Core.List.{List}
-use mathlib.Core.Path.{◌≡◌, refl, sym, ap, ◌∙◌}
-use Prim.Native.Nat.{ℕ, ◌+◌}
+use mathlib.Core.Path.{sym, ap, ◌∙◌}
+use Prim.Native.Nat.{ℕ}
 use native.Mathlib.Omega.{arith}
-use Rattle.walk.specs.declared.Walk.{Walk}
 use Rattle.walk.specs.declared.WalkPlace.{WalkPlace}
 use Rattle.walk.specs.declared.Stepped.{Stepped}
-use Rattle.walk.specs.Step.{asked_of, stepped_of}
-use Rattle.walk.specs.Quick.{walk_at, stopped_at}
+use Rattle.walk.specs.Step.{asked_of}
+use Rattle.walk.specs.Quick.{stopped_at}
 use Rattle.walk.proofs.Steps.{next_small, step_moves, step_stops}
 use Rattle.inplace.proofs.step.Goals as goal
 
