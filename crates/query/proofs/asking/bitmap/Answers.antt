@@ -26,4 +26,4 @@ unfolding in_force_of
 short c anchor other = front (eqb (judge_of c anchor other) 0) (bytes_of c.config.bits) (own_buffer c.config anchor other) (few c.config.bits)
 
 pub put_bitmap-requires : goal.put_bitmap-requires
-put_bitmap-requires c = (search rules, rw c.bitmap.ensures (short _ _ _))
+put_bitmap-requires c = (search rules, grind (arith, short))
