@@ -3,9 +3,20 @@
 // document 01's number and zeros.
 #![tactic(auto)]
 
-// A cell: its refusal number, or 0; the bitmap in force, a part of the carrier's own buffer; why subframe t is not
-// usable; E, the eligible elements of a subframe.
-pub use cell::{cause_at as cause, element_count as count, in_force as bitmap, judge};
+ghost use Rattle.std.specs.Prelude.{◌≡◌};
+ghost use Rattle.cell.specs.Judge.{in_force_of};
+
+use cell::Cell;
+
+// A cell: its refusal number, or 0; why subframe t is not usable; E, the eligible elements of a subframe.
+pub use cell::{cause_at as cause, element_count as count, judge};
+
+// The bitmap in force, a part of the carrier's own buffer.
+pub fn bitmap<'a>(c: Cell, anchor: &'a [u8], other: &'a [u8]) -> &'a [u8]
+    ensures { result.now ≡ in_force_of c anchor.now other.now }
+{
+    cell::in_force(c, anchor, other)
+}
 
 // NPUSCH format 1, alone and beside random access windows.
 pub use npusch::{

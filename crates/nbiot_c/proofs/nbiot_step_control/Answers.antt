@@ -90,6 +90,6 @@ returns c = let p = c in let j = p in let f = j in
     replied _ e.short2.ensures.says e.if-short2.false (p.put_step.ensures
     ∙ stepped_by (npdcch_walk x.walk.now) x.anchor.now x.other.now (from_downlink f.forward_lent-a.result) (simp (f.forward_lent-a.ensures, n.npdcch_at-g.ensures, n.config_at-c.ensures, to_end)) x.walk.now x.answer.now
     (elim j.if-a-eq14.branch [
-      then-a-eq14 w ↦ inl (w.if-a-eq14.true, w.end-is ∙ w.downlink_end-end.ensures ∙ simp (w.plan_lent.ensures, n.npdcch_at-g.ensures, n.config_at-c.ensures, to_end))
+      | then-a-eq14 w ↦ inl (w.if-a-eq14.true, w.end-is ∙ w.downlink_end-end.ensures ∙ simp (w.plan_lent.ensures, n.npdcch_at-g.ensures, n.config_at-c.ensures, to_end))
       | else-a-eq14 w ↦ inr (w.if-a-eq14.false, w.end-is)
     ]))

@@ -60,6 +60,6 @@ returns c = let p = c in let j = p in let f = j in
     replied _ e.short2.ensures.says e.if-short2.false (p.put_step.ensures
     ∙ stepped_by (npusch_walk x.walk.now []) [] [] (from_uplink f.forward-a.result) (simp (f.forward-a.ensures, f.npusch_at-g.ensures)) x.walk.now x.answer.now
     (elim j.if-a-eq14.branch [
-      then-a-eq14 w ↦ inl (w.if-a-eq14.true, w.end-is ∙ w.uplink_end-end.ensures ∙ simp (w.plan_up_beside.ensures, f.npusch_at-g.ensures))
+      | then-a-eq14 w ↦ inl (w.if-a-eq14.true, w.end-is ∙ w.uplink_end-end.ensures ∙ simp (w.plan_up_beside.ensures, f.npusch_at-g.ensures))
       | else-a-eq14 w ↦ inr (w.if-a-eq14.false, w.end-is)
     ]))
