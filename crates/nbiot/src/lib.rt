@@ -1,6 +1,6 @@
 // The public questions, and nothing else. Each may be asked with any numbers and any lent buffers: its contract, in
-// the crate named here, has no `requires` and says by a definition what is answered and left. Refused input gets
-// document 01's number and zeros.
+// the crate named here (that of `bitmap` stands here), has no `requires` and says by a definition what is answered and
+// left. Refused input gets document 01's number and zeros.
 #![tactic(auto)]
 
 ghost use Rattle.std.specs.Prelude.{◌≡◌};

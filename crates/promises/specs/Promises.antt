@@ -97,7 +97,7 @@ by_place backward x = backward x.t x.slot x.l x.k
 abbrev pub eligible_count : Cell → ℕ
 eligible_count c = rank (eligible (layout_of c.config)) elements
 
--- N-as-E symbols
+-- N·E symbols
 abbrev pub downlink_granted : Cell → List ℕ → NpdschGrant → Granted
 downlink_granted c bitmap g = record {
   copies = entry downlink_copies g.copies;

@@ -12,7 +12,7 @@ use Rattle.npdsch.specs.Questions.{burst_of}
 use Rattle.sending.specs.Answer.{no_such_place}
 use Rattle.symbol.specs.Symbol.{level_in_range}
 
--- ceil(N-as-E / 4): two bits for each symbol of the whole codeword
+-- ceil(N·E / 4): two bits for each symbol of the whole codeword
 abbrev pub codeword_bytes : Burst → ℕ
 codeword_bytes b = (b.codeword * count_of b.layout b.low b.width + 3) / 4
 
