@@ -9,7 +9,7 @@ ghost use Rattle.counting.specs.Scaffold.{NthOne};
 pub fn ones_of(m: u64) -> u64
     ensures { result ≡ ones m }
 {
-    u64::count_ones(m) as u64
+    u64::from(m.count_ones())
 }
 
 pub fn power_of_two(i: u64) -> u64
@@ -32,7 +32,7 @@ pub fn quotient(k: u64, n: u64) -> u64
     requires { (k < 2 ^ 32) × (0 < n) × (n < 2 ^ 32) }
     ensures { result ≡ k / n }
 {
-    (k as u32 / n as u32) as u64
+    u64::from(k as u32 / n as u32)
 }
 
 // Of each number below 16, how many digits are 1, four digits each; and the places of those digits, two digits each.
@@ -56,9 +56,10 @@ fn nth_of_four(x: u64, k: u64) -> u64
 {
     let at = 8 * (x % 8) + 2 * k;
     if x < 8 {
-        return (PLACES_BELOW_8 >> at) % 4;
+        (PLACES_BELOW_8 >> at) % 4
+    } else {
+        (PLACES_FROM_8 >> at) % 4
     }
-    (PLACES_FROM_8 >> at) % 4
 }
 
 // The place of the k-th digit of m that is 1, counted from 0 and from the lowest: four digits at a time.
@@ -68,16 +69,14 @@ pub fn nth_one(m: u64, k: u64) -> u64
 {
     let mut rest = m;
     let mut left = k;
-    let mut i: u64 = 0;
-    while i < 64 {
+    for i in 0..16 {
         let four = rest % 16;
         let n = ones_of_four(four);
         if left < n {
-            return i + nth_of_four(four, left);
+            return 4 * i + nth_of_four(four, left);
         }
         left -= n;
         rest /= 16;
-        i += 4;
     }
     0
 }
