@@ -5,6 +5,7 @@ use mathlib.Core.Logic.{◌⊎◌, inl, inr, ⊎_elim}
 use Prim.Native.Nat.{ℕ, zero, suc, ◌+◌, ◌-◌, ◌*◌, ◌/◌, ◌%◌, ◌^◌, ◌≤◌, ◌<◌}
 use native.Mathlib.Nat.{add-mod_right, add_comm, mod-eq_of_lt, mod-lt, add-mul, zero-mul, mul-zero, mul-le-mul, pow-succ', div-add-mod', div-lt_iff_lt-mul}
 use native.Mathlib.Omega.{arith}
+use Rattle.std.proofs.Common.{min}
 use lib.Count.{ones, ones_step}
 use lib.Dec.{eqb}
 use lib.Pow.{pow_mono}
@@ -128,19 +129,26 @@ module _ (p : Pattern) (ok : Regular p) where
     pub sib1_whole_le : s / spans_of p * 4 ≤ s
     sib1_whole_le = omega (arith, sib1_split s, sib1_le s)
 
-    pub sib1_early : s % spans_of p ≤ p.first → s / spans_of p * 4 ≡ rank (with_sib1 p) s
+    sib1_early : s % spans_of p ≤ p.first → s / spans_of p * 4 ≡ rank (with_sib1 p) s
     sib1_early h = omega (arith, sib1_split s, rank_before p.first 4 (s % spans_of p) h)
 
-    pub sib1_among : p.first < s % spans_of p → s % spans_of p < p.first + 4
+    sib1_among : p.first < s % spans_of p → s % spans_of p < p.first + 4
         → s / spans_of p * 4 + (s % spans_of p - p.first) ≡ rank (with_sib1 p) s
     sib1_among h k =
         let e : p.first + (s % spans_of p - p.first) ≡ s % spans_of p = omega arith in
         omega (arith, sib1_split s, rank_inside p.first 4 (s % spans_of p - p.first) (omega arith), ap (rank (in_range p.first 4)) e)
 
-    pub sib1_late : p.first + 4 ≤ s % spans_of p → s / spans_of p * 4 + 4 ≡ rank (with_sib1 p) s
+    sib1_late : p.first + 4 ≤ s % spans_of p → s / spans_of p * 4 + 4 ≡ rank (with_sib1 p) s
     sib1_late h =
         let e : p.first + 4 + (s % spans_of p - (p.first + 4)) ≡ s % spans_of p = omega arith in
         omega (arith, sib1_split s, rank_after p.first 4 (s % spans_of p - (p.first + 4)), ap (rank (in_range p.first 4)) e)
+
+    pub sib1_clamped : s / spans_of p * 4 + min (s % spans_of p - p.first) 4 ≡ rank (with_sib1 p) s
+    sib1_clamped =
+        ⊎_elim
+        (λ h. ⊎_elim (λ l. omega (arith, sib1_among h l)) (λ l. omega (arith, sib1_late l)) (order (s % spans_of p) (p.first + 4)))
+        (λ h. omega (arith, sib1_early h))
+        (order p.first (s % spans_of p))
 
   -- ---- the three stretches of a period: before the spans with SIB1, those, and after them
 

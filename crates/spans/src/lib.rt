@@ -11,12 +11,23 @@ ghost use Rattle.spans.specs.Found.{found_among};
 
 // Spans of forty subframes, the first subframe at the highest of forty digits of a mask. The pattern repeats after
 // 2^log spans; in the four from `first` on SIB1 stands and `sib1` is their mask, `usual` is that of the others.
+// No ghost field for Regular: anchor_pattern (sync) and the cell's definitions build patterns as plain records.
 #[derive(Clone, Copy)]
 pub struct Pattern {
     pub log: u64,
     pub first: u64,
     pub usual: u64,
     pub sib1: u64,
+}
+
+// A pattern, and how many ones its two masks have.
+#[derive(Clone, Copy)]
+pub struct Counted {
+    pub pattern: Pattern,
+    pub sib1_ones: u64,
+    pub usual_ones: u64,
+    ghost regular: { Regular pattern },
+    ghost counts: { OnesOf pattern sib1_ones usual_ones },
 }
 
 // The first and the last of a run of allowed subframes.
@@ -27,7 +38,7 @@ pub struct Ends {
 }
 
 // Where a subframe stands to a run of allowed ones: its index in it, not allowed but between the first and the last,
-// or neither.
+// or neither. No Option: a subframe between is neither in the run nor outside it.
 #[derive(Clone, Copy)]
 pub enum Found {
     At(u64),
@@ -40,16 +51,9 @@ fn sib1_before(p: Pattern, s: u64) -> u64
     requires { Regular p }
     ensures { result ≡ rank (with_sib1 p) s }
 {
-    let first = p.first;
     let whole = (s >> p.log) * 4;
     let x = counting::low(s, p.log);
-    if x <= first {
-        return whole;
-    }
-    if x < first + 4 {
-        return whole + (x - first);
-    }
-    whole + 4
+    whole + x.saturating_sub(p.first).min(4)
 }
 
 // The mask of span s.
@@ -60,28 +64,10 @@ fn mask_at(p: Pattern, s: u64) -> u64
     let first = p.first;
     let x = counting::low(s, p.log);
     if (first <= x) & (x < first + 4) {
-        return p.sib1;
+        p.sib1
+    } else {
+        p.usual
     }
-    p.usual
-}
-
-// How many allowed subframes lie before span s; a and b are the ones of the two masks, as in what follows.
-fn whole_spans(p: Pattern, a: u64, b: u64, s: u64) -> u64
-    requires { Regular p × OnesOf p a b × (span * s < 2 ^ 64) }
-    ensures { result ≡ rank (allows p) (span * s) }
-{
-    let h = sib1_before(p, s);
-    h * a + (s - h) * b
-}
-
-// How many allowed subframes lie before subframe t.
-pub fn rank_of(p: Pattern, a: u64, b: u64, t: u64) -> u64
-    requires { Regular p × OnesOf p a b }
-    ensures { result ≡ rank (allows p) t }
-{
-    let s = t / 40;
-    let part = counting::ones_of(mask_at(p, s) >> (40 - t % 40));
-    whole_spans(p, a, b, s) + part
 }
 
 // Whether subframe t is allowed.
@@ -91,14 +77,6 @@ pub fn is_allowed(p: Pattern, t: u64) -> bool
 {
     let i = t % 40;
     (mask_at(p, t / 40) >> (39 - i)) % 2 == 1
-}
-
-// How many subframes of a period are allowed.
-fn in_period(p: Pattern, a: u64, b: u64) -> u64
-    requires { Regular p × OnesOf p a b }
-    ensures { (result ≡ rank (allows p) (period_of p)) × (result ≤ 640) }
-{
-    4 * a + (counting::power_of_two(p.log) - 4) * b
 }
 
 // No subframe is allowed.
@@ -119,34 +97,98 @@ fn in_stretch(mask: u64, n: u64, s: u64, k: u64) -> u64
     40 * (s + q) + (39 - counting::nth_one(mask, n - 1 - rest))
 }
 
-// The subframe of the first period before which k allowed ones lie.
-fn pick(p: Pattern, a: u64, b: u64, k: u64) -> u64
-    requires { Regular p × OnesOf p a b × (k < rank (allows p) (period_of p)) }
-    ensures { Picked p k result }
-{
-    let first = p.first;
-    let usual = p.usual;
-    let sib1 = p.sib1;
-    let lead = first * b;
-    if k < lead {
-        return in_stretch(usual, b, 0, k);
+impl Counted {
+    pub fn new(pattern: Pattern) -> Counted
+        requires { Regular pattern }
+        ensures { result.pattern ≡ pattern }
+    {
+        Counted {
+            pattern,
+            sib1_ones: counting::ones_of(pattern.sib1),
+            usual_ones: counting::ones_of(pattern.usual),
+        }
     }
-    let j = k - lead;
-    if j < 4 * a {
-        return in_stretch(sib1, a, first, j);
+
+    // How many allowed subframes lie before span s.
+    fn whole_spans(self, s: u64) -> u64
+        requires { span * s < 2 ^ 64 }
+        ensures { result ≡ rank (allows self.pattern) (span * s) }
+    {
+        let h = sib1_before(self.pattern, s);
+        h * self.sib1_ones + (s - h) * self.usual_ones
     }
-    in_stretch(usual, b, first + 4, j - 4 * a)
+
+    // How many allowed subframes lie before subframe t.
+    pub fn rank_of(self, t: u64) -> u64
+        ensures { result ≡ rank (allows self.pattern) t }
+    {
+        let s = t / 40;
+        let part = counting::ones_of(mask_at(self.pattern, s) >> (40 - t % 40));
+        self.whole_spans(s) + part
+    }
+
+    // How many subframes of a period are allowed.
+    fn in_period(self) -> u64
+        ensures { (result ≡ rank (allows self.pattern) (period_of self.pattern)) × (result ≤ 640) }
+    {
+        4 * self.sib1_ones + (counting::power_of_two(self.pattern.log) - 4) * self.usual_ones
+    }
+
+    // The subframe of the first period before which k allowed ones lie.
+    fn pick(self, k: u64) -> u64
+        requires { k < rank (allows self.pattern) (period_of self.pattern) }
+        ensures { Picked self.pattern k result }
+    {
+        let p = self.pattern;
+        let a = self.sib1_ones;
+        let b = self.usual_ones;
+        let lead = p.first * b;
+        if k < lead {
+            return in_stretch(p.usual, b, 0, k);
+        }
+        let j = k - lead;
+        if j < 4 * a {
+            in_stretch(p.sib1, a, p.first, j)
+        } else {
+            in_stretch(p.usual, b, p.first + 4, j - 4 * a)
+        }
+    }
+
+    // The allowed subframe before which k allowed ones lie: whole periods, then the rest.
+    pub fn at(self, k: u64) -> u64
+        requires { (0 < rank (allows self.pattern) (period_of self.pattern)) × (k < 2 ^ 32) }
+        ensures { (allows self.pattern result ≡ true) × (rank (allows self.pattern) result ≡ k) }
+    {
+        let per = self.in_period();
+        let q = counting::quotient(k, per);
+        let period = 40 * counting::power_of_two(self.pattern.log);
+        q * period + self.pick(k - q * per)
+    }
 }
 
-// The allowed subframe before which k allowed ones lie: whole periods, then the rest.
+// The same two where the ones a and b of the masks are known.
+pub fn rank_of(p: Pattern, a: u64, b: u64, t: u64) -> u64
+    requires { Regular p × OnesOf p a b }
+    ensures { result ≡ rank (allows p) t }
+{
+    let counted = Counted {
+        pattern: p,
+        sib1_ones: a,
+        usual_ones: b,
+    };
+    counted.rank_of(t)
+}
+
 pub fn at(p: Pattern, a: u64, b: u64, k: u64) -> u64
     requires { Regular p × OnesOf p a b × (0 < rank (allows p) (period_of p)) × (k < 2 ^ 32) }
     ensures { (allows p result ≡ true) × (rank (allows p) result ≡ k) }
 {
-    let per = in_period(p, a, b);
-    let q = counting::quotient(k, per);
-    let period = 40 * counting::power_of_two(p.log);
-    q * period + pick(p, a, b, k - q * per)
+    let counted = Counted {
+        pattern: p,
+        sib1_ones: a,
+        usual_ones: b,
+    };
+    counted.at(k)
 }
 
 // The j-th allowed subframe from a given one on, counted from 0.
@@ -154,9 +196,8 @@ pub fn nth(p: Pattern, from: u64, j: u64) -> u64
     requires { Regular p × (0 < rank (allows p) (period_of p)) × (from < 2 ^ 31) × (j < 2 ^ 31) }
     ensures { result ≡ select (allows p) (period_of p) from j }
 {
-    let a = counting::ones_of(p.sib1);
-    let b = counting::ones_of(p.usual);
-    at(p, a, b, rank_of(p, a, b, from) + j)
+    let counted = Counted::new(p);
+    counted.at(counted.rank_of(from) + j)
 }
 
 // The j-th from a given one on, and the one that follows it after `more`.
@@ -165,11 +206,10 @@ pub fn first_and_last(p: Pattern, from: u64, j: u64, more: u64) -> Ends
     ensures { (result.first ≡ select (allows p) (period_of p) from j)
         × (result.last ≡ select (allows p) (period_of p) from (j + more)) }
 {
-    let a = counting::ones_of(p.sib1);
-    let b = counting::ones_of(p.usual);
-    let k = rank_of(p, a, b, from) + j;
-    let first = at(p, a, b, k);
-    let last = at(p, a, b, k + more);
+    let counted = Counted::new(p);
+    let k = counted.rank_of(from) + j;
+    let first = counted.at(k);
+    let last = counted.at(k + more);
     Ends { first, last }
 }
 
@@ -181,9 +221,8 @@ pub fn locate(p: Pattern, from: u64, skip: u64, many: u64, t: u64) -> Found
     if t < from {
         return Found::Nothing;
     }
-    let a = counting::ones_of(p.sib1);
-    let b = counting::ones_of(p.usual);
-    let i = rank_of(p, a, b, t) - rank_of(p, a, b, from);
+    let counted = Counted::new(p);
+    let i = counted.rank_of(t) - counted.rank_of(from);
     if i < skip {
         return Found::Nothing;
     }
@@ -192,10 +231,10 @@ pub fn locate(p: Pattern, from: u64, skip: u64, many: u64, t: u64) -> Found
         return Found::Nothing;
     }
     if is_allowed(p, t) {
-        return Found::At(index);
+        Found::At(index)
+    } else if index == 0 {
+        Found::Nothing
+    } else {
+        Found::Between
     }
-    if index == 0 {
-        return Found::Nothing;
-    }
-    Found::Between
 }
