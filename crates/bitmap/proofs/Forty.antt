@@ -3,7 +3,7 @@ use mathlib.Core.Bool.{Bool, true, false, cond, ◌||◌}
 use mathlib.Core.List.{List}
 use mathlib.Core.Path.{◌≡◌, refl, sym, ap, ◌∙◌, subst}
 use mathlib.Core.Logic.{◌⊎◌, inl, inr, ⊎_elim}
-use Prim.Native.Nat.{ℕ, ◌+◌, ◌-◌, ◌*◌, ◌/◌, ◌%◌, ◌^◌, ◌≤◌, ◌<◌}
+use Prim.Native.Nat.{ℕ, ◌+◌, ◌-◌, ◌*◌, ◌/◌, ◌%◌, ◌^◌, ◌<◌}
 use native.Mathlib.Nat.{zero-add}
 use native.Mathlib.Omega.{arith}
 use lib.Dec.{T, eqb}
@@ -39,10 +39,6 @@ five_bytes bits e = rw e refl
 -- a bitmap that is neither empty nor of ten bits has forty
 pub forty_bits : (bits : ℕ) → listed_length bits ≡ true → (bits ≡ 0 → ⊥) → (bits ≡ 10 → ⊥) → bits ≡ 40
 forty_bits bits h a b = ⊎_elim (λ e. absurd (a e)) (λ r. ⊎_elim (λ e. absurd (b e)) (λ e. e) r) (by_length bits h)
-
-pub some_bytes : (bits : ℕ) → listed_length bits ≡ true → (bits ≡ 0 → ⊥) → 2 ≤ bytes_of bits
-some_bytes bits h a =
-    ⊎_elim (λ e. absurd (a e)) (λ r. ⊎_elim (λ e. omega (arith, two_bytes bits e)) (λ e. omega (arith, five_bytes bits e)) r) (by_length bits h)
 
 ones_table : T (each 40 (λ i. mask_bit 0xff_ffff_ffff i))
 ones_table = tt

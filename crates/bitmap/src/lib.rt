@@ -15,51 +15,33 @@ const FOUR_TIMES: u64 = 0x4010_0401;
 pub fn own<'a>(carrier: u64, anchor: &'a [u8], other: &'a [u8]) -> &'a [u8]
     ensures { result.now ≡ cond (eqb carrier 0) anchor.now other.now }
 {
-    if carrier == 0 {
-        return anchor;
-    }
-    other
+    if carrier == 0 { anchor } else { other }
 }
 
+#[tactic(auto, unfolding(crate::specs::Bitmap::bytes_of))]
 pub fn bytes(bits: u64) -> usize
     ensures { result ≡ bytes_of bits }
 {
-    if bits == 0 {
-        return 0;
+    match bits {
+        0 => 0,
+        10 => 2,
+        _ => 5,
     }
-    if bits == 10 {
-        return 2;
-    }
-    5
 }
 
+#[tactic(auto, unfolding(crate::specs::Bitmap::listed_length))]
 fn listed(bits: u64) -> bool
     ensures { result ≡ listed_length bits }
 {
-    (bits == 0) | ((bits == 10) | (bits == 40))
-}
-
-// A byte as a wider number.
-fn wide(x: u8) -> u64
-    ensures { (result ≡ x) × (result < 256) }
-{
-    x as u64
+    matches!(bits, 0 | 10 | 40)
 }
 
 // Length not listed, buffer too short, or spare bits set.
+#[tactic(auto, using(crate::proofs::Forty::two_bytes), unfolding(crate::specs::Bitmap::bad_bitmap))]
 pub fn is_bad(bits: u64, b: &[u8]) -> bool
     ensures { result ≡ bad_bitmap bits b.now }
 {
-    if !listed(bits) {
-        return true;
-    }
-    if b.len() < bytes(bits) {
-        return true;
-    }
-    if bits == 10 {
-        return wide(b[1]) % 64 != 0;
-    }
-    false
+    !listed(bits) || b.len() < bytes(bits) || (bits == 10 && b[1] % 64 != 0)
 }
 
 // The forty bits of a bitmap as a number, the first the highest of forty digits.
@@ -67,16 +49,9 @@ pub fn load(bits: u64, b: &[u8]) -> u64
     requires { BitmapFits bits b.now }
     ensures { Loaded b.now bits result }
 {
-    if bits == 0 {
-        return ALL;
+    match bits {
+        0 => ALL,
+        10 => (u64::from(b[0]) * 4 + u64::from(b[1]) / 64) * FOUR_TIMES,
+        _ => u64::from_be_bytes([0, 0, 0, b[0], b[1], b[2], b[3], b[4]]),
     }
-    let b0 = wide(b[0]);
-    let b1 = wide(b[1]);
-    if bits == 10 {
-        return (b0 * 4 + b1 / 64) * FOUR_TIMES;
-    }
-    let b2 = wide(b[2]);
-    let b3 = wide(b[3]);
-    let b4 = wide(b[4]);
-    (((b0 * 256 + b1) * 256 + b2) * 256 + b3) * 256 + b4
 }
