@@ -33,13 +33,7 @@ const SINGLE_TONE_ORDERS: [u8; 5] = [1, 1, 2, 2, 2];
 pub fn byte(x: u8) -> u64
     ensures { result ≡ x }
 {
-    x as u64
-}
-
-fn wide(x: u16) -> u64
-    ensures { result ≡ x }
-{
-    x as u64
+    u64::from(x)
 }
 
 // Subframes of an NPDSCH, resource units of an NPUSCH.
@@ -47,32 +41,34 @@ pub fn length(field: u64) -> u64
     requires { field < 8 }
     ensures { result ≡ entry lengths field }
 {
-    byte(LENGTHS[field as usize])
+    u64::from(LENGTHS[field as usize])
 }
 
 pub fn downlink_copies(field: u64) -> u64
     requires { field < 16 }
     ensures { result ≡ entry downlink_copies field }
 {
-    wide(DOWNLINK_COPIES[field as usize])
+    u64::from(DOWNLINK_COPIES[field as usize])
 }
 
 // The delay in usable subframes.
+#[tactic(auto, unfolding(crate::specs::Tables::downlink_delay))]
 pub fn downlink_delay(rmax: u64, field: u64) -> u64
     requires { field < 8 }
     ensures { result ≡ downlink_delay rmax field }
 {
     if rmax < 128 {
-        return byte(SHORT_DELAYS[field as usize]);
+        u64::from(SHORT_DELAYS[field as usize])
+    } else {
+        u64::from(LONG_DELAYS[field as usize])
     }
-    wide(LONG_DELAYS[field as usize])
 }
 
 pub fn uplink_copies(field: u64) -> u64
     requires { field < 8 }
     ensures { result ≡ entry uplink_copies field }
 {
-    byte(UPLINK_COPIES[field as usize])
+    u64::from(UPLINK_COPIES[field as usize])
 }
 
 // The delay in subframes.
@@ -80,7 +76,7 @@ pub fn uplink_delay(field: u64) -> u64
     requires { field < 4 }
     ensures { result ≡ entry uplink_delays field }
 {
-    byte(UPLINK_DELAYS[field as usize])
+    u64::from(UPLINK_DELAYS[field as usize])
 }
 
 // The size of a transport block.
@@ -88,36 +84,32 @@ pub fn size(row: u64, units: u64) -> u64
     requires { (row < 5) × (units < 8) }
     ensures { result ≡ size_of row units }
 {
-    wide(SIZES[row as usize][units as usize])
+    u64::from(SIZES[row as usize][units as usize])
 }
 
 pub fn single_tone_row(mcs: u64) -> u64
     requires { mcs < 5 }
     ensures { result ≡ entry single_tone_rows mcs }
 {
-    byte(SINGLE_TONE_ROWS[mcs as usize])
+    u64::from(SINGLE_TONE_ROWS[mcs as usize])
 }
 
 pub fn single_tone_order(mcs: u64) -> u64
     requires { mcs < 5 }
     ensures { result ≡ entry single_tone_orders mcs }
 {
-    byte(SINGLE_TONE_ORDERS[mcs as usize])
+    u64::from(SINGLE_TONE_ORDERS[mcs as usize])
 }
 
-// min(x, 4).
 pub fn up_to_four(x: u64) -> u64
     ensures { result ≡ up_to_four x }
 {
-    if x < 4 {
-        return x;
-    }
-    4
+    x.min(4)
 }
 
 // A power of two, 1 to 2048.
 pub fn is_repetition(x: u64) -> bool
     ensures { result ≡ is_repetition x }
 {
-    (x <= 2048) & (counting::ones_of(x) == 1)
+    x <= 2048 && x.is_power_of_two()
 }
