@@ -26,20 +26,16 @@ fn four(log: u64, first: u64, sib1: u64) -> Pattern
 }
 
 // The pattern of an anchor whose bitmap allows all.
+#[tactic(auto, unfolding(crate::specs::Quick::anchor_pattern))]
 pub fn pattern(identity: u64, schedule: u64) -> Pattern
     ensures { result ≡ anchor_pattern identity schedule }
 {
-    let k = schedule % 3;
-    if k == 0 {
-        return four(4, 4 * (identity % 4), NOT_EVEN);
+    match schedule % 3 {
+        0 => four(4, 4 * (identity % 4), NOT_EVEN),
+        1 => four(3, 4 * (identity % 2), NOT_EVEN),
+        _ if identity % 2 == 0 => four(2, 0, NOT_EVEN),
+        _ => four(2, 0, NOT_ODD),
     }
-    if k == 1 {
-        return four(3, 4 * (identity % 2), NOT_EVEN);
-    }
-    if identity % 2 == 0 {
-        return four(2, 0, NOT_EVEN);
-    }
-    four(2, 0, NOT_ODD)
 }
 
 pub fn is_npbch(t: u64) -> bool
@@ -64,43 +60,28 @@ pub fn is_nsss(t: u64) -> bool
 pub fn sib1_copies(schedule: u64) -> u64
     ensures { result ≡ sib1_copies schedule }
 {
-    let k = schedule % 3;
-    if k == 0 {
-        return 4;
+    match schedule % 3 {
+        0 => 4,
+        1 => 8,
+        _ => 16,
     }
-    if k == 1 {
-        return 8;
-    }
-    16
 }
 
-// Every other frame of sixteen, x the frame's place.
-fn of_sixteen(x: u64) -> bool
-    ensures { result ≡ (even x && ltb x 16) }
-{
-    (x % 2 == 0) & (x < 16)
-}
-
-// Frame f has SIB1: its place among 64, 32 or 16 frames, from SIB1's first frame on.
+// Frame f has SIB1: by its place among 64, 32 or 16 frames, from SIB1's first frame on, every other of sixteen.
 fn has_sib1(identity: u64, schedule: u64, f: u64) -> bool
     requires { f < 1024 }
     ensures { result ≡ (even (sib1_place identity schedule f) && ltb (sib1_place identity schedule f) 16) }
 {
-    let k = schedule % 3;
-    if k == 0 {
-        return of_sixteen((f + 256 - 16 * (identity % 4)) % 64);
-    }
-    if k == 1 {
-        return of_sixteen((f + 256 - 16 * (identity % 2)) % 32);
-    }
-    of_sixteen((f + 256 - identity % 2) % 16)
+    let x = match schedule % 3 {
+        0 => (f + 256 - 16 * (identity % 4)) % 64,
+        1 => (f + 256 - 16 * (identity % 2)) % 32,
+        _ => (f + 256 - identity % 2) % 16,
+    };
+    (x % 2 == 0) & (x < 16)
 }
 
 pub fn is_sib1(identity: u64, schedule: u64, t: u64) -> bool
     ensures { result ≡ sib1 identity schedule t }
 {
-    if t % 10 == 4 {
-        return has_sib1(identity, schedule, t / 10 % 1024);
-    }
-    false
+    t % 10 == 4 && has_sib1(identity, schedule, t / 10 % 1024)
 }
