@@ -2,7 +2,7 @@
 // begins. What the entries want where a unit begins, and what they need of it.
 #![tactic(auto)]
 
-ghost use Rattle.std.specs.Prelude.{true, ◌≡◌, ◌+◌, ◌-◌, ◌*◌, ◌^◌, min, max, ◌<◌, ◌≤◌};
+ghost use Rattle.std.specs.Prelude.{true, ◌≡◌, ◌+◌, ◌-◌, ◌*◌, ◌^◌, ◌<◌, ◌≤◌};
 ghost use Rattle.std.specs.Int.Count.{ones};
 ghost use Rattle.counting.specs.Counting.{rank, count};
 ghost use Rattle.spans.specs.Pattern.{allows};
@@ -14,34 +14,6 @@ ghost use Rattle.units.specs.Quick.{no_wants, opened_of, wants_in, Allowing, Spo
 
 use messages::{Messages, Schedule};
 use spans::Pattern;
-
-pub fn least(a: u64, b: u64) -> u64
-    ensures { result ≡ min a b }
-{
-    if a <= b {
-        return a;
-    }
-    b
-}
-
-fn most(a: u64, b: u64) -> u64
-    ensures { result ≡ max a b }
-{
-    if a <= b {
-        return b;
-    }
-    a
-}
-
-// a less b, or 0.
-pub fn monus(a: u64, b: u64) -> u64
-    ensures { result ≡ a - b }
-{
-    if a < b {
-        return 0;
-    }
-    a - b
-}
 
 // The shortest distance of copies that is read is 2^shortest frames, the longest period 2^longest.
 #[derive(Clone, Copy)]
@@ -59,19 +31,21 @@ fn log_of(x: u64) -> u64
 }
 
 // The same with one more schedule, if it is read.
+#[tactic(auto, unfolding(crate::specs::Quick::logs_with))]
 fn with_schedule(logs: Logs, read: bool, s: Schedule) -> Logs
     requires { read ≡ true → HasLog s.every × HasLog s.period }
     ensures { result ≡ logs_with logs read s }
 {
-    if read {
-        return Logs {
-            shortest: least(logs.shortest, log_of(s.every)),
-            longest: most(logs.longest, log_of(s.period)),
-        };
+    if !read {
+        return logs;
     }
-    logs
+    Logs {
+        shortest: logs.shortest.min(log_of(s.every)),
+        longest: logs.longest.max(log_of(s.period)),
+    }
 }
 
+#[tactic(auto, unfolding(crate::specs::Quick::logs_of))]
 fn logs_of(ms: Messages) -> Logs
     requires { are_listed ms ≡ true }
     ensures { result ≡ logs_of ms }
@@ -99,26 +73,27 @@ pub struct Lane {
 }
 
 // An entry with so many before it, in units of 2^k frames.
+#[tactic(auto, unfolding(crate::specs::Quick::lane_of))]
 fn lane_of(read: bool, s: Schedule, before: u64, window: u64, k: u64) -> Lane
     requires { (before ≤ 3) × (window ≤ 160) × (k ≤ 4) × (read ≡ true → InUnits s k) }
     ensures { result ≡ lane_of read s before window k }
 {
-    if read {
-        let log = log_of(s.period) - k;
+    if !read {
         return Lane {
-            log,
-            start: counting::low(before * window, log),
-            window,
-            every: log_of(s.every) - k,
-            size: s.size,
+            log: 6 - k,
+            start: 0,
+            window: 0,
+            every: 0,
+            size: 0,
         };
     }
+    let log = log_of(s.period) - k;
     Lane {
-        log: 6 - k,
-        start: 0,
-        window: 0,
-        every: 0,
-        size: 0,
+        log,
+        start: counting::low(before * window, log),
+        window,
+        every: log_of(s.every) - k,
+        size: s.size,
     }
 }
 
@@ -165,20 +140,19 @@ pub fn place(l: Lane, n: u64) -> u64
 }
 
 // What is needed at unit n of a lane that wants so many, with the copy that begins there.
+#[tactic(auto, using(crate::proofs::Lanes::need_most), unfolding(crate::specs::Quick::need_of))]
 fn need(l: Lane, n: u64, want: u64) -> u64
     requires { Ranged l × (n < 2 ^ 40) × (want ≤ 8 * place_of l n) }
     ensures { (result ≡ need_of l n want) × (result ≤ 8 * place_of l n + 8) }
 {
     let x = place(l, n);
-    let window = l.window;
-    let size = l.size;
-    if x >= window {
-        return 0;
+    if x >= l.window {
+        0
+    } else if counting::low(x, l.every) == 0 {
+        want + l.size
+    } else {
+        want
     }
-    if counting::low(x, l.every) == 0 {
-        return want + size;
-    }
-    want
 }
 
 // One entry of a unit: what it wants at the next one, and how many subframes are free after it.
@@ -189,21 +163,23 @@ pub struct LaneStep {
 }
 
 // One lane of a unit of which so many subframes are free.
+#[tactic(auto, using(crate::proofs::Lanes::step_most), unfolding(crate::specs::Quick::lane_step_of))]
 pub fn lay(l: Lane, n: u64, want: u64, free: u64) -> LaneStep
     requires { Ranged l × (n < 2 ^ 40) × (want ≤ 8 * place_of l n) }
     ensures { (result ≡ lane_step_of l n want free) × (result.want ≤ 8 * place_of l (n + 1)) }
 {
     let b = need(l, n, want);
-    let window = l.window;
-    if place(l, n) + 1 >= window {
-        return LaneStep {
+    let rest = free.saturating_sub(b);
+    if place(l, n) + 1 >= l.window {
+        LaneStep {
             want: 0,
-            free: monus(free, b),
-        };
-    }
-    LaneStep {
-        want: monus(b, free),
-        free: monus(free, b),
+            free: rest,
+        }
+    } else {
+        LaneStep {
+            want: b.saturating_sub(free),
+            free: rest,
+        }
     }
 }
 
@@ -224,6 +200,7 @@ pub struct UnitStep {
 }
 
 // A unit of which so many subframes are free before messages.
+#[tactic(auto, unfolding(crate::specs::Quick::unit_step_of))]
 pub fn pass(table: Timetable, n: u64, w: Wants, free: u64) -> UnitStep
     requires { Sized table × (n < 2 ^ 40) × Small table n w }
     ensures { (result ≡ unit_step_of table n w free) × Small table (n + 1) result.wants }
@@ -244,6 +221,7 @@ pub fn pass(table: Timetable, n: u64, w: Wants, free: u64) -> UnitStep
 }
 
 // What all need at unit n.
+#[tactic(auto, using(crate::proofs::Lanes::place_below), unfolding(crate::specs::Quick::unit_need))]
 pub fn all_need(table: Timetable, n: u64, w: Wants) -> u64
     requires { Sized table × (n < 2 ^ 40) × Small table n w }
     ensures { (result ≡ unit_need table n w) × (result < 2 ^ 17) }
@@ -282,16 +260,13 @@ pub fn no_wants() -> Wants
 }
 
 // The unit in which the window opened that is open at unit n; else n.
+#[tactic(auto, unfolding(crate::specs::Quick::opened_of))]
 fn opened(l: Lane, n: u64) -> u64
     requires { Ranged l × (n < 2 ^ 40) × (2 ^ l.log ≤ n) }
     ensures { (result ≡ opened_of l n) × (result ≤ n) × (n ≤ result + 2 ^ l.log) }
 {
     let x = place(l, n);
-    let window = l.window;
-    if x < window {
-        return n - x;
-    }
-    n
+    if x < l.window { n - x } else { n }
 }
 
 // The k-th remaining subframe from where unit n begins, with what is wanted there and how many are free before it.
@@ -308,36 +283,22 @@ pub fn run(table: Timetable, p: Pattern, s: Sight, to: u64) -> Sight
     requires { Sized table × Allowing p × Seen table (allows p) s × (s.n ≤ to) × (to < 2 ^ 19) }
     ensures { Ran table (allows p) s to result }
 {
-    let mut n = s.n;
-    let mut w1 = s.wants.w1;
-    let mut w2 = s.wants.w2;
-    let mut w3 = s.wants.w3;
-    let mut w4 = s.wants.w4;
+    let mut wants = s.wants;
     let mut free = s.free;
     let mut k = s.k;
-    while n < to {
+    for n in s.n..to {
         let next = free_before(p, begin(table, n + 1));
-        let r = pass(table, n, Wants { w1, w2, w3, w4 }, next - free);
-        let remaining = r.remaining;
-        if k < remaining {
-            return Sight {
-                n,
-                wants: Wants { w1, w2, w3, w4 },
-                free,
-                k,
-            };
+        let r = pass(table, n, wants, next - free);
+        if k < r.remaining {
+            return Sight { n, wants, free, k };
         }
-        k -= remaining;
-        w1 = r.wants.w1;
-        w2 = r.wants.w2;
-        w3 = r.wants.w3;
-        w4 = r.wants.w4;
+        k -= r.remaining;
+        wants = r.wants;
         free = next;
-        n += 1;
     }
     Sight {
-        n,
-        wants: Wants { w1, w2, w3, w4 },
+        n: to,
+        wants,
         free,
         k,
     }
@@ -353,18 +314,17 @@ pub fn sight_at(table: Timetable, p: Pattern, n: u64) -> Sight
     let a3 = opened(table.l3, a4);
     let a2 = opened(table.l2, a3);
     let a1 = opened(table.l1, a2);
-    let wants = no_wants();
-    let free = free_before(p, begin(table, a1));
     let from = Sight {
         n: a1,
-        wants,
-        free,
+        wants: no_wants(),
+        free: free_before(p, begin(table, a1)),
         k: 0x8000_0000,
     };
     if a1 == n {
-        return from;
+        from
+    } else {
+        run(table, p, from, n)
     }
-    run(table, p, from, n)
 }
 
 // Subframe y of unit n.
@@ -379,15 +339,16 @@ pub fn spot_of(table: Timetable, t: u64) -> Spot
     requires { Sized table × (t < 2 * (table.unit * table.units)) }
     ensures { SpotAt table t result }
 {
-    let unit = table.unit;
-    let units = table.units;
-    let first = table.first;
-    let x = t + 5 * (unit * units) - first;
-    let n = counting::quotient(x, unit);
-    Spot { n, y: x - n * unit }
+    let x = t + 5 * (table.unit * table.units) - table.first;
+    let n = counting::quotient(x, table.unit);
+    Spot {
+        n,
+        y: x - n * table.unit,
+    }
 }
 
 // How many of the first y subframes of unit n are free before messages; so many are before it.
+#[tactic(auto, using(counting::proofs::Rank::rank_count))]
 pub fn free_first(table: Timetable, p: Pattern, n: u64, free: u64, y: u64) -> u64
     requires { Sized table × Allowing p × (n < 2 ^ 20) × (y ≤ 160) × (free ≡ rank (allows p) (begin_of table n)) }
     ensures { result ≡ count (allows p) (begin_of table n) y }

@@ -2,7 +2,7 @@ use mathlib.Core.Bool.{Bool, true}
 use mathlib.Core.Path.{◌≡◌, sym, ap, ap₂, subst, ◌∙◌}
 use Prim.Native.Nat.{ℕ, ◌-◌, ◌*◌, ◌/◌, ◌^◌, ◌≤◌}
 use native.Mathlib.Omega.{arith}
-use lib.Pow.{pow_pos, pow_mono, shr_le}
+use lib.Pow.{pow_mono, shr_le}
 use Rattle.messages.specs.declared.Messages.{Messages}
 use Rattle.messages.specs.declared.Schedule.{Schedule}
 use Rattle.units.specs.declared.Logs.{Logs}
@@ -93,14 +93,8 @@ returns c =
     let s = c in
     (made c, subst Sized (sym (made c)) (sized s.args.ms s.requires))
 
-pub logs_of-logs-requires : goal.logs_of-logs-requires
-logs_of-logs-requires c = c.requires
-
 pub power_of_two-requires : goal.power_of_two-requires
 power_of_two-requires c = let o = c in omega (arith, ap (λ (l : Logs). l.shortest) o.logs_of-logs.ensures, shortest_to o.args.ms o.requires)
-
-pub nonzero_div-window-2 : goal.nonzero_div-window-2
-nonzero_div-window-2 c = omega (arith, power_is c, pow_pos (shortest_of (ms c)))
 
 pub overflow_mul-result : goal.overflow_mul-result
 overflow_mul-result c = let s = c in omega (arith, (listed s.args.ms s.requires).offset_to)
