@@ -1,4 +1,5 @@
 -- What remains, asked at any subframe: whole periods are taken off, and the unit in which it lies says the rest.
+use Rattle.std.specs.Prelude.{List}
 use mathlib.Core.Bool.{Bool, true, ◌&&◌}
 use mathlib.Core.Path.{◌≡◌, sym, ap, ◌∙◌}
 use Prim.Native.Nat.{ℕ, ◌+◌, ◌-◌, ◌*◌, ◌/◌, ◌%◌, ◌^◌, ◌≤◌, ◌<◌}
@@ -12,7 +13,6 @@ use Rattle.spans.specs.Pattern.{span, spans_of, allows, period_of, Regular}
 use Rattle.spans.proofs.Laws.{repeats, some_spans}
 use Rattle.messages.specs.declared.Messages.{Messages}
 use Rattle.units.specs.declared.Timetable.{Timetable}
-use Rattle.units.specs.declared.Wants.{Wants}
 use Rattle.messages.specs.Messages.{all_periods, remaining}
 use Rattle.units.specs.Quick.{Sized, begin_of, unit_need, Exact, Allowing, SpotAt, Serves}
 use Rattle.units.proofs.Timetables.{split}
@@ -82,7 +82,7 @@ module _ (ms : Messages) (p : Pattern) (reg : Regular p) (table : Timetable) (S 
   remaining_again = repeats_all ms u table S near
 
   -- whether subframe y of a unit remains, asked of the first periods
-  pub remains_here : (n y t : ℕ) (w : Wants) → Exact ms u table n w → y < table.unit → begin_of table n + y ≡ t + 5 * Q
+  pub remains_here : (n y t : ℕ) (w : List ℕ) → Exact ms u table n w → y < table.unit → begin_of table n + y ≡ t + 5 * Q
       → (u t && leb (unit_need table n w) (count u (begin_of table n) y)) ≡ remaining ms u t
   remains_here n y t w X l e =
       let five : (test : ℕ → Bool) → ((t : ℕ) → test (t + Q) ≡ test t) → test (begin_of table n + y) ≡ test t = λ test again. ap test e ∙ repeats_times test Q again 5 t in
@@ -90,7 +90,7 @@ module _ (ms : Messages) (p : Pattern) (reg : Regular p) (table : Timetable) (S 
       ∙ ap (λ (b : Bool). b && leb (unit_need table n w) (count u (begin_of table n) y)) (five u near))
 
   -- and of any
-  pub remains_found : (t n y : ℕ) (w : Wants) → Exact ms u table n w → y < table.unit → begin_of table n + y ≡ t % Q + 5 * Q → u t ≡ true
+  pub remains_found : (t n y : ℕ) (w : List ℕ) → Exact ms u table n w → y < table.unit → begin_of table n + y ≡ t % Q + 5 * Q → u t ≡ true
       → leb (unit_need table n w) (count u (begin_of table n) y) ≡ remaining ms u t
   remains_found t n y w X l e h =
       let a : u (t % Q) ≡ true = sym (test_split u Q near t) ∙ h in

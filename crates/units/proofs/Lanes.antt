@@ -1,4 +1,5 @@
 -- A lane from unit to unit: its place goes up by one until the next window opens, and what is wanted stays small.
+use Rattle.std.specs.Prelude.{List}
 use mathlib.Core.Bool.{Bool, true, false, cond}
 use mathlib.Core.Path.{◌≡◌, refl, ap, ◌∙◌, sym}
 use mathlib.Core.Logic.{◌⊎◌, inl, inr, ⊎_elim}
@@ -14,7 +15,6 @@ use Rattle.units.specs.declared.Lane.{Lane}
 use Rattle.counting.specs.Counting.{rank, count}
 use Rattle.counting.proofs.Rank.{rank_count}
 use Rattle.units.specs.declared.Timetable.{Timetable}
-use Rattle.units.specs.declared.Wants.{Wants}
 use Rattle.units.specs.declared.UnitStep.{UnitStep}
 use Rattle.units.specs.Quick.{Ranged, place_of, need_of, lane_step_of, begin_of, unit_step_of, Small, no_wants, wants_from, rest_from, opened_of}
 
@@ -128,7 +128,7 @@ module _ (table : Timetable) where
   pub none_small : (n : ℕ) → Small table n no_wants
   none_small n = record { s1 = omega arith; s2 = omega arith; s3 = omega arith; s4 = omega arith }
 
-  module _ (u : ℕ → Bool) (n : ℕ) (w : Wants) where
+  module _ (u : ℕ → Bool) (n : ℕ) (w : List ℕ) where
     abbrev step_after : ℕ → UnitStep
     step_after i = unit_step_of table (n + i) (wants_from table u n w i) (count u (begin_of table (n + i)) table.unit)
 
@@ -149,11 +149,11 @@ module _ (table : Timetable) where
   unit_free u n = ap (rank u) (next_begin n) ∙ sym (rank_count u table.unit (begin_of table n))
 
   -- no more remain than are free
-  pub unit_most : (n free : ℕ) (w : Wants) → (unit_step_of table n w free).remaining ≤ free
+  pub unit_most : (n free : ℕ) (w : List ℕ) → (unit_step_of table n w free).remaining ≤ free
   unfolding unit_step_of lane_step_of
   unit_most n free w = omega arith
 
-  pub rest_most : (u : ℕ → Bool) (n : ℕ) (w : Wants) (i : ℕ) → rank u (begin_of table n) + rest_from table u n w i ≤ rank u (begin_of table (n + i))
+  pub rest_most : (u : ℕ → Bool) (n : ℕ) (w : List ℕ) (i : ℕ) → rank u (begin_of table n) + rest_from table u n w i ≤ rank u (begin_of table (n + i))
   rest_most u n w zero = rw (add-zero n) (omega (arith, (run_none u n w).1))
   rest_most u n w (suc i) =
       let e : n + i + 1 ≡ n + suc i = omega arith in

@@ -1,4 +1,5 @@
 -- A lane of the timetable runs as its entry does: from unit to unit it needs and wants the same.
+use Rattle.units.specs.Quick.{lane_at}
 use mathlib.Core.Bool.{Bool, true, false, cond, ◌&&◌}
 use mathlib.Core.Path.{◌≡◌, refl, sym, ap, ap₂, subst, ◌∙◌}
 use mathlib.Core.Logic.{◌⊎◌, inl, inr, ⊎_elim}
@@ -213,10 +214,10 @@ module _ (ms : Messages) (j : ℕ) (s : Schedule) (before w k : ℕ) (unread : i
 -- ---- all four
 
 pub record AllRun (ms : Messages) (table : Timetable) : Type 0 where
-  pub r1 : Runs ms 1 ms.s1 table table.l1
-  pub r2 : Runs ms 2 ms.s2 table table.l2
-  pub r3 : Runs ms 3 ms.s3 table table.l3
-  pub r4 : Runs ms 4 ms.s4 table table.l4
+  pub r1 : Runs ms 1 ms.s1 table (lane_at table 0)
+  pub r2 : Runs ms 2 ms.s2 table (lane_at table 1)
+  pub r3 : Runs ms 3 ms.s3 table (lane_at table 2)
+  pub r4 : Runs ms 4 ms.s4 table (lane_at table 3)
 
 module _ (ms : Messages) (ok : are_listed ms ≡ true) where
   abbrev all : Timetable
@@ -235,10 +236,10 @@ module _ (ms : Messages) (ok : are_listed ms ≡ true) where
       (λ r. subst (λ (b : Bool). Runs ms j s all (lane_of b s (j - 1) (window_frames ms / 2 ^ shortest_of ms) (shortest_of ms))) (sym r)
       (unread_runs ms j s (j - 1) (window_frames ms / 2 ^ shortest_of ms) (shortest_of ms) r all)) (truth (is_read ms j))
 
-  lanes_are : (all.l1 ≡ lane_of (is_read ms 1) ms.s1 0 (window_frames ms / 2 ^ shortest_of ms) (shortest_of ms))
-      × (all.l2 ≡ lane_of (is_read ms 2) ms.s2 1 (window_frames ms / 2 ^ shortest_of ms) (shortest_of ms))
-      × (all.l3 ≡ lane_of (is_read ms 3) ms.s3 2 (window_frames ms / 2 ^ shortest_of ms) (shortest_of ms))
-      × (all.l4 ≡ lane_of (is_read ms 4) ms.s4 3 (window_frames ms / 2 ^ shortest_of ms) (shortest_of ms))
+  lanes_are : (lane_at all 0 ≡ lane_of (is_read ms 1) ms.s1 0 (window_frames ms / 2 ^ shortest_of ms) (shortest_of ms))
+      × (lane_at all 1 ≡ lane_of (is_read ms 2) ms.s2 1 (window_frames ms / 2 ^ shortest_of ms) (shortest_of ms))
+      × (lane_at all 2 ≡ lane_of (is_read ms 3) ms.s3 2 (window_frames ms / 2 ^ shortest_of ms) (shortest_of ms))
+      × (lane_at all 3 ≡ lane_of (is_read ms 4) ms.s4 3 (window_frames ms / 2 ^ shortest_of ms) (shortest_of ms))
   unfolding timetable_of
   lanes_are = (refl, refl, refl, refl)
 

@@ -1,4 +1,7 @@
 -- What the walk finds at a unit is what the entries want there: an entry's count is right from where its window opened.
+use Rattle.units.specs.Quick.{lane_at}
+use Rattle.std.specs.Prelude.{get_or}
+use Rattle.std.specs.Prelude.{List}
 use mathlib.Core.Bool.{Bool, ◌&&◌}
 use mathlib.Core.Path.{◌≡◌, refl, sym, ap, ap₂, subst, ◌∙◌}
 use mathlib.Core.Logic.{⊎_elim}
@@ -12,7 +15,6 @@ use Rattle.messages.specs.declared.Schedule.{Schedule}
 use Rattle.messages.specs.declared.Messages.{Messages}
 use Rattle.units.specs.declared.Lane.{Lane}
 use Rattle.units.specs.declared.Timetable.{Timetable}
-use Rattle.units.specs.declared.Wants.{Wants}
 use Rattle.messages.specs.Messages.{all_periods, remains, after1, after2, after3, remaining}
 use Rattle.units.specs.Quick.{wants_at, all_need, Ranged, Sized, begin_of, need_of, lane_step_of, unit_step_of, unit_need, no_wants, wants_from, rest_from, opened_of, walk_from, wants_in, Exact, Serves}
 use Rattle.messages.proofs.Repeating.{AllTurns, again1, again2, again3, remaining_repeats, sound, turns}
@@ -95,40 +97,40 @@ module _ (ms : Messages) (u : ℕ → Bool) (again : (t : ℕ) → u (t + all_pe
   free n = count u (begin_of table n) table.unit
 
   -- right from a1, a2, a3, a4 on
-  record Known (a1 a2 a3 a4 n : ℕ) (w : Wants) : Type 0 where
-    k1 : a1 ≤ n → w.w1 ≡ wants_at ms 1 ms.s1 u (begin_of table n)
-    k2 : a2 ≤ n → w.w2 ≡ wants_at ms 2 ms.s2 u1 (begin_of table n)
-    k3 : a3 ≤ n → w.w3 ≡ wants_at ms 3 ms.s3 u2 (begin_of table n)
-    k4 : a4 ≤ n → w.w4 ≡ wants_at ms 4 ms.s4 u3 (begin_of table n)
+  record Known (a1 a2 a3 a4 n : ℕ) (w : List ℕ) : Type 0 where
+    k1 : a1 ≤ n → get_or w 0 0 ≡ wants_at ms 1 ms.s1 u (begin_of table n)
+    k2 : a2 ≤ n → get_or w 1 0 ≡ wants_at ms 2 ms.s2 u1 (begin_of table n)
+    k3 : a3 ≤ n → get_or w 2 0 ≡ wants_at ms 3 ms.s3 u2 (begin_of table n)
+    k4 : a4 ≤ n → get_or w 3 0 ≡ wants_at ms 4 ms.s4 u3 (begin_of table n)
 
-  module _ (a1 a2 a3 a4 : ℕ) (f1 : Fresh table.l1 a1) (f2 : Fresh table.l2 a2) (f3 : Fresh table.l3 a3) (f4 : Fresh table.l4 a4)
+  module _ (a1 a2 a3 a4 : ℕ) (f1 : Fresh (lane_at table 0) a1) (f2 : Fresh (lane_at table 1) a2) (f3 : Fresh (lane_at table 2) a3) (f4 : Fresh (lane_at table 3) a4)
       (o2 : a1 ≤ a2) (o3 : a2 ≤ a3) (o4 : a3 ≤ a4) where
     known_first : Known a1 a2 a3 a4 a1 no_wants
     known_first = record {
       k1 = λ h. sym (R.r1.shut u a1 f1);
-      k2 = λ h. sym (R.r2.shut u1 a1 (subst (Fresh table.l2) (omega arith) f2));
-      k3 = λ h. sym (R.r3.shut u2 a1 (subst (Fresh table.l3) (omega arith) f3));
-      k4 = λ h. sym (R.r4.shut u3 a1 (subst (Fresh table.l4) (omega arith) f4));
+      k2 = λ h. sym (R.r2.shut u1 a1 (subst (Fresh (lane_at table 1)) (omega arith) f2));
+      k3 = λ h. sym (R.r3.shut u2 a1 (subst (Fresh (lane_at table 2)) (omega arith) f3));
+      k4 = λ h. sym (R.r4.shut u3 a1 (subst (Fresh (lane_at table 3)) (omega arith) f4));
     }
 
-    known_next : (n : ℕ) (w : Wants) → Known a1 a2 a3 a4 n w → Known a1 a2 a3 a4 (n + 1) (unit_step_of table n w (free n)).wants
+    known_next : (n : ℕ) (w : List ℕ) → Known a1 a2 a3 a4 n w → Known a1 a2 a3 a4 (n + 1) (unit_step_of table n w (free n)).wants
     unfolding unit_step_of
     known_next n w K =
-        let g1 : a1 ≤ n → (lane_step_of table.l1 n w.w1 (free n)).free ≡ count u1 (begin_of table n) table.unit =
-        λ h. free_next ms 1 ms.s1 table table.l1 R.r1 Z.r1 u again n w.w1 (free n) (K.k1 h) refl in
-        let b : ℕ = (lane_step_of table.l1 n w.w1 (free n)).free in
-        let g2 : a2 ≤ n → (lane_step_of table.l2 n w.w2 b).free ≡ count u2 (begin_of table n) table.unit =
-        λ h. free_next ms 2 ms.s2 table table.l2 R.r2 Z.r2 u1 far1 n w.w2 b (K.k2 h) (g1 (omega arith)) in
-        let c : ℕ = (lane_step_of table.l2 n w.w2 b).free in
-        let g3 : a3 ≤ n → (lane_step_of table.l3 n w.w3 c).free ≡ count u3 (begin_of table n) table.unit =
-        λ h. free_next ms 3 ms.s3 table table.l3 R.r3 Z.r3 u2 far2 n w.w3 c (K.k3 h) (g2 (omega arith)) in
+        let g1 : a1 ≤ n → (lane_step_of (lane_at table 0) n (get_or w 0 0) (free n)).free ≡ count u1 (begin_of table n) table.unit =
+        λ h. free_next ms 1 ms.s1 table (lane_at table 0) R.r1 Z.r1 u again n (get_or w 0 0) (free n) (K.k1 h) refl in
+        let b : ℕ = (lane_step_of (lane_at table 0) n (get_or w 0 0) (free n)).free in
+        let g2 : a2 ≤ n → (lane_step_of (lane_at table 1) n (get_or w 1 0) b).free ≡ count u2 (begin_of table n) table.unit =
+        λ h. free_next ms 2 ms.s2 table (lane_at table 1) R.r2 Z.r2 u1 far1 n (get_or w 1 0) b (K.k2 h) (g1 (omega arith)) in
+        let c : ℕ = (lane_step_of (lane_at table 1) n (get_or w 1 0) b).free in
+        let g3 : a3 ≤ n → (lane_step_of (lane_at table 2) n (get_or w 2 0) c).free ≡ count u3 (begin_of table n) table.unit =
+        λ h. free_next ms 3 ms.s3 table (lane_at table 2) R.r3 Z.r3 u2 far2 n (get_or w 2 0) c (K.k3 h) (g2 (omega arith)) in
         record {
-          k1 = wants_next ms 1 ms.s1 table table.l1 R.r1 Z.r1 u again a1 n w.w1 (free n) f1 K.k1 (λ h. refl);
-          k2 = wants_next ms 2 ms.s2 table table.l2 R.r2 Z.r2 u1 far1 a2 n w.w2 b f2 K.k2 (λ h. g1 (omega arith));
-          k3 = wants_next ms 3 ms.s3 table table.l3 R.r3 Z.r3 u2 far2 a3 n w.w3 c f3 K.k3 (λ h. g2 (omega arith));
+          k1 = wants_next ms 1 ms.s1 table (lane_at table 0) R.r1 Z.r1 u again a1 n (get_or w 0 0) (free n) f1 K.k1 (λ h. refl);
+          k2 = wants_next ms 2 ms.s2 table (lane_at table 1) R.r2 Z.r2 u1 far1 a2 n (get_or w 1 0) b f2 K.k2 (λ h. g1 (omega arith));
+          k3 = wants_next ms 3 ms.s3 table (lane_at table 2) R.r3 Z.r3 u2 far2 a3 n (get_or w 2 0) c f3 K.k3 (λ h. g2 (omega arith));
           k4 =
-              wants_next ms 4 ms.s4 table table.l4 R.r4 Z.r4 u3 far3 a4 n w.w4
-              (lane_step_of table.l3 n w.w3 c).free f4 K.k4 (λ h. g3 (omega arith));
+              wants_next ms 4 ms.s4 table (lane_at table 3) R.r4 Z.r4 u3 far3 a4 n (get_or w 3 0)
+              (lane_step_of (lane_at table 2) n (get_or w 2 0) c).free f4 K.k4 (λ h. g3 (omega arith));
         }
 
     known_after : (i : ℕ) → Known a1 a2 a3 a4 (a1 + i) (wants_from table u a1 no_wants i)
@@ -143,24 +145,24 @@ module _ (ms : Messages) (u : ℕ → Bool) (again : (t : ℕ) → u (t + all_pe
   pub walk_exact : (n : ℕ) → 4 * table.units ≤ n → Exact ms u table n (wants_in table u n)
   unfolding wants_in walk_from
   walk_exact n h =
-      let a4 : ℕ = opened_of table.l4 n in
-      let a3 : ℕ = opened_of table.l3 a4 in
-      let a2 : ℕ = opened_of table.l2 a3 in
-      let a1 : ℕ = opened_of table.l1 a2 in
-      let b4 : a4 ≤ n = opened_most table.l4 Z.r4 n in
-      let b3 : a3 ≤ a4 = opened_most table.l3 Z.r3 a4 in
-      let b2 : a2 ≤ a3 = opened_most table.l2 Z.r2 a3 in
-      let b1 : a1 ≤ a2 = opened_most table.l1 Z.r1 a2 in
-      let c4 : n ≤ a4 + table.units = omega (arith, opened_least table.l4 Z.r4 n, Z.t4) in
-      let c3 : a4 ≤ a3 + table.units = omega (arith, opened_least table.l3 Z.r3 a4, Z.t3) in
-      let c2 : a3 ≤ a2 + table.units = omega (arith, opened_least table.l2 Z.r2 a3, Z.t2) in
+      let a4 : ℕ = opened_of (lane_at table 3) n in
+      let a3 : ℕ = opened_of (lane_at table 2) a4 in
+      let a2 : ℕ = opened_of (lane_at table 1) a3 in
+      let a1 : ℕ = opened_of (lane_at table 0) a2 in
+      let b4 : a4 ≤ n = opened_most (lane_at table 3) Z.r4 n in
+      let b3 : a3 ≤ a4 = opened_most (lane_at table 2) Z.r3 a4 in
+      let b2 : a2 ≤ a3 = opened_most (lane_at table 1) Z.r2 a3 in
+      let b1 : a1 ≤ a2 = opened_most (lane_at table 0) Z.r1 a2 in
+      let c4 : n ≤ a4 + table.units = omega (arith, opened_least (lane_at table 3) Z.r4 n, Z.t4) in
+      let c3 : a4 ≤ a3 + table.units = omega (arith, opened_least (lane_at table 2) Z.r3 a4, Z.t3) in
+      let c2 : a3 ≤ a2 + table.units = omega (arith, opened_least (lane_at table 1) Z.r2 a3, Z.t2) in
       let e : a1 + (n - a1) ≡ n = omega (arith, b1, b2, b3, b4) in
       let K =
       known_after a1 a2 a3 a4
-      (opened_fresh table.l1 Z.r1 a2 (omega (arith, h, c4, c3, c2, Z.t1)))
-      (opened_fresh table.l2 Z.r2 a3 (omega (arith, h, c4, c3, Z.t2)))
-      (opened_fresh table.l3 Z.r3 a4 (omega (arith, h, c4, Z.t3)))
-      (opened_fresh table.l4 Z.r4 n (omega (arith, h, Z.t4)))
+      (opened_fresh (lane_at table 0) Z.r1 a2 (omega (arith, h, c4, c3, c2, Z.t1)))
+      (opened_fresh (lane_at table 1) Z.r2 a3 (omega (arith, h, c4, c3, Z.t2)))
+      (opened_fresh (lane_at table 2) Z.r3 a4 (omega (arith, h, c4, Z.t3)))
+      (opened_fresh (lane_at table 3) Z.r4 n (omega (arith, h, Z.t4)))
       b1 b2 b3 (n - a1) in
       let K' : Known a1 a2 a3 a4 n (wants_from table u a1 no_wants (n - a1)) = subst (λ (m : ℕ). Known a1 a2 a3 a4 m (wants_from table u a1 no_wants (n - a1))) e K in
       record {
@@ -172,16 +174,16 @@ module _ (ms : Messages) (u : ℕ → Bool) (again : (t : ℕ) → u (t + all_pe
 
   -- ---- a unit with exact wants
 
-  module _ (n : ℕ) (w : Wants) (X : Exact ms u table n w) where
+  module _ (n : ℕ) (w : List ℕ) (X : Exact ms u table n w) where
     pub need_exact : unit_need table n w ≡ all_need ms u (begin_of table n)
     unfolding unit_need all_need
     need_exact =
         omega (
           arith,
-          ap (need_of table.l1 n) X.x1 ∙ sym (R.r1.needs u n),
-          ap (need_of table.l2 n) X.x2 ∙ sym (R.r2.needs u1 n),
-          ap (need_of table.l3 n) X.x3 ∙ sym (R.r3.needs u2 n),
-          ap (need_of table.l4 n) X.x4 ∙ sym (R.r4.needs u3 n),
+          ap (need_of (lane_at table 0) n) X.x1 ∙ sym (R.r1.needs u n),
+          ap (need_of (lane_at table 1) n) X.x2 ∙ sym (R.r2.needs u1 n),
+          ap (need_of (lane_at table 2) n) X.x3 ∙ sym (R.r3.needs u2 n),
+          ap (need_of (lane_at table 3) n) X.x4 ∙ sym (R.r4.needs u3 n),
         )
 
     -- of its first y subframes those remain that are free past what is needed
@@ -193,19 +195,19 @@ module _ (ms : Messages) (u : ℕ → Bool) (again : (t : ℕ) → u (t + all_pe
     pub exact_next : Exact ms u table (n + 1) (unit_step_of table n w (free n)).wants
     unfolding unit_step_of
     exact_next =
-        let b : ℕ = (lane_step_of table.l1 n w.w1 (free n)).free in
-        let c : ℕ = (lane_step_of table.l2 n w.w2 b).free in
-        let d : ℕ = (lane_step_of table.l3 n w.w3 c).free in
-        let g1 : b ≡ count u1 (begin_of table n) table.unit = free_next ms 1 ms.s1 table table.l1 R.r1 Z.r1 u again n w.w1 (free n) X.x1 refl in
+        let b : ℕ = (lane_step_of (lane_at table 0) n (get_or w 0 0) (free n)).free in
+        let c : ℕ = (lane_step_of (lane_at table 1) n (get_or w 1 0) b).free in
+        let d : ℕ = (lane_step_of (lane_at table 2) n (get_or w 2 0) c).free in
+        let g1 : b ≡ count u1 (begin_of table n) table.unit = free_next ms 1 ms.s1 table (lane_at table 0) R.r1 Z.r1 u again n (get_or w 0 0) (free n) X.x1 refl in
         let g2 : c ≡ count u2 (begin_of table n) table.unit =
-        free_next ms 2 ms.s2 table table.l2 R.r2 Z.r2 u1 far1 n w.w2 b X.x2 g1 in
+        free_next ms 2 ms.s2 table (lane_at table 1) R.r2 Z.r2 u1 far1 n (get_or w 1 0) b X.x2 g1 in
         let g3 : d ≡ count u3 (begin_of table n) table.unit =
-        free_next ms 3 ms.s3 table table.l3 R.r3 Z.r3 u2 far2 n w.w3 c X.x3 g2 in
+        free_next ms 3 ms.s3 table (lane_at table 2) R.r3 Z.r3 u2 far2 n (get_or w 2 0) c X.x3 g2 in
         record {
-          x1 = wants_goes_on ms 1 ms.s1 table table.l1 R.r1 Z.r1 u again n w.w1 (free n) X.x1 refl;
-          x2 = wants_goes_on ms 2 ms.s2 table table.l2 R.r2 Z.r2 u1 far1 n w.w2 b X.x2 g1;
-          x3 = wants_goes_on ms 3 ms.s3 table table.l3 R.r3 Z.r3 u2 far2 n w.w3 c X.x3 g2;
-          x4 = wants_goes_on ms 4 ms.s4 table table.l4 R.r4 Z.r4 u3 far3 n w.w4 d X.x4 g3;
+          x1 = wants_goes_on ms 1 ms.s1 table (lane_at table 0) R.r1 Z.r1 u again n (get_or w 0 0) (free n) X.x1 refl;
+          x2 = wants_goes_on ms 2 ms.s2 table (lane_at table 1) R.r2 Z.r2 u1 far1 n (get_or w 1 0) b X.x2 g1;
+          x3 = wants_goes_on ms 3 ms.s3 table (lane_at table 2) R.r3 Z.r3 u2 far2 n (get_or w 2 0) c X.x3 g2;
+          x4 = wants_goes_on ms 4 ms.s4 table (lane_at table 3) R.r4 Z.r4 u3 far3 n (get_or w 3 0) d X.x4 g3;
         }
 
     -- what the step leaves of it
@@ -220,7 +222,7 @@ module _ (ms : Messages) (u : ℕ → Bool) (again : (t : ℕ) → u (t + all_pe
         ∙ ap (λ (x : ℕ). u (begin_of table n + y) && leb x (count u (begin_of table n) y)) (sym need_exact)
 
   -- unit by unit they stay exact, and what remains is counted
-  pub run_exact : (n : ℕ) (w : Wants) → Exact ms u table n w → (i : ℕ) → Exact ms u table (n + i) (wants_from table u n w i)
+  pub run_exact : (n : ℕ) (w : List ℕ) → Exact ms u table n w → (i : ℕ) → Exact ms u table (n + i) (wants_from table u n w i)
       × (rank (remaining ms u) (begin_of table (n + i)) ≡ rank (remaining ms u) (begin_of table n) + rest_from table u n w i)
   run_exact n w X zero =
       let o = run_none table u n w in (

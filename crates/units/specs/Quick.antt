@@ -1,6 +1,6 @@
 -- For the code alone. What the quick code counts: what each entry wants at the begin of a unit.
 use Rattle.std.specs.Prelude.{Bool, true, cond, ◌&&◌, ◌≡◌}
-use Rattle.std.specs.Prelude.{ℕ, zero, suc, ◌+◌, ◌-◌, ◌*◌, ◌/◌, ◌%◌, ◌^◌, min, max, ◌≤◌, ◌<◌, eqb, ltb}
+use Rattle.std.specs.Prelude.{List, [], ◌∷◌, get_or, ℕ, zero, suc, ◌+◌, ◌-◌, ◌*◌, ◌/◌, ◌%◌, ◌^◌, min, max, ◌≤◌, ◌<◌, eqb, ltb}
 use Rattle.std.specs.Int.Count.{ones, count_trailing_zeros}
 use Rattle.counting.specs.Counting.{rank, count}
 use Rattle.spans.specs.declared.Pattern.{Pattern}
@@ -8,7 +8,6 @@ use Rattle.spans.specs.Pattern.{allows, period_of, Regular}
 use Rattle.units.specs.declared.Logs.{Logs}
 use Rattle.units.specs.declared.Lane.{Lane}
 use Rattle.units.specs.declared.Timetable.{Timetable}
-use Rattle.units.specs.declared.Wants.{Wants}
 use Rattle.units.specs.declared.LaneStep.{LaneStep}
 use Rattle.units.specs.declared.UnitStep.{UnitStep}
 use Rattle.units.specs.declared.Sight.{Sight}
@@ -97,11 +96,14 @@ timetable_of ms =
       first = 10 * ms.offset;
       unit = 10 * 2 ^ k;
       units = 2 ^ (longest_of ms - k);
-      l1 = lane_of (is_read ms 1) ms.s1 0 window k;
-      l2 = lane_of (is_read ms 2) ms.s2 1 window k;
-      l3 = lane_of (is_read ms 3) ms.s3 2 window k;
-      l4 = lane_of (is_read ms 4) ms.s4 3 window k;
+      lanes =
+          lane_of (is_read ms 1) ms.s1 0 window k ∷ lane_of (is_read ms 2) ms.s2 1 window k
+          ∷ lane_of (is_read ms 3) ms.s3 2 window k ∷ lane_of (is_read ms 4) ms.s4 3 window k ∷ [];
     }
+
+-- an entry's, counted from 0
+abbrev pub lane_at : Timetable → ℕ → Lane
+lane_at table i = get_or table.lanes i (record { log = 0; start = 0; window = 0; every = 0; size = 0 })
 
 -- numbers with which the search can work
 pub record Ranged (l : Lane) : Type 0 where
@@ -125,18 +127,18 @@ pub record Sized (table : Timetable) : Type 0 where
   pub long : 640 ≤ table.unit * table.units
   pub turns : ℕ
   pub whole : turns * 640 ≡ table.unit * table.units
-  pub r1 : Ranged table.l1
-  pub r2 : Ranged table.l2
-  pub r3 : Ranged table.l3
-  pub r4 : Ranged table.l4
-  pub t1 : 2 ^ table.l1.log ≤ table.units
-  pub t2 : 2 ^ table.l2.log ≤ table.units
-  pub t3 : 2 ^ table.l3.log ≤ table.units
-  pub t4 : 2 ^ table.l4.log ≤ table.units
-  pub u1 : Turned table.unit table.l1
-  pub u2 : Turned table.unit table.l2
-  pub u3 : Turned table.unit table.l3
-  pub u4 : Turned table.unit table.l4
+  pub r1 : Ranged (lane_at table 0)
+  pub r2 : Ranged (lane_at table 1)
+  pub r3 : Ranged (lane_at table 2)
+  pub r4 : Ranged (lane_at table 3)
+  pub t1 : 2 ^ (lane_at table 0).log ≤ table.units
+  pub t2 : 2 ^ (lane_at table 1).log ≤ table.units
+  pub t3 : 2 ^ (lane_at table 2).log ≤ table.units
+  pub t4 : 2 ^ (lane_at table 3).log ≤ table.units
+  pub u1 : Turned table.unit (lane_at table 0)
+  pub u2 : Turned table.unit (lane_at table 1)
+  pub u3 : Turned table.unit (lane_at table 2)
+  pub u4 : Turned table.unit (lane_at table 3)
 
 -- the subframe in which unit n begins
 abbrev pub begin_of : Timetable → ℕ → ℕ
@@ -158,36 +160,36 @@ lane_step_of l n w free = record {
 }
 
 -- all four
-unfoldable pub unit_step_of : Timetable → ℕ → Wants → ℕ → UnitStep
+unfoldable pub unit_step_of : Timetable → ℕ → List ℕ → ℕ → UnitStep
 unit_step_of table n w free =
-    let a = lane_step_of table.l1 n w.w1 free in
-    let b = lane_step_of table.l2 n w.w2 a.free in
-    let c = lane_step_of table.l3 n w.w3 b.free in
-    let d = lane_step_of table.l4 n w.w4 c.free in
-    record { wants = record { w1 = a.want; w2 = b.want; w3 = c.want; w4 = d.want }; remaining = d.free }
+    let a = lane_step_of (lane_at table 0) n (get_or w 0 0) free in
+    let b = lane_step_of (lane_at table 1) n (get_or w 1 0) a.free in
+    let c = lane_step_of (lane_at table 2) n (get_or w 2 0) b.free in
+    let d = lane_step_of (lane_at table 3) n (get_or w 3 0) c.free in
+    record { wants = a.want ∷ b.want ∷ c.want ∷ d.want ∷ []; remaining = d.free }
 
-unfoldable pub unit_need : Timetable → ℕ → Wants → ℕ
+unfoldable pub unit_need : Timetable → ℕ → List ℕ → ℕ
 unit_need table n w =
-    need_of table.l1 n w.w1 + need_of table.l2 n w.w2
-    + need_of table.l3 n w.w3 + need_of table.l4 n w.w4
+    need_of (lane_at table 0) n (get_or w 0 0) + need_of (lane_at table 1) n (get_or w 1 0)
+    + need_of (lane_at table 2) n (get_or w 2 0) + need_of (lane_at table 3) n (get_or w 3 0)
 
 -- a copy in each unit since the window opened, and none had anything
-pub record Small (table : Timetable) (n : ℕ) (w : Wants) : Type 0 where
-  pub s1 : w.w1 ≤ 8 * place_of table.l1 n
-  pub s2 : w.w2 ≤ 8 * place_of table.l2 n
-  pub s3 : w.w3 ≤ 8 * place_of table.l3 n
-  pub s4 : w.w4 ≤ 8 * place_of table.l4 n
+pub record Small (table : Timetable) (n : ℕ) (w : List ℕ) : Type 0 where
+  pub s1 : get_or w 0 0 ≤ 8 * place_of (lane_at table 0) n
+  pub s2 : get_or w 1 0 ≤ 8 * place_of (lane_at table 1) n
+  pub s3 : get_or w 2 0 ≤ 8 * place_of (lane_at table 2) n
+  pub s4 : get_or w 3 0 ≤ 8 * place_of (lane_at table 3) n
 
-abbrev pub no_wants : Wants
-no_wants = record { w1 = 0; w2 = 0; w3 = 0; w4 = 0 }
+abbrev pub no_wants : List ℕ
+no_wants = 0 ∷ 0 ∷ 0 ∷ 0 ∷ []
 
 -- what is wanted i units on from unit n, where w is; and how many subframes of these units remain
-unfoldable pub wants_from : Timetable → (ℕ → Bool) → ℕ → Wants → ℕ → Wants
+unfoldable pub wants_from : Timetable → (ℕ → Bool) → ℕ → List ℕ → ℕ → List ℕ
 wants_from table u n w zero = w
 wants_from table u n w (suc i) =
     (unit_step_of table (n + i) (wants_from table u n w i) (count u (begin_of table (n + i)) table.unit)).wants
 
-unfoldable pub rest_from : Timetable → (ℕ → Bool) → ℕ → Wants → ℕ → ℕ
+unfoldable pub rest_from : Timetable → (ℕ → Bool) → ℕ → List ℕ → ℕ → ℕ
 rest_from table u n w zero = 0
 rest_from table u n w (suc i) =
     rest_from table u n w i
@@ -214,17 +216,19 @@ opened_of l n = cond (ltb (place_of l n) l.window) (n - place_of l n) n
 
 -- where a walk to unit n has to begin
 unfoldable pub walk_from : Timetable → ℕ → ℕ
-walk_from table n = opened_of table.l1 (opened_of table.l2 (opened_of table.l3 (opened_of table.l4 n)))
+walk_from table n =
+    opened_of (lane_at table 0)
+    (opened_of (lane_at table 1) (opened_of (lane_at table 2) (opened_of (lane_at table 3) n)))
 
-unfoldable pub wants_in : Timetable → (ℕ → Bool) → ℕ → Wants
+unfoldable pub wants_in : Timetable → (ℕ → Bool) → ℕ → List ℕ
 wants_in table u n = wants_from table u (walk_from table n) no_wants (n - walk_from table n)
 
 -- w is what the entries want where unit n begins
-pub record Exact (ms : Messages) (u : ℕ → Bool) (table : Timetable) (n : ℕ) (w : Wants) : Type 0 where
-  pub x1 : w.w1 ≡ wants_at ms 1 ms.s1 u (begin_of table n)
-  pub x2 : w.w2 ≡ wants_at ms 2 ms.s2 (after1 ms u) (begin_of table n)
-  pub x3 : w.w3 ≡ wants_at ms 3 ms.s3 (after2 ms u) (begin_of table n)
-  pub x4 : w.w4 ≡ wants_at ms 4 ms.s4 (after3 ms u) (begin_of table n)
+pub record Exact (ms : Messages) (u : ℕ → Bool) (table : Timetable) (n : ℕ) (w : List ℕ) : Type 0 where
+  pub x1 : get_or w 0 0 ≡ wants_at ms 1 ms.s1 u (begin_of table n)
+  pub x2 : get_or w 1 0 ≡ wants_at ms 2 ms.s2 (after1 ms u) (begin_of table n)
+  pub x3 : get_or w 2 0 ≡ wants_at ms 3 ms.s3 (after2 ms u) (begin_of table n)
+  pub x4 : get_or w 3 0 ≡ wants_at ms 4 ms.s4 (after3 ms u) (begin_of table n)
 
 -- the pattern allows some subframe
 pub record Allowing (p : Pattern) : Type 0 where

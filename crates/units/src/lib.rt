@@ -10,7 +10,7 @@ ghost use Rattle.messages.specs.Messages.{are_listed};
 ghost use Rattle.units.specs.Quick.{HasLog, logs_with, logs_of, InUnits, lane_of, timetable_of, Ranged, Sized};
 ghost use Rattle.units.specs.Quick.{begin_of};
 ghost use Rattle.units.specs.Quick.{place_of, need_of, lane_step_of, unit_step_of, unit_need, Small, Seen, Ran};
-ghost use Rattle.units.specs.Quick.{no_wants, opened_of, wants_in, Allowing, SpotAt};
+ghost use Rattle.units.specs.Quick.{opened_of, wants_in, Allowing, SpotAt};
 
 use messages::{Messages, Schedule};
 use spans::Pattern;
@@ -104,10 +104,7 @@ pub struct Timetable {
     pub first: u64,
     pub unit: u64,
     pub units: u64,
-    pub l1: Lane,
-    pub l2: Lane,
-    pub l3: Lane,
-    pub l4: Lane,
+    pub lanes: [Lane; 4],
 }
 
 // Listed messages in units.
@@ -123,10 +120,12 @@ pub fn timetable_of(ms: Messages) -> Timetable
         first: 10 * ms.offset,
         unit: 10 * counting::power_of_two(k),
         units: counting::power_of_two(logs.longest - k),
-        l1: lane_of(1 <= count, ms.s1, 0, window, k),
-        l2: lane_of(2 <= count, ms.s2, 1, window, k),
-        l3: lane_of(3 <= count, ms.s3, 2, window, k),
-        l4: lane_of(4 <= count, ms.s4, 3, window, k),
+        lanes: [
+            lane_of(1 <= count, ms.s1, 0, window, k),
+            lane_of(2 <= count, ms.s2, 1, window, k),
+            lane_of(3 <= count, ms.s3, 2, window, k),
+            lane_of(4 <= count, ms.s4, 3, window, k),
+        ],
     }
 }
 
@@ -183,51 +182,37 @@ pub fn lay(l: Lane, n: u64, want: u64, free: u64) -> LaneStep
     }
 }
 
-// What the entries want where a unit begins, before copies begin there.
-#[derive(Clone, Copy)]
-pub struct Wants {
-    pub w1: u64,
-    pub w2: u64,
-    pub w3: u64,
-    pub w4: u64,
-}
-
-// A unit: what the entries want at the next one, and how many subframes of it remain.
+// A unit: what the entries want at the next one, before copies begin there, and how many subframes of it remain.
 #[derive(Clone, Copy)]
 pub struct UnitStep {
-    pub wants: Wants,
+    pub wants: [u64; 4],
     pub remaining: u64,
 }
 
 // A unit of which so many subframes are free before messages.
 #[tactic(auto, unfolding(crate::specs::Quick::unit_step_of))]
-pub fn pass(table: Timetable, n: u64, w: Wants, free: u64) -> UnitStep
+pub fn pass(table: Timetable, n: u64, w: [u64; 4], free: u64) -> UnitStep
     requires { Sized table × (n < 2 ^ 40) × Small table n w }
     ensures { (result ≡ unit_step_of table n w free) × Small table (n + 1) result.wants }
 {
-    let a = lay(table.l1, n, w.w1, free);
-    let b = lay(table.l2, n, w.w2, a.free);
-    let c = lay(table.l3, n, w.w3, b.free);
-    let d = lay(table.l4, n, w.w4, c.free);
+    let a = lay(table.lanes[0], n, w[0], free);
+    let b = lay(table.lanes[1], n, w[1], a.free);
+    let c = lay(table.lanes[2], n, w[2], b.free);
+    let d = lay(table.lanes[3], n, w[3], c.free);
     UnitStep {
-        wants: Wants {
-            w1: a.want,
-            w2: b.want,
-            w3: c.want,
-            w4: d.want,
-        },
+        wants: [a.want, b.want, c.want, d.want],
         remaining: d.free,
     }
 }
 
 // What all need at unit n.
 #[tactic(auto, using(crate::proofs::Lanes::place_below), unfolding(crate::specs::Quick::unit_need))]
-pub fn all_need(table: Timetable, n: u64, w: Wants) -> u64
+pub fn all_need(table: Timetable, n: u64, w: [u64; 4]) -> u64
     requires { Sized table × (n < 2 ^ 40) × Small table n w }
     ensures { (result ≡ unit_need table n w) × (result < 2 ^ 17) }
 {
-    let front = need(table.l1, n, w.w1) + need(table.l2, n, w.w2);
-    front + need(table.l3, n, w.w3) + need(table.l4, n, w.w4)
+    let front = need(table.lanes[0], n, w[0]) + need(table.lanes[1], n, w[1]);
+    front + need(table.lanes[2], n, w[2]) + need(table.lanes[3], n, w[3])
 }
 
 // The subframe in which unit n begins.
@@ -248,17 +233,6 @@ pub fn free_before(p: Pattern, t: u64) -> u64
     spans::rank_of(p, a, b, t)
 }
 
-pub fn no_wants() -> Wants
-    ensures { result ≡ no_wants }
-{
-    Wants {
-        w1: 0,
-        w2: 0,
-        w3: 0,
-        w4: 0,
-    }
-}
-
 // The unit in which the window opened that is open at unit n; else n.
 #[tactic(auto, unfolding(crate::specs::Quick::opened_of))]
 fn opened(l: Lane, n: u64) -> u64
@@ -273,7 +247,7 @@ fn opened(l: Lane, n: u64) -> u64
 #[derive(Clone, Copy)]
 pub struct Sight {
     pub n: u64,
-    pub wants: Wants,
+    pub wants: [u64; 4],
     pub free: u64,
     pub k: u64,
 }
@@ -310,13 +284,13 @@ pub fn sight_at(table: Timetable, p: Pattern, n: u64) -> Sight
     requires { Sized table × Allowing p × (4 * table.units ≤ n) × (n < 2 ^ 19) }
     ensures { (result.n ≡ n) × (result.wants ≡ wants_in table (allows p) n) × Seen table (allows p) result }
 {
-    let a4 = opened(table.l4, n);
-    let a3 = opened(table.l3, a4);
-    let a2 = opened(table.l2, a3);
-    let a1 = opened(table.l1, a2);
+    let a4 = opened(table.lanes[3], n);
+    let a3 = opened(table.lanes[2], a4);
+    let a2 = opened(table.lanes[1], a3);
+    let a1 = opened(table.lanes[0], a2);
     let from = Sight {
         n: a1,
-        wants: no_wants(),
+        wants: [0; 4],
         free: free_before(p, begin(table, a1)),
         k: 0x8000_0000,
     };

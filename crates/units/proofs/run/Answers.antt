@@ -1,9 +1,9 @@
+use Rattle.std.specs.Prelude.{List}
 use mathlib.Core.Path.{◌≡◌, sym, ap, ap₂, ◌∙◌}
 use Prim.Native.Nat.{ℕ, suc, ◌+◌, ◌-◌}
 use native.Mathlib.Omega.{arith}
 use Rattle.counting.specs.Counting.{rank, count}
 use Rattle.spans.specs.Pattern.{allows}
-use Rattle.units.specs.declared.Wants.{Wants}
 use Rattle.units.specs.declared.UnitStep.{UnitStep}
 use Rattle.units.specs.Quick.{begin_of, unit_step_of, wants_from, rest_from}
 use Rattle.units.proofs.Lanes.{run_none, run_on, unit_free}
@@ -59,7 +59,7 @@ loop-n-preserved c =
     let j : suc i ≡ n + 1 - a.s.n = omega arith in
     let o = run_on a.table u a.s.n a.s.wants i in
     let there : c.pass-r.result ≡ unit_step_of a.table (a.s.n + i) (wants_from a.table u a.s.n a.s.wants i) (count u (begin_of a.table (a.s.n + i)) a.table.unit) =
-    step_is q ∙ ap₂ (λ (w : Wants) (m : ℕ). unit_step_of a.table m w (count u (begin_of a.table m) a.table.unit)) v.wanted (sym e) in
+    step_is q ∙ ap₂ (λ (w : List ℕ) (m : ℕ). unit_step_of a.table m w (count u (begin_of a.table m) a.table.unit)) v.wanted (sym e) in
     record {
       small = c.pass-r.ensures.1;
       free = next_is q.before;

@@ -1,4 +1,5 @@
-use mathlib.Core.Path.{◌≡◌, sym, ap, subst, ◌∙◌}
+use Rattle.units.specs.Quick.{lane_at}
+use mathlib.Core.Path.{◌≡◌, sym, ap, ◌∙◌}
 use mathlib.Core.Logic.{⊎_elim}
 use Prim.Native.Nat.{ℕ, ◌+◌, ◌-◌, ◌^◌, ◌≤◌, ◌<◌}
 use native.Mathlib.Nat.{mul-le-mul}
@@ -7,8 +8,7 @@ use Rattle.counting.specs.Counting.{rank, count}
 use Rattle.counting.proofs.Facts.{order}
 use Rattle.counting.proofs.Rank.{rank_le}
 use Rattle.spans.specs.Pattern.{allows}
-use Rattle.units.specs.declared.Wants.{Wants}
-use Rattle.units.specs.Quick.{begin_of, Small, Seen, no_wants, opened_of, walk_from, wants_from, wants_in}
+use Rattle.units.specs.Quick.{begin_of, Seen, no_wants, opened_of, walk_from, wants_from, wants_in}
 use Rattle.units.proofs.Lanes.{none_small, run_none, count_most, unit_most, rest_most}
 use Rattle.units.proofs.sight_at.Goals.{After-opened-a1, After-free_before, After-run}
 use Rattle.units.proofs.sight_at.Goals as goal
@@ -19,12 +19,12 @@ unfolding walk_from
 from_is c =
     let t = c.args.table in
     c.opened-a1.ensures.0
-    ∙ ap (opened_of t.l1) (c.opened-a2.ensures.0 ∙ ap (opened_of t.l2) (c.opened-a3.ensures.0 ∙ ap (opened_of t.l3) c.opened-a4.ensures.0))
+    ∙ ap (opened_of (lane_at t 0)) (c.opened-a2.ensures.0 ∙ ap (opened_of (lane_at t 1)) (c.opened-a3.ensures.0 ∙ ap (opened_of (lane_at t 2)) c.opened-a4.ensures.0))
 
 begun : (c : After-free_before) → Seen c.args.table (allows c.args.p)
-    (record { n = c.opened-a1.result; wants = c.no_wants.result; free = c.free_before.result; k = 2 ^ 31 })
+    (record { n = c.opened-a1.result; wants = no_wants; free = c.free_before.result; k = 2 ^ 31 })
 begun c = record {
-  small = subst (Small c.args.table c.opened-a1.result) (sym c.no_wants.ensures) (none_small c.args.table c.opened-a1.result);
+  small = none_small c.args.table c.opened-a1.result;
   free = c.free_before.ensures ∙ ap (rank (allows c.args.p)) c.begin.ensures.0;
 }
 
@@ -36,7 +36,7 @@ returns-then-a1-n c =
     let u = allows a.p in
     let w = walk_from a.table a.n in
     let e : 0 ≡ a.n - w = omega (arith, from_is (goal.at.returns-then-a1-n c).After-opened-a1, c.if-a1-n.true) in
-    (c.if-a1-n.true, c.no_wants.ensures ∙ sym (run_none a.table u w no_wants).0 ∙ ap (wants_from a.table u w no_wants) e, begun (goal.at.returns-then-a1-n c).After-free_before)
+    (c.if-a1-n.true, sym (run_none a.table u w no_wants).0 ∙ ap (wants_from a.table u w no_wants) e, begun (goal.at.returns-then-a1-n c).After-free_before)
 
 -- the walk goes to its end: so many never remain
 ends : (c : After-run) → c.run.result.n ≡ c.args.n
@@ -57,7 +57,7 @@ ends c =
       count_most u a.table.unit (begin_of a.table r.n),
       c.requires.0.unit,
       R.counted,
-      rest_most a.table u m c.no_wants.result (r.n - m),
+      rest_most a.table u m no_wants (r.n - m),
       ap (λ (n : ℕ). rank u (begin_of a.table n)) e,
       rank_le u (begin_of a.table r.n),
       few,
@@ -72,8 +72,7 @@ returns-else-a1-n c =
     let m : ℕ = c.opened-a1.result in (
       ends c,
       c.run.ensures.wanted
-          ∙ ap (λ (n : ℕ). wants_from a.table u m c.no_wants.result (n - m)) (ends c)
-          ∙ ap (λ (w : Wants). wants_from a.table u m w (a.n - m)) c.no_wants.ensures
+          ∙ ap (λ (n : ℕ). wants_from a.table u m no_wants (n - m)) (ends c)
           ∙ ap (λ (x : ℕ). wants_from a.table u x no_wants (a.n - x)) (from_is (goal.at.returns-else-a1-n c).After-opened-a1),
       c.run.ensures.seen,
     )

@@ -1,3 +1,4 @@
+use Rattle.std.specs.Prelude.{[], ◌∷◌}
 use mathlib.Core.Bool.{Bool, true}
 use mathlib.Core.Path.{◌≡◌, sym, ap, ap₂, subst, ◌∙◌}
 use Prim.Native.Nat.{ℕ, ◌-◌, ◌*◌, ◌/◌, ◌^◌, ◌≤◌}
@@ -63,10 +64,7 @@ made : (c : After-lane_of-4) → ◌≡◌ {A = Timetable} (record {
   first = 10 * c.args.ms.offset;
   unit = 10 * c.power_of_two-2.result;
   units = c.power_of_two-3.result;
-  l1 = c.lane_of.result;
-  l2 = c.lane_of-2.result;
-  l3 = c.lane_of-3.result;
-  l4 = c.lane_of-4.result;
+  lanes = c.lane_of.result ∷ c.lane_of-2.result ∷ c.lane_of-3.result ∷ c.lane_of-4.result ∷ [];
 }) (timetable_of c.args.ms)
 unfolding timetable_of
 made c =
@@ -82,10 +80,11 @@ made c =
       first = 10 * m.offset;
       unit = 10 * (d.power_of_two-2.ensures ∙ ap (λ (n : ℕ). 2 ^ n) (k_is p.before.before.before.before.before.before.before.before.before.before.before.before)) i;
       units = (u.power_of_two-3.ensures ∙ ap₂ (λ (a b : ℕ). 2 ^ (a - b)) (longest_is p.before.before.before.before.before.before.before.before.before.before.before.before.before.before) (k_is p.before.before.before.before.before.before.before.before.before.before.before.before)) i;
-      l1 = lane_is p.before.before.before.before.before.before.before.before.before.before.before.before _ (is_read m 1) m.s1 0 l1.lane_of.ensures i;
-      l2 = lane_is p.before.before.before.before.before.before.before.before.before.before.before.before _ (is_read m 2) m.s2 1 l2.lane_of-2.ensures i;
-      l3 = lane_is p.before.before.before.before.before.before.before.before.before.before.before.before _ (is_read m 3) m.s3 2 l3.lane_of-3.ensures i;
-      l4 = lane_is p.before.before.before.before.before.before.before.before.before.before.before.before _ (is_read m 4) m.s4 3 c.lane_of-4.ensures i;
+      lanes =
+          lane_is p.before.before.before.before.before.before.before.before.before.before.before.before _ (is_read m 1) m.s1 0 l1.lane_of.ensures i
+          ∷ lane_is p.before.before.before.before.before.before.before.before.before.before.before.before _ (is_read m 2) m.s2 1 l2.lane_of-2.ensures i
+          ∷ lane_is p.before.before.before.before.before.before.before.before.before.before.before.before _ (is_read m 3) m.s3 2 l3.lane_of-3.ensures i
+          ∷ lane_is p.before.before.before.before.before.before.before.before.before.before.before.before _ (is_read m 4) m.s4 3 c.lane_of-4.ensures i ∷ [];
     }
 
 pub returns : goal.returns
