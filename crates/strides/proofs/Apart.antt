@@ -1,8 +1,10 @@
 -- A window that meets no other: what it leaves is counted by its lane alone, and is the same whenever the window opens.
+use Rattle.units.specs.Quick.{lane_at}
+use Rattle.std.specs.Prelude.{List, [], ◌∷◌}
 use mathlib.Core.Bool.{Bool, false, cond}
 use mathlib.Core.Path.{◌≡◌, refl, sym, ap, ap₂, subst, ◌∙◌}
 use mathlib.Core.Logic.{inl, inr, ⊎_elim}
-use Prim.Native.Nat.{ℕ, zero, suc, min, ◌+◌, ◌-◌, ◌*◌, ◌/◌, ◌%◌, ◌^◌, ◌≤◌, ◌<◌}
+use Prim.Native.Nat.{ℕ, zero, suc, ◌+◌, ◌-◌, ◌*◌, ◌/◌, ◌%◌, ◌^◌, ◌≤◌, ◌<◌}
 use native.Mathlib.Nat.{add-zero, mul_assoc, mul-add, mul_comm, zero-mul, suc-mul, mod_self, div-add-mod'}
 use native.Mathlib.Omega.{arith}
 use lib.Dec.{ltb}
@@ -17,79 +19,47 @@ use Rattle.units.specs.declared.Lane.{Lane}
 use Rattle.units.specs.declared.LaneStep.{LaneStep}
 use Rattle.units.specs.declared.UnitStep.{UnitStep}
 use Rattle.units.specs.declared.Timetable.{Timetable}
-use Rattle.units.specs.declared.Wants.{Wants}
 use Rattle.strides.specs.declared.Stride.{Stride}
-use Rattle.strides.specs.declared.Kept.{Kept}
-use Rattle.strides.specs.declared.Whose.{Whose}
-use Rattle.strides.specs.declared.Whose.TheVariants.{First, Second, Third, Fourth}
+use Rattle.std.specs.Prelude.{None, Some, get_or, set}
 use Rattle.units.specs.Quick.{Ranged, Turned, Sized, begin_of, place_of, need_of, lane_step_of, unit_step_of, no_wants, Serves, Exact}
-use Rattle.strides.specs.Quick.{Goes, lane_at, Shut, NoOther, Apart, lone_want, lone_rest, alone_of, none_kept, kept_of, kept_with, Counts, Keeps}
+use Rattle.strides.specs.Quick.{Goes, Shut, NoOther, Apart, lone_want, lone_rest, alone_of, Keeps}
 use Rattle.units.proofs.Lanes.{Fresh, place_on, step_shut, unit_free}
 use Rattle.units.proofs.Walking.{served_run, served_sized, exact_next, step_remaining}
 use Rattle.strides.proofs.Striding.{need_shut}
 
 -- ---- one of four
 
-module _ (table : Timetable) (Z : Sized table) where
-  pub ranged_at : (whose : Whose) → Ranged (lane_at table whose)
-  ranged_at First = Z.r1
-  ranged_at Second = Z.r2
-  ranged_at Third = Z.r3
-  ranged_at Fourth = Z.r4
+pub by_four : (P : ℕ → Type 0) → P 0 → P 1 → P 2 → P 3 → (i : ℕ) → i < 4 → P i
+by_four P a b c d zero h = a
+by_four P a b c d (suc zero) h = b
+by_four P a b c d (suc (suc zero)) h = c
+by_four P a b c d (suc (suc (suc zero))) h = d
+by_four P a b c d (suc (suc (suc (suc i)))) h = absurd (omega arith)
 
-  pub turned_at : (whose : Whose) → Turned table.unit (lane_at table whose)
-  turned_at First = Z.u1
-  turned_at Second = Z.u2
-  turned_at Third = Z.u3
-  turned_at Fourth = Z.u4
+module _ (table : Timetable) (Z : Sized table) where
+  pub ranged_at : (i : ℕ) → i < 4 → Ranged (lane_at table i)
+  ranged_at = by_four (λ i. Ranged (lane_at table i)) Z.r1 Z.r2 Z.r3 Z.r4
+
+  pub turned_at : (i : ℕ) → i < 4 → Turned table.unit (lane_at table i)
+  turned_at = by_four (λ i. Turned table.unit (lane_at table i)) Z.u1 Z.u2 Z.u3 Z.u4
 
 module _ (table : Timetable) (u : ℕ → Bool) where
-  pub none_keeps : (k : Kept) → k ≡ none_kept → Keeps table u k
-  none_keeps k e = subst (Keeps table u) (sym e) (record { c1 = inl refl; c2 = inl refl; c3 = inl refl; c4 = inl refl })
-
-  pub kept_at : (k : Kept) → Keeps table u k → (whose : Whose) → Counts table u (lane_at table whose) (kept_of k whose)
-  kept_at k K First = K.c1
-  kept_at k K Second = K.c2
-  kept_at k K Third = K.c3
-  kept_at k K Fourth = K.c4
-
-  pub kept_more : (k : Kept) → Keeps table u k → (whose : Whose) (x : ℕ) → x ≡ alone_of table u (lane_at table whose) + 1
-      → Keeps table u (kept_with k whose x) × (kept_of (kept_with k whose x) whose ≡ alone_of table u (lane_at table whose) + 1)
-  kept_more k K First x e = (record { c1 = inr e; c2 = K.c2; c3 = K.c3; c4 = K.c4 }, e)
-  kept_more k K Second x e = (record { c1 = K.c1; c2 = inr e; c3 = K.c3; c4 = K.c4 }, e)
-  kept_more k K Third x e = (record { c1 = K.c1; c2 = K.c2; c3 = inr e; c4 = K.c4 }, e)
-  kept_more k K Fourth x e = (record { c1 = K.c1; c2 = K.c2; c3 = K.c3; c4 = inr e }, e)
-
--- from how long each has none open to a window that meets no other
-module _ (table : Timetable) (n q1 q2 q3 q4 : ℕ) (h1 : (i : ℕ) → i < q1 → Shut table.l1 (n + i)) (h2 : (i : ℕ) → i < q2 → Shut table.l2 (n + i))
-    (h3 : (i : ℕ) → i < q3 → Shut table.l3 (n + i)) (h4 : (i : ℕ) → i < q4 → Shut table.l4 (n + i)) where
-  abbrev pub Others : Whose → ℕ → Type 0
-  Others First x = x ≤ min q2 (min q3 q4)
-  Others Second x = x ≤ min q1 (min q3 q4)
-  Others Third x = x ≤ min q4 (min q1 q2)
-  Others Fourth x = x ≤ min q3 (min q1 q2)
-
-  others : (whose : Whose) (x : ℕ) → Others whose x → (i : ℕ) → i < x → NoOther table whose (n + i)
-  others First x o i k = (h2 i (omega arith), h3 i (omega arith), h4 i (omega arith))
-  others Second x o i k = (h1 i (omega arith), h3 i (omega arith), h4 i (omega arith))
-  others Third x o i k = (h1 i (omega arith), h2 i (omega arith), h4 i (omega arith))
-  others Fourth x o i k = (h1 i (omega arith), h2 i (omega arith), h3 i (omega arith))
-
-  pub apart : (whose : Whose) → place_of (lane_at table whose) n ≡ 0 → Others whose (lane_at table whose).window → Apart table whose (lane_at table whose).window n
-  apart whose e o = record { window = refl; opens = e; others = others whose (lane_at table whose).window o }
+  pub none_keeps : Keeps table u (None ∷ None ∷ None ∷ None ∷ [])
+  none_keeps = record { each = none }
+    where
+      none : (i x : ℕ) → get_or (None ∷ None ∷ None ∷ None ∷ []) i None ≡ Some x → x ≡ alone_of table u (lane_at table i)
+      none zero x e = absurd (cc)
+      none (suc zero) x e = absurd (cc)
+      none (suc (suc zero)) x e = absurd (cc)
+      none (suc (suc (suc zero))) x e = absurd (cc)
+      none (suc (suc (suc (suc i)))) x e = absurd (cc)
 
 -- what one of them wants, and the others nothing
-abbrev only : Whose → ℕ → Wants
-only First v = record { w1 = v; w2 = 0; w3 = 0; w4 = 0 }
-only Second v = record { w1 = 0; w2 = v; w3 = 0; w4 = 0 }
-only Third v = record { w1 = 0; w2 = 0; w3 = v; w4 = 0 }
-only Fourth v = record { w1 = 0; w2 = 0; w3 = 0; w4 = v }
+abbrev only : ℕ → ℕ → List ℕ
+only i v = set no_wants i v
 
-only_none : (whose : Whose) → only whose 0 ≡ no_wants
-only_none First = refl
-only_none Second = refl
-only_none Third = refl
-only_none Fourth = refl
+only_none : (i : ℕ) → i < 4 → only i 0 ≡ no_wants
+only_none = by_four (λ i. only i 0 ≡ no_wants) refl refl refl refl
 
 -- ---- a unit: those that are shut let all pass
 
@@ -100,22 +70,24 @@ idle_step l n f h =
     let b : f - need_of l n 0 ≡ f = omega (arith, need_shut l n 0 h) in
     λ i. record { want = a i; free = b i }
 
-abbrev step_alone : Timetable → Whose → ℕ → ℕ → ℕ → UnitStep
-step_alone table whose n v f = record { wants = only whose (lane_step_of (lane_at table whose) n v f).want; remaining = (lane_step_of (lane_at table whose) n v f).free }
+abbrev step_alone : Timetable → ℕ → ℕ → ℕ → ℕ → UnitStep
+step_alone table i n v f = record { wants = only i (lane_step_of (lane_at table i) n v f).want; remaining = (lane_step_of (lane_at table i) n v f).free }
 
-step_alone_lem : (table : Timetable) (whose : Whose) (n v f : ℕ) → NoOther table whose n → unit_step_of table n (only whose v) f ≡ step_alone table whose n v f
+step_alone_lem : (table : Timetable) (n v f i : ℕ) → i < 4 → NoOther table i n → unit_step_of table n (only i v) f ≡ step_alone table i n v f
 unfolding unit_step_of
-step_alone_lem table First n v f h =
-    let g : ℕ = (lane_step_of table.l1 n v f).free in
-    rw (idle_step table.l2 n g h.0, idle_step table.l3 n g h.1, idle_step table.l4 n g h.2) refl
-step_alone_lem table Second n v f h =
-    let g : ℕ = (lane_step_of table.l2 n v f).free in
-    rw (idle_step table.l1 n f h.0, idle_step table.l3 n g h.1, idle_step table.l4 n g h.2) refl
-step_alone_lem table Third n v f h =
-    let g : ℕ = (lane_step_of table.l3 n v f).free in
-    rw (idle_step table.l1 n f h.0, idle_step table.l2 n f h.1, idle_step table.l4 n g h.2) refl
-step_alone_lem table Fourth n v f h =
-    rw (idle_step table.l1 n f h.0, idle_step table.l2 n f h.1, idle_step table.l3 n f h.2) refl
+step_alone_lem table n v f =
+    by_four (λ i. NoOther table i n → unit_step_of table n (only i v) f ≡ step_alone table i n v f)
+    (λ h.
+    let g : ℕ = (lane_step_of (lane_at table 0) n v f).free in
+    rw (idle_step (lane_at table 1) n g (h 1 (omega arith) (λ e. omega arith)), idle_step (lane_at table 2) n g (h 2 (omega arith) (λ e. omega arith)), idle_step (lane_at table 3) n g (h 3 (omega arith) (λ e. omega arith))) refl)
+    (λ h.
+    let g : ℕ = (lane_step_of (lane_at table 1) n v f).free in
+    rw (idle_step (lane_at table 0) n f (h 0 (omega arith) (λ e. omega arith)), idle_step (lane_at table 2) n g (h 2 (omega arith) (λ e. omega arith)), idle_step (lane_at table 3) n g (h 3 (omega arith) (λ e. omega arith))) refl)
+    (λ h.
+    let g : ℕ = (lane_step_of (lane_at table 2) n v f).free in
+    rw (idle_step (lane_at table 0) n f (h 0 (omega arith) (λ e. omega arith)), idle_step (lane_at table 1) n f (h 1 (omega arith) (λ e. omega arith)), idle_step (lane_at table 3) n g (h 3 (omega arith) (λ e. omega arith))) refl)
+    (λ h.
+    rw (idle_step (lane_at table 0) n f (h 0 (omega arith) (λ e. omega arith)), idle_step (lane_at table 1) n f (h 1 (omega arith) (λ e. omega arith)), idle_step (lane_at table 2) n f (h 2 (omega arith) (λ e. omega arith))) refl)
 
 -- ---- the same whenever it opens
 
@@ -217,9 +189,9 @@ module _ (u : ℕ → Bool) (table : Timetable) (l : Lane) (ok : Ranged l) where
 
 -- ---- the window is passed
 
-abbrev pub lone_stride : (ℕ → Bool) → Timetable → Whose → ℕ → ℕ → Stride
-lone_stride u table whose units n =
-    record { n = n + units; wants = no_wants; free = rank u (begin_of table (n + units)); remaining = alone_of table u (lane_at table whose) }
+abbrev pub lone_stride : (ℕ → Bool) → Timetable → ℕ → ℕ → ℕ → Stride
+lone_stride u table j units n =
+    record { n = n + units; wants = no_wants; free = rank u (begin_of table (n + units)); remaining = alone_of table u (lane_at table j) }
 
 module _ (ms : Messages) (u : ℕ → Bool) (again : (t : ℕ) → u (t + all_periods) ≡ u t) (base : (q t : ℕ) → u (t + q * 640) ≡ u t)
     (table : Timetable) (S : Serves ms table) where
@@ -229,7 +201,7 @@ module _ (ms : Messages) (u : ℕ → Bool) (again : (t : ℕ) → u (t + all_pe
   abbrev rest : ℕ → Bool
   rest = remaining ms u
 
-  fresh : (n : ℕ) → Fresh table.l1 n → Fresh table.l2 n → Fresh table.l3 n → Fresh table.l4 n → Exact ms u table n no_wants
+  fresh : (n : ℕ) → Fresh (lane_at table 0) n → Fresh (lane_at table 1) n → Fresh (lane_at table 2) n → Fresh (lane_at table 3) n → Exact ms u table n no_wants
   fresh n f1 f2 f3 f4 =
       let R = served_run ms table S in
       record {
@@ -239,27 +211,29 @@ module _ (ms : Messages) (u : ℕ → Bool) (again : (t : ℕ) → u (t + all_pe
         x4 = sym (R.r4.shut (after3 ms u) n f4);
       }
 
-  first_exact : (whose : Whose) (n : ℕ) → place_of (lane_at table whose) n ≡ 0 → NoOther table whose n → Exact ms u table n (only whose 0)
-  first_exact First n e h = fresh n (inl e) (inr h.0) (inr h.1) (inr h.2)
-  first_exact Second n e h = fresh n (inr h.0) (inl e) (inr h.1) (inr h.2)
-  first_exact Third n e h = fresh n (inr h.0) (inr h.1) (inl e) (inr h.2)
-  first_exact Fourth n e h = fresh n (inr h.0) (inr h.1) (inr h.2) (inl e)
+  first_exact : (n j : ℕ) → j < 4 → place_of (lane_at table j) n ≡ 0 → NoOther table j n → Exact ms u table n (only j 0)
+  first_exact n =
+      by_four (λ j. place_of (lane_at table j) n ≡ 0 → NoOther table j n → Exact ms u table n (only j 0))
+      (λ e h. fresh n (inl e) (inr (h 1 (omega arith) (λ e. omega arith))) (inr (h 2 (omega arith) (λ e. omega arith))) (inr (h 3 (omega arith) (λ e. omega arith))))
+      (λ e h. fresh n (inr (h 0 (omega arith) (λ e. omega arith))) (inl e) (inr (h 2 (omega arith) (λ e. omega arith))) (inr (h 3 (omega arith) (λ e. omega arith))))
+      (λ e h. fresh n (inr (h 0 (omega arith) (λ e. omega arith))) (inr (h 1 (omega arith) (λ e. omega arith))) (inl e) (inr (h 3 (omega arith) (λ e. omega arith))))
+      (λ e h. fresh n (inr (h 0 (omega arith) (λ e. omega arith))) (inr (h 1 (omega arith) (λ e. omega arith))) (inr (h 2 (omega arith) (λ e. omega arith))) (inl e))
 
-  module _ (whose : Whose) (units n : ℕ) (A : Apart table whose units n) (some : 0 < units) where
+  module _ (j : ℕ) (one : j < 4) (units n : ℕ) (A : Apart table j units n) (some : 0 < units) where
     abbrev l : Lane
-    l = lane_at table whose
+    l = lane_at table j
 
     ranged : Ranged l
-    ranged = ranged_at table Z whose
+    ranged = ranged_at table Z j one
 
     -- unit by unit its lane's count is exact
-    passed : (i : ℕ) → i ≤ units → Exact ms u table (n + i) (only whose (lone_want u table l n i))
+    passed : (i : ℕ) → i ≤ units → Exact ms u table (n + i) (only j (lone_want u table l n i))
         × (rank rest (begin_of table (n + i)) ≡ rank rest (begin_of table n) + lone_rest u table l n i)
     passed zero h =
         let e = lone_none u table l ranged n in (
-          subst (λ (m : ℕ). Exact ms u table m (only whose (lone_want u table l n 0))) (sym (add-zero n))
-              (subst (λ (v : ℕ). Exact ms u table n (only whose v)) (sym e.0)
-              (first_exact whose n A.opens (subst (NoOther table whose) (add-zero n) (A.others 0 some)))),
+          subst (λ (m : ℕ). Exact ms u table m (only j (lone_want u table l n 0))) (sym (add-zero n))
+              (subst (λ (v : ℕ). Exact ms u table n (only j v)) (sym e.0)
+              (first_exact n j one A.opens (subst (NoOther table j) (add-zero n) (A.others 0 some)))),
           omega (arith, ap (λ (m : ℕ). rank rest (begin_of table m)) (add-zero n), e.1),
         )
     passed (suc i) h =
@@ -267,15 +241,15 @@ module _ (ms : Messages) (u : ℕ → Bool) (again : (t : ℕ) → u (t + all_pe
         let m : ℕ = n + i in
         let v : ℕ = lone_want u table l n i in
         let o = lone_on u table l ranged n i in
-        let s = step_alone_lem table whose m v (count u (begin_of table m) table.unit) (A.others i (omega arith)) in
+        let s = step_alone_lem table m v (count u (begin_of table m) table.unit) j one (A.others i (omega arith)) in
         let e : m + 1 ≡ n + suc i = omega arith in (
-          subst (λ (k : ℕ). Exact ms u table k (only whose (lone_want u table l n (suc i)))) e
-              (subst (Exact ms u table (m + 1)) (ap (λ (r : UnitStep). r.wants) s ∙ ap (only whose) (sym o.0)) (exact_next ms u again table S m (only whose v) X.0)),
+          subst (λ (k : ℕ). Exact ms u table k (only j (lone_want u table l n (suc i)))) e
+              (subst (Exact ms u table (m + 1)) (ap (λ (r : UnitStep). r.wants) s ∙ ap (only j) (sym o.0)) (exact_next ms u again table S m (only j v) X.0)),
           omega (
             arith,
             X.1,
             unit_free table rest m,
-            step_remaining ms u again table S m (only whose v) X.0,
+            step_remaining ms u again table S m (only j v) X.0,
             ap (λ (r : UnitStep). r.remaining) s,
             o.1,
             ap (λ (k : ℕ). rank rest (begin_of table k)) e,
@@ -291,7 +265,7 @@ module _ (ms : Messages) (u : ℕ → Bool) (again : (t : ℕ) → u (t + all_pe
         ap (lone_want u table l n) (sym e) ∙ (lone_on u table l ranged n i).0
         ∙ step_shut l ranged (n + i) (lone_want u table l n i) (count u (begin_of table (n + i)) table.unit) (omega (arith, at, A.opens, A.window))
 
-    pub lone_goes : (w : Wants) → Goes ms u table n w (lone_stride u table whose units n) false
+    pub lone_goes : (w : List ℕ) → Goes ms u table n w (lone_stride u table j units n) false
     lone_goes w =
         let e : begin_of table (n + units) ≡ begin_of table n + table.unit * units = omega (arith, mul-add table.unit n units) in
         let P = passed units (omega arith) in
@@ -304,9 +278,9 @@ module _ (ms : Messages) (u : ℕ → Bool) (again : (t : ℕ) → u (t + all_pe
                 arith,
                 P.1,
                 ap (lone_rest u table l n) A.window,
-                (same_alone u table l ranged (turned_at table Z whose) base n A.opens l.window (omega arith)).1,
+                (same_alone u table l ranged (turned_at table Z j one) base n A.opens l.window (omega arith)).1,
                 rank_count rest (table.unit * units) (begin_of table n),
                 ap (rank rest) e,
               );
-          exact = subst (Exact ms u table (n + units)) (ap (only whose) ended ∙ only_none whose) P.0;
+          exact = subst (Exact ms u table (n + units)) (ap (only j) ended ∙ only_none j one) P.0;
         }

@@ -1,13 +1,15 @@
 -- Units passed at once, and the subframe that is found in them.
-use mathlib.Core.Bool.{Bool, true, false, cond, ◌&&◌}
+use Rattle.units.specs.Quick.{lane_at}
+use Rattle.std.specs.Prelude.{get_or}
+use Rattle.std.specs.Prelude.{List, [], ◌∷◌}
+use mathlib.Core.Bool.{Bool, true, false, ◌&&◌}
 use mathlib.Core.Path.{◌≡◌, refl, sym, ap, subst, ◌∙◌}
 use mathlib.Core.Logic.{⊎_elim}
 use Prim.Native.Nat.{ℕ, suc, ◌+◌, ◌-◌, ◌*◌, ◌/◌, ◌%◌, ◌≤◌, ◌<◌}
 use native.Mathlib.Nat.{mod-lt, div-add-mod', mul_comm, mul-add, mul-le-mul_right}
 use native.Mathlib.Omega.{arith}
 use mir.Val.{bool_byte}
-use lib.Dec.{ltb}
-use borrow.Author.Tests.{lt-ltb, le-ltb, le-leb, ltb-true, ltb-false}
+use borrow.Author.Tests.{lt-ltb, le-ltb, le-leb}
 use Rattle.counting.specs.Counting.{rank, count}
 use Rattle.counting.specs.Scaffold.{Nth}
 use Rattle.counting.proofs.Facts.{order}
@@ -16,13 +18,13 @@ use Rattle.counting.proofs.Select.{nth_of}
 use Rattle.messages.specs.declared.Messages.{Messages}
 use Rattle.units.specs.declared.Lane.{Lane}
 use Rattle.units.specs.declared.Timetable.{Timetable}
-use Rattle.units.specs.declared.Wants.{Wants}
 use Rattle.units.specs.declared.Sight.{Sight}
 use Rattle.strides.specs.declared.Stride.{Stride}
-use Rattle.strides.specs.declared.Kept.{Kept}
+use Rattle.strides.specs.declared.Leap.{Leap}
+use Rattle.strides.specs.declared.Leap.TheVariants.{Past, To}
 use Rattle.messages.specs.Messages.{all_periods, after1, after2, after3, remaining}
 use Rattle.units.specs.Quick.{wants_at, Sized, begin_of, place_of, need_of, unit_step_of, unit_need, no_wants, Seen, Ran, wants_from, Serves, Exact}
-use Rattle.strides.specs.Quick.{Quiet, Evenly, Goes, Strode, Here, held_at, gone_by, past_of, Leapt}
+use Rattle.strides.specs.Quick.{Quiet, Evenly, Goes, Strode, Here, past_of, Onward, Leapt, Held, Leaps}
 use Rattle.messages.proofs.Queue.{count_last}
 use Rattle.units.proofs.Lanes.{step_shut, count_most, unit_most}
 use Rattle.units.proofs.Walking.{served_run, served_sized, far1, far2, far3, unit_remaining, remains_in_unit, step_remaining, run_exact}
@@ -32,15 +34,15 @@ unfolding need_of
 need_shut l n w h = rw (le-ltb (place_of l n) l.window h) refl
 
 -- where no window is open nothing is needed
-pub quiet_need : (table : Timetable) (n : ℕ) (w : Wants) → Quiet table n → unit_need table n w ≡ 0
+pub quiet_need : (table : Timetable) (n : ℕ) (w : List ℕ) → Quiet table n → unit_need table n w ≡ 0
 unfolding unit_need
 quiet_need table n w q =
     omega (
       arith,
-      need_shut table.l1 n w.w1 q.q1,
-      need_shut table.l2 n w.w2 q.q2,
-      need_shut table.l3 n w.w3 q.q3,
-      need_shut table.l4 n w.w4 q.q4,
+      need_shut (lane_at table 0) n (get_or w 0 0) q.q1,
+      need_shut (lane_at table 1) n (get_or w 1 0) q.q2,
+      need_shut (lane_at table 2) n (get_or w 2 0) q.q3,
+      need_shut (lane_at table 3) n (get_or w 3 0) q.q4,
     )
 
 -- a stretch of quiet units
@@ -55,20 +57,17 @@ module _ (ms : Messages) (u : ℕ → Bool) (again : (t : ℕ) → u (t + all_pe
   rest = remaining ms u
 
   -- what is wanted there, whatever it is
-  abbrev known : ℕ → Wants
-  known n = record {
-    w1 = wants_at ms 1 ms.s1 u (begin_of table n);
-    w2 = wants_at ms 2 ms.s2 (after1 ms u) (begin_of table n);
-    w3 = wants_at ms 3 ms.s3 (after2 ms u) (begin_of table n);
-    w4 = wants_at ms 4 ms.s4 (after3 ms u) (begin_of table n);
-  }
+  abbrev known : ℕ → List ℕ
+  known n =
+      wants_at ms 1 ms.s1 u (begin_of table n) ∷ wants_at ms 2 ms.s2 (after1 ms u) (begin_of table n)
+      ∷ wants_at ms 3 ms.s3 (after2 ms u) (begin_of table n) ∷ wants_at ms 4 ms.s4 (after3 ms u) (begin_of table n) ∷ []
 
   known_exact : (n : ℕ) → Exact ms u table n (known n)
   known_exact n = record { x1 = refl; x2 = refl; x3 = refl; x4 = refl }
 
   -- ---- one unit
 
-  unit_here : (n k : ℕ) (w : Wants) → Exact ms u table n w → k < (unit_step_of table n w (count u (begin_of table n) table.unit)).remaining → Here ms u table n w k
+  unit_here : (n k : ℕ) (w : List ℕ) → Exact ms u table n w → k < (unit_step_of table n w (count u (begin_of table n) table.unit)).remaining → Here ms u table n w k
   unit_here n k w X h = record {
     length = table.unit;
     evenly = record { counted = unit_remaining ms u again table S n w X };
@@ -90,10 +89,10 @@ module _ (ms : Messages) (u : ℕ → Bool) (again : (t : ℕ) → u (t + all_pe
   quiet_next n q =
       let R = served_run ms table S in
       record {
-        x1 = sym (R.r1.next u again n ∙ step_shut table.l1 Z.r1 n _ _ (omega (arith, q.q1)));
-        x2 = sym (R.r2.next (after1 ms u) (far1 ms u again table S) n ∙ step_shut table.l2 Z.r2 n _ _ (omega (arith, q.q2)));
-        x3 = sym (R.r3.next (after2 ms u) (far2 ms u again table S) n ∙ step_shut table.l3 Z.r3 n _ _ (omega (arith, q.q3)));
-        x4 = sym (R.r4.next (after3 ms u) (far3 ms u again table S) n ∙ step_shut table.l4 Z.r4 n _ _ (omega (arith, q.q4)));
+        x1 = sym (R.r1.next u again n ∙ step_shut (lane_at table 0) Z.r1 n _ _ (omega (arith, q.q1)));
+        x2 = sym (R.r2.next (after1 ms u) (far1 ms u again table S) n ∙ step_shut (lane_at table 1) Z.r2 n _ _ (omega (arith, q.q2)));
+        x3 = sym (R.r3.next (after2 ms u) (far2 ms u again table S) n ∙ step_shut (lane_at table 2) Z.r3 n _ _ (omega (arith, q.q3)));
+        x4 = sym (R.r4.next (after3 ms u) (far3 ms u again table S) n ∙ step_shut (lane_at table 3) Z.r4 n _ _ (omega (arith, q.q4)));
       }
 
   module _ (n d : ℕ) (q : (i : ℕ) → i < d → Quiet table (n + i)) where
@@ -110,14 +109,14 @@ module _ (ms : Messages) (u : ℕ → Bool) (again : (t : ℕ) → u (t + all_pe
         let f : begin_of table n + y ≡ begin_of table (n + i) + z = omega (arith, e, mul-add U n i, mul_comm i U) in
         ap rest f ∙ quiet_unit (n + i) (q i early) z (mod-lt y some) ∙ ap u (sym f)
 
-    quiet_evenly : 0 < d → (w : Wants) → Evenly ms u table n w (U * d)
+    quiet_evenly : 0 < d → (w : List ℕ) → Evenly ms u table n w (U * d)
     quiet_evenly p w = record {
       counted = λ y l.
           let z : unit_need table n w ≡ 0 = quiet_need table n w (subst (Quiet table) (omega arith) (q 0 p)) in
           count_same rest u y (begin_of table n) (begin_of table n) (λ i h. quiet_at i (omega arith)) ∙ omega (arith, z);
     }
 
-    pub quiet_goes : (w : Wants) → 0 < d → Goes ms u table n w (quiet_stride u table n d) true
+    pub quiet_goes : (w : List ℕ) → 0 < d → Goes ms u table n w (quiet_stride u table n d) true
     quiet_goes w p =
         let b : ℕ = begin_of table n in
         let e : begin_of table (n + d) ≡ b + U * d = omega (arith, mul-add U n d) in
@@ -134,7 +133,7 @@ module _ (ms : Messages) (u : ℕ → Bool) (again : (t : ℕ) → u (t + all_pe
 
   -- ---- the k-th remaining one, where the free ones are counted
 
-  pub lands : (n k : ℕ) (w : Wants) → Here ms u table n w k → (t : ℕ) → u t ≡ true → rank u t ≡ rank u (begin_of table n) + unit_need table n w + k
+  pub lands : (n k : ℕ) (w : List ℕ) → Here ms u table n w k → (t : ℕ) → u t ≡ true → rank u t ≡ rank u (begin_of table n) + unit_need table n w + k
       → Nth rest (begin_of table n) k t
   lands n k w H t y e =
       let b : ℕ = begin_of table n in
@@ -160,80 +159,77 @@ module _ (ms : Messages) (u : ℕ → Bool) (again : (t : ℕ) → u (t + all_pe
 
 -- ---- past a stretch, or to where the k-th is in it
 
-no : {A : Type 0} → true ≡ false → A
-no e = absurd (omega (arith, ap bool_byte e))
-
-pub past_keeps : (s : Sight) (r : Stride) (even : Bool) (kept : Kept) → ((past_of s r even kept).kept ≡ kept) × ((past_of s r even kept).even ≡ even)
-unfolding past_of
-past_keeps s r even kept = by (ltb s.k r.remaining)
-  where
-    by : (b : Bool) → ((cond b (held_at s even kept) (gone_by s r even kept)).kept ≡ kept)
-        × ((cond b (held_at s even kept) (gone_by s r even kept)).even ≡ even)
-    by true = (refl, refl)
-    by false = (refl, refl)
-
-module _ (table : Timetable) (u : ℕ → Bool) (s : Sight) (end : ℕ) (kept : Kept) where
-  pub past_leaps : (even : Bool) (r : Stride) → Seen table u s → Strode table u s.n end even r → Leapt table u s end (past_of s r even kept)
+module _ (table : Timetable) (u : ℕ → Bool) (s : Sight) (end : ℕ) where
+  pub past_leaps : (even far : Bool) (r : Stride) → Seen table u s → Strode table u s.n end even r → (far ≡ false → even ≡ true)
+      → Leaps table u s end far (past_of s r even)
   unfolding past_of
-  past_leaps even r Z R = ⊎_elim inside beyond (order s.k r.remaining)
+  past_leaps even far r Z R f = ⊎_elim inside beyond (order s.k r.remaining)
     where
-      inside : s.k < r.remaining → Leapt table u s end (cond (ltb s.k r.remaining) (held_at s even kept) (gone_by s r even kept))
+      inside : s.k < r.remaining → Leaps table u s end far (past_of s r even)
       inside h =
-          rw (lt-ltb s.k r.remaining h)
-          (record {
-            most = omega (arith, R.on, R.most);
-            seen = Z;
-            less = omega arith;
-            near = λ f. omega (arith, h, R.few);
-            on = λ f. no f;
-            onward = λ ms S X.
-                let G = R.goes ms s.wants S X in
-                record { same = refl; exact = X; here = λ f e. record { length = G.length; evenly = G.evenly e; enough = omega (arith, h, G.all) } };
-          })
+          rw (lt-ltb s.k r.remaining h) (
+            record {
+              most = omega (arith, R.on, R.most);
+              seen = Z;
+              less = omega arith;
+              onward = λ ms S X. record { same = refl; exact = X };
+            },
+            record {
+              near = omega (arith, h, R.few);
+              even = f;
+              here = λ ms S X e.
+                  let G = R.goes ms s.wants S X in
+                  record { length = G.length; evenly = G.evenly e; enough = omega (arith, h, G.all) };
+            },
+          )
 
-      beyond : r.remaining ≤ s.k → Leapt table u s end (cond (ltb s.k r.remaining) (held_at s even kept) (gone_by s r even kept))
+      beyond : r.remaining ≤ s.k → Leaps table u s end far (past_of s r even)
       beyond h =
-          rw (le-ltb s.k r.remaining h)
-          (record {
-            most = R.most;
-            seen = record { small = R.small; free = R.free };
-            less = omega arith;
-            near = λ f. no (sym f);
-            on = λ f. R.on;
-            onward = λ ms S X.
-                let G = R.goes ms s.wants S X in
-                let rest = remaining ms u in
-                record {
-                  same = omega (arith, h, G.all, rank_count rest G.length (begin_of table s.n), ap (rank rest) G.ends);
-                  exact = G.exact;
-                  here = λ f. no (sym f);
-                };
-          })
+          rw (le-ltb s.k r.remaining h) (
+            record {
+              most = R.most;
+              seen = record { small = R.small; free = R.free };
+              less = omega arith;
+              onward = λ ms S X.
+                  let G = R.goes ms s.wants S X in
+                  let rest = remaining ms u in
+                  record {
+                    same = omega (arith, h, G.all, rank_count rest G.length (begin_of table s.n), ap (rank rest) G.ends);
+                    exact = G.exact;
+                  };
+            },
+            R.on,
+          )
 
-  pub run_leaps : (again : (t : ℕ) → u (t + all_periods) ≡ u t) (to : ℕ) (r : Sight) → Sized table → Ran table u s to r → s.n < to → to ≤ end
-      → Leapt table u s end (record { sight = r; found = ltb r.n to; even = true; kept = kept })
-  run_leaps again to r Z R l h = record {
-    most = omega (arith, R.most);
-    seen = R.seen;
-    less = omega (arith, R.counted);
-    near = λ f.
-        omega (
-          arith,
-          R.stops (ltb-true r.n to f),
-          unit_most table r.n (count u (begin_of table r.n) table.unit) r.wants,
-          count_most u table.unit (begin_of table r.n),
-          Z.unit,
-        );
-    on = λ f. omega (arith, ltb-false r.n to f);
-    onward = λ ms S X.
+  module _ (again : (t : ℕ) → u (t + all_periods) ≡ u t) (to : ℕ) (r : Sight) (Z : Sized table) (R : Ran table u s to r) where
+    walked : (ms : Messages) → Serves ms table → Exact ms u table s.n s.wants → Onward ms u table s r
+    walked ms S X =
         let i : ℕ = r.n - s.n in
         let e : s.n + i ≡ r.n = omega (arith, R.from) in
         let I = run_exact ms u again table S s.n s.wants X i in
-        let Y : Exact ms u table r.n r.wants =
-        subst (Exact ms u table r.n) (sym R.wanted) (subst (λ (m : ℕ). Exact ms u table m (wants_from table u s.n s.wants i)) e I.0) in
         record {
           same = omega (arith, I.1, R.counted, ap (λ (n : ℕ). rank (remaining ms u) (begin_of table n)) e);
-          exact = Y;
-          here = λ f g. unit_here ms u again table S r.n r.k r.wants Y (R.stops (ltb-true r.n to f));
-        };
-  }
+          exact = subst (Exact ms u table r.n) (sym R.wanted) (subst (λ (m : ℕ). Exact ms u table m (wants_from table u s.n s.wants i)) e I.0);
+        }
+
+    pub run_leaps : to ≤ end → Leapt table u s end r
+    run_leaps h = record { most = omega (arith, R.most); seen = R.seen; less = omega (arith, R.counted); onward = walked }
+
+    pub run_holds : r.n < to → Held table u s false (record { sight = r; even = true })
+    run_holds f = record {
+      near =
+          omega (
+            arith,
+            R.stops f,
+            unit_most table r.n (count u (begin_of table r.n) table.unit) r.wants,
+            count_most u table.unit (begin_of table r.n),
+            Z.unit,
+          );
+      even = λ h. refl;
+      here = λ ms S X e. unit_here ms u again table S r.n r.k r.wants (walked ms S X).exact (R.stops f);
+    }
+
+  -- what is always at hand is so however far the search may go
+  pub any_far : (far : Bool) (r : Leap) → Leaps table u s end false r → Leaps table u s end far r
+  any_far far (Past r) L = L
+  any_far far (To r) L = (L.0, record { near = L.1.near; even = λ h. L.1.even refl; here = L.1.here })

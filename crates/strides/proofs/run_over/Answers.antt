@@ -1,39 +1,26 @@
-use mathlib.Core.Path.{refl}
-use Prim.Native.Nat.{◌+◌, ◌≤◌, ◌<◌}
+use Prim.Native.Nat.{◌+◌}
 use native.Mathlib.Omega.{arith}
 use Rattle.spans.specs.Pattern.{allows}
 use Rattle.units.proofs.Finding.{far}
-use Rattle.strides.proofs.Striding.{run_leaps}
-use Rattle.strides.proofs.run_over.Goals.{After-least, Start}
+use Rattle.strides.proofs.Striding.{run_leaps, run_holds}
 use Rattle.strides.proofs.run_over.Goals as goal
 
-module _ (c : After-least) where
-  abbrev s : Start
-  s = c.before.before
-
-  later : (0 < c.least.result) × (s.args.s.n + c.least.result ≤ s.args.end)
-  later = (omega (arith, c.least.ensures, s.requires.3, s.requires.5), omega (arith, c.least.ensures, s.requires.3))
-
-pub returns : goal.returns
-returns c =
-    let r = c in
-    let l = r in
-    let z = s l.before.before.before in
-    let a = z.args in (
-      run_leaps a.table (allows a.p) a.s a.end a.kept (far a.p z.requires.1.regular) (a.s.n + l.least.result) r.run-sight.result z.requires.0 r.run-sight.ensures
-          (omega (arith, (later l.before.before.before).0)) (later l.before.before.before).1,
-      refl,
-      refl,
+pub returns-then-sight-to : goal.returns-then-sight-to
+returns-then-sight-to c =
+    let a = c.args in
+    let u = allows a.p in
+    let again = far a.p c.requires.1.regular in
+    let to = a.s.n + c.min.result in
+    let r = c.run-sight.result in (
+      run_leaps a.table u a.s a.end again to r c.requires.0 c.run-sight.ensures (omega (arith, c.min.ensures)),
+      run_holds a.table u a.s a.end again to r c.requires.0 c.run-sight.ensures c.if-sight-to.true,
     )
 
-pub overflow_sub-end : goal.overflow_sub-end
-overflow_sub-end c = omega (arith, c.requires.3)
-
-pub least-requires : goal.least-requires
-least-requires c = tt
-
-pub overflow_add-to : goal.overflow_add-to
-overflow_add-to c = let l = c in omega (arith, (later l.before).1, (s l.before).requires.4)
-
-pub run-sight-requires : goal.run-sight-requires
-run-sight-requires c = let l = c in let z = s l.before in (z.requires.0, z.requires.1, z.requires.2, omega arith, omega (arith, (later l.before).1, z.requires.4))
+pub returns-else-sight-to : goal.returns-else-sight-to
+returns-else-sight-to c =
+    let a = c.args in
+    let again = far a.p c.requires.1.regular in
+    let to = a.s.n + c.min.result in (
+      run_leaps a.table (allows a.p) a.s a.end again to c.run-sight.result c.requires.0 c.run-sight.ensures (omega (arith, c.min.ensures)),
+      omega (arith, c.min.ensures, c.if-sight-to.false),
+    )
