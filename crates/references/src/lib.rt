@@ -2,7 +2,6 @@
 #![tactic(auto)]
 
 ghost use Rattle.std.specs.Prelude.{◌≡◌, ◌<◌, ◌≤◌};
-ghost use mir.Val.{bool_byte};
 ghost use Rattle.references.specs.Quick.{taken_at_0, taken_at_1, closed_count, marks_of};
 
 // Where references lie among six subcarriers: one of the first three, one of the last three; 8 more for none.
@@ -12,30 +11,17 @@ pub struct Marks {
     pub high: u64,
 }
 
-// 1 for true, 0 for false.
-pub fn one(b: bool) -> u64
-    ensures { (result ≡ bool_byte b) × (result ≤ 1) }
-{
-    b as u64
-}
-
 // References in six subcarriers of symbols 0 and 4, and of symbol 1.
 pub fn taken_at_0(cports: u64) -> u64
     ensures { (result ≡ taken_at_0 cports) × (result ≤ 2) }
 {
-    if cports < 2 {
-        return cports;
-    }
-    2
+    cports.min(2)
 }
 
 pub fn taken_at_1(cports: u64) -> u64
     ensures { (result ≡ taken_at_1 cports) × (result ≤ 2) }
 {
-    if cports < 4 {
-        return 0;
-    }
-    2
+    if cports < 4 { 0 } else { 2 }
 }
 
 // E of one NCCE: of fourteen symbols those outside the control region, less their references. Cell references lie on
@@ -45,8 +31,8 @@ pub fn closed_count(nports: u64, cports: u64, control: u64) -> u64
     requires { (nports ≤ 2) × (control ≤ 3) }
     ensures { result ≡ closed_count nports cports control }
 {
-    let at_0 = (4 - one(1 <= control)) * taken_at_0(cports);
-    let at_1 = (2 - one(2 <= control)) * taken_at_1(cports);
+    let at_0 = (4 - u64::from(1 <= control)) * taken_at_0(cports);
+    let at_1 = (2 - u64::from(2 <= control)) * taken_at_1(cports);
     84 - 6 * control - (4 * nports + at_0 + at_1)
 }
 
@@ -55,12 +41,12 @@ pub fn marks_on(v: u64, l: u64, taken: u64) -> Marks
     requires { (v < 6) × (taken ≤ 2) }
     ensures { result ≡ marks_of v l taken }
 {
-    let upper = one(3 <= v);
+    let upper = u64::from(3 <= v);
     let low = v - 3 * upper;
-    let far = one((l == 4) | (l == 6));
-    let first = one(far == upper);
+    let far = u64::from((l == 4) | (l == 6));
+    let first = u64::from(far == upper);
     Marks {
-        low: low + 8 * one(taken + first < 2),
-        high: low + 3 + 8 * one(taken < 1 + first),
+        low: low + 8 * u64::from(taken + first < 2),
+        high: low + 3 + 8 * u64::from(taken < 1 + first),
     }
 }
