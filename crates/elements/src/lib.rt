@@ -11,12 +11,13 @@ ghost use Rattle.elements.specs.Quick.{rows, sums_of, byte_of, six_before, free_
 ghost use Rattle.elements.specs.Quick.{place_in, reference_kind, SpotOf, RowOf, has_in};
 
 use grid::Grid;
-use references::{Marks, one};
+use references::Marks;
 
 // Subcarriers of an NCCE.
 pub const NCCE_WIDTH: u64 = 6;
 
 // The layout of a subframe, apart from the cell: identity mod 6, narrowband and cell reference ports, control region.
+// No ghost field for Valid: layout_of and the bursts of specs/ build layouts as plain records.
 #[derive(Clone, Copy)]
 pub struct Layout {
     pub v: u64,
@@ -30,6 +31,23 @@ pub struct Layout {
 pub enum ElementUse {
     Used(u64),
     Unused(u64),
+}
+
+// A layout, and by bytes l = 0 to 7: how many of six subcarriers carry no reference, in all symbols of a slot before l.
+#[derive(Clone, Copy)]
+struct Summed {
+    layout: Layout,
+    sums: u64,
+    ghost valid: { Valid layout },
+    ghost summed: { sums ≡ sums_of layout.nports layout.cports },
+}
+
+// The subcarriers that are used: `width` of them from the first on, one NCCE or both.
+#[derive(Clone, Copy)]
+struct Ncces {
+    from: u64,
+    width: u64,
+    ghost part: { Part from width },
 }
 
 // A row: its slot and symbol; and one of its subcarriers, by how many of six before it carry no reference.
@@ -70,6 +88,7 @@ fn in_control(g: Layout, slot: u64, l: u64) -> bool
 }
 
 // By bytes: how many of six subcarriers carry no reference, in all symbols of a slot before l = 0 to 7.
+#[tactic(auto, unfolding(crate::specs::Quick::sums_of))]
 fn sums(g: Layout) -> u64
     requires { Valid g }
     ensures { result ≡ sums_of g.nports g.cports }
@@ -80,41 +99,83 @@ fn sums(g: Layout) -> u64
     ALL - c * AT_0_AND_4 - d * AT_1 - n * AT_5_AND_6
 }
 
-fn byte(sums: u64, l: u64) -> u64
-    requires { l ≤ symbols }
-    ensures { (result ≡ byte_of sums l) × (result < 256) }
-{
-    (sums >> (8 * l)) % 256
-}
-
-// How many of six subcarriers of symbol l carry no reference.
-fn free_in(g: Layout, sums: u64, l: u64) -> u64
-    requires { Valid g × (sums ≡ sums_of g.nports g.cports) × (l < symbols) }
-    ensures { (result ≡ free_of g.nports g.cports l) × (4 ≤ result) × (result ≤ 6) }
-{
-    byte(sums, l + 1) - byte(sums, l)
-}
-
-// NCCEs of a part.
-fn ncces(from: u64, width: u64) -> u64
-    requires { Part from width }
-    ensures { (result ≡ width / ncce_width) × (0 < result) × (result ≤ 2) }
-{
-    if width == NCCE_WIDTH {
-        return 1;
+impl Ncces {
+    fn count(self) -> u64
+        ensures { (result ≡ self.width / ncce_width) × (0 < result) × (result ≤ 2) }
+    {
+        if self.width == NCCE_WIDTH { 1 } else { 2 }
     }
-    2
+
+    // e over their number.
+    fn share(self, e: u64) -> u64
+        ensures { result ≡ e / (self.width / ncce_width) }
+    {
+        if self.width == NCCE_WIDTH { e } else { e / 2 }
+    }
+
+    fn has(self, k: u64) -> bool
+        ensures { result ≡ in_range self.from self.width k }
+    {
+        (self.from <= k) & (k < self.from + self.width)
+    }
 }
 
-// e over the NCCEs of a part.
-fn over_ncces(from: u64, width: u64, e: u64) -> u64
-    requires { Part from width }
-    ensures { result ≡ e / (width / ncce_width) }
-{
-    if width == NCCE_WIDTH {
-        return e;
+impl Summed {
+    // How many of six subcarriers carry no reference, in all symbols of a slot before l.
+    fn before(self, l: u64) -> u64
+        requires { l ≤ symbols }
+        ensures { (result ≡ six_before self.layout.nports self.layout.cports l) × (result < 256) }
+    {
+        (self.sums >> (8 * l)) % 256
     }
-    e / 2
+
+    // How many of six subcarriers of symbol l carry no reference.
+    fn free_in(self, l: u64) -> u64
+        requires { l < symbols }
+        ensures { (result ≡ free_of self.layout.nports self.layout.cports l) × (4 ≤ result) × (result ≤ 6) }
+    {
+        self.before(l + 1) - self.before(l)
+    }
+
+    // The symbol of a slot with the y-th of the subcarriers that are counted: all bytes compared at once, and the
+    // passed ones counted.
+    fn symbol_with(self, y: u64) -> u64
+        requires { y < six_before self.layout.nports self.layout.cports symbols }
+        ensures { (result < symbols) × (six_before self.layout.nports self.layout.cports result ≤ y)
+            × (y < six_before self.layout.nports self.layout.cports (result + 1)) }
+    {
+        let passed = ((y * ONCE + HIGHEST - self.sums % (1 << 56)) & HIGHEST) >> 15;
+        let two = passed + (passed >> 24);
+        (two + (two >> 8) + (two >> 16)) % 8
+    }
+
+    // The row with the q-th of the subcarriers that are counted, control region left out, and which one of the row it
+    // is.
+    fn row_with(self, q: u64) -> Spot
+        requires { q < six_in_rows self.layout rows }
+        ensures { SpotOf self.layout q result }
+    {
+        let y = q + self.before(self.layout.control);
+        let whole = self.before(Grid::SYMBOLS);
+        let slot = u64::from(whole <= y);
+        let z = y - whole * slot;
+        let l = self.symbol_with(z);
+        Spot {
+            slot,
+            l,
+            rest: z - self.before(l),
+        }
+    }
+
+    // The number of a row's first used element; the row is no control region.
+    fn row_start(self, ncces: Ncces, slot: u64, l: u64) -> u64
+        requires { (slot < slots) × (l < symbols) × (control_region self.layout slot l ≡ false) }
+        ensures { (result ≡ number_of self.layout ncces.from ncces.width (element_of slot l 0)) × (result ≤ elements) }
+    {
+        let six = slot * self.before(Grid::SYMBOLS) + self.before(l)
+            - self.before(self.layout.control);
+        ncces.count() * six
+    }
 }
 
 // E: how many elements are used.
@@ -122,36 +183,7 @@ pub fn count(g: Layout, from: u64, width: u64) -> u64
     requires { Valid g × Part from width }
     ensures { result ≡ count_of g from width }
 {
-    ncces(from, width) * references::closed_count(g.nports, g.cports, g.control)
-}
-
-// The symbol of a slot with the y-th of the subcarriers that are counted: all bytes compared at once, and the passed
-// ones counted.
-fn symbol_with(g: Layout, sums: u64, y: u64) -> u64
-    requires { Valid g × (sums ≡ sums_of g.nports g.cports) × (y < six_before g.nports g.cports symbols) }
-    ensures { (result < symbols) × (six_before g.nports g.cports result ≤ y)
-        × (y < six_before g.nports g.cports (result + 1)) }
-{
-    let passed = ((y * ONCE + HIGHEST - sums % (1 << 56)) & HIGHEST) >> 15;
-    let two = passed + (passed >> 24);
-    (two + (two >> 8) + (two >> 16)) % 8
-}
-
-// The row with the q-th of the subcarriers that are counted, control region left out, and which one of the row it is.
-fn row_with(g: Layout, sums: u64, q: u64) -> Spot
-    requires { Valid g × (sums ≡ sums_of g.nports g.cports) × (q < six_in_rows g rows) }
-    ensures { SpotOf g q result }
-{
-    let y = q + byte(sums, g.control);
-    let whole = byte(sums, Grid::SYMBOLS);
-    let slot = one(whole <= y);
-    let z = y - whole * slot;
-    let l = symbol_with(g, sums, z);
-    Spot {
-        slot,
-        l,
-        rest: z - byte(sums, l),
-    }
+    Ncces { from, width }.count() * references::closed_count(g.nports, g.cports, g.control)
 }
 
 // The j-th of six subcarriers that carry no reference.
@@ -159,8 +191,8 @@ fn nth_free(m: Marks, j: u64) -> u64
     requires { j < 2 ^ 32 }
     ensures { (result ≡ nth_free m j) × (result ≤ j + 2) }
 {
-    let k = j + one(m.low <= j);
-    k + one(m.high <= k)
+    let k = j + u64::from(m.low <= j);
+    k + u64::from(m.high <= k)
 }
 
 // The subcarrier with the j-th used element of a row; `free` of six are.
@@ -168,7 +200,7 @@ fn nth_in(m: Marks, free: u64, from: u64, j: u64) -> u64
     requires { (free ≤ 6) × (from ≤ 6) × (j < 2 ^ 32) }
     ensures { result ≡ nth_in m free from j }
 {
-    let upper = one(free <= j);
+    let upper = u64::from(free <= j);
     from + NCCE_WIDTH * upper + nth_free(m, j - free * upper)
 }
 
@@ -177,22 +209,19 @@ pub fn element_at(g: Layout, from: u64, width: u64, e: u64) -> u64
     requires { Valid g × Part from width × (e < count_of g from width) }
     ensures { result ≡ element_at g from width e }
 {
-    let s = sums(g);
-    let n = ncces(from, width);
-    let q = over_ncces(from, width, e);
-    let spot = row_with(g, s, q);
+    let summed = Summed {
+        layout: g,
+        sums: sums(g),
+    };
+    let ncces = Ncces { from, width };
+    let n = ncces.count();
+    let q = ncces.share(e);
+    let spot = summed.row_with(q);
     let l = spot.l;
-    let free = free_in(g, s, l);
+    let free = summed.free_in(l);
     let j = n * spot.rest + (e - n * q);
     let k = nth_in(references::marks_on(g.v, l, 6 - free), free, from, j);
     Grid::element(spot.slot, l, k)
-}
-
-fn in_part(from: u64, width: u64, k: u64) -> bool
-    requires { Part from width }
-    ensures { result ≡ in_range from width k }
-{
-    (from <= k) & (k < from + width)
 }
 
 // How many used elements of a row come before subcarrier k, number `six` of its six.
@@ -200,28 +229,15 @@ fn before_in(m: Marks, free: u64, from: u64, k: u64, six: u64) -> u64
     requires { (free ≤ 6) × (from ≤ 6) × (six < 6) × (3 ≤ m.high) }
     ensures { (result ≡ place_in m free from k six) × (result ≤ 12) }
 {
-    let past = one(from + NCCE_WIDTH <= k);
-    past * free + six - one(m.low < six) - one(m.high < six)
-}
-
-// The number of a row's first used element; the row is no control region.
-fn row_start(g: Layout, sums: u64, from: u64, width: u64, slot: u64, l: u64) -> u64
-    requires { Valid g × (sums ≡ sums_of g.nports g.cports) × Part from width × (slot < slots) × (l < symbols)
-        × (control_region g slot l ≡ false) }
-    ensures { (result ≡ number_of g from width (element_of slot l 0)) × (result ≤ elements) }
-{
-    let six = slot * byte(sums, Grid::SYMBOLS) + byte(sums, l) - byte(sums, g.control);
-    ncces(from, width) * six
+    let past = u64::from(from + NCCE_WIDTH <= k);
+    past * free + six - u64::from(m.low < six) - u64::from(m.high < six)
 }
 
 // Narrowband references lie on symbols 5 and 6, cell references before.
 fn reference_kind(l: u64) -> u64
     ensures { result ≡ reference_kind l }
 {
-    if l < 5 {
-        return 2;
-    }
-    1
+    if l < 5 { 2 } else { 1 }
 }
 
 // An element: used, with its number; or not, with its kind: 0 plain, 1 narrowband reference, 2 cell reference.
@@ -229,17 +245,21 @@ pub fn use_at(g: Layout, from: u64, width: u64, slot: u64, l: u64, k: u64) -> El
     requires { Valid g × Part from width × (slot < slots) × (l < symbols) × (k < subcarriers) }
     ensures { result ≡ element_use_of g from width (element_of slot l k) }
 {
-    let s = sums(g);
-    let free = free_in(g, s, l);
+    let summed = Summed {
+        layout: g,
+        sums: sums(g),
+    };
+    let ncces = Ncces { from, width };
+    let free = summed.free_in(l);
     let m = references::marks_on(g.v, l, 6 - free);
-    let six = k - NCCE_WIDTH * one(NCCE_WIDTH <= k);
+    let six = k - NCCE_WIDTH * u64::from(NCCE_WIDTH <= k);
     if (six == m.low) | (six == m.high) {
         return ElementUse::Unused(reference_kind(l));
     }
-    if in_control(g, slot, l) | !in_part(from, width, k) {
+    if in_control(g, slot, l) | !ncces.has(k) {
         return ElementUse::Unused(0);
     }
-    let start = row_start(g, s, from, width, slot, l);
+    let start = summed.row_start(ncces, slot, l);
     ElementUse::Used(start + before_in(m, free, from, k, six))
 }
 
@@ -248,7 +268,11 @@ pub fn used_row(g: Layout, slot: u64, l: u64) -> Row
     requires { Valid g × (slot < slots) × (l < symbols) }
     ensures { RowOf g slot l result }
 {
-    let free = free_in(g, sums(g), l);
+    let summed = Summed {
+        layout: g,
+        sums: sums(g),
+    };
+    let free = summed.free_in(l);
     let m = references::marks_on(g.v, l, 6 - free);
     Row {
         shut: in_control(g, slot, l),
