@@ -26,12 +26,13 @@ use Rattle.closures.specs.declared.Cycle.{Cycle}
 use Rattle.closures.specs.Quick.{Usable, Begins, Repeats, FreeIndexAt}
 use Rattle.closures.proofs.Nesting.{clear_repeats}
 use Rattle.closures.proofs.Spreading.{spread_free}
+use Rattle.std.specs.Prelude.{Some, None}
 use Rattle.uplink.specs.declared.Shape.{Shape}
 use Rattle.uplink.specs.Fits.{Fits, OpenRepeats}
 use Rattle.uplink.specs.Timing.{gap_period, in_block, group_at, active, period, slot_at}
 use Rattle.uplink.specs.Scaffold.{gap_periods}
 use Rattle.uplink.specs.declared.timing.GroupSearch.{GroupSearch}
-use Rattle.uplink.specs.Quick.{gap_closure, Searchable, SearchOf, ActiveIndex}
+use Rattle.uplink.specs.Quick.{gap_closure, Searchable, SearchOf, active_index}
 use Rattle.uplink.proofs.GapPeriods.{whole, whole_period_groups, repeats}
 
 and_true : (b : Bool) → (b && true) ≡ b
@@ -222,17 +223,21 @@ module _ (s : Shape) (f : Fits s) where
           omega (arith, st.index, rank_not free U, rank_not free (U + y), rank_mono (λ i. not (free i)) U (U + y) (omega arith)) in
           omega (arith, mul-le-mul_right g a)
 
-      pub index_is : ActiveIndex s (clear closures) x (record { sent = r.free; i = r.index * g + k })
-      index_is = record {
-        says = st.says ∙ sym (ap (active s (clear closures)) e ∙ by_group y k h);
-        index = λ a.
-            let p : free (U + y) ≡ true = sym (ap (active s (clear closures)) e ∙ by_group y k h) ∙ a in
-            let q : rank (λ i. free (U + i)) y ≡ r.index = omega (arith, moved free U y, st.index) in
-            sym (
-            ap (rank (active s (clear closures))) e ∙ rank_groups y k (omega arith)
-            ∙ ap₂ (λ (a b : ℕ). a * g + b * k) q (ap bool_byte p) ∙ omega (arith, one-mul k)
-            );
-      }
+      may_send : active s (clear closures) x ≡ r.free
+      may_send = ap (active s (clear closures)) e ∙ by_group y k h ∙ sym st.says
+
+      index_of_group : r.free ≡ true → rank (active s (clear closures)) x ≡ r.index * g + k
+      index_of_group t =
+          let p : free (U + y) ≡ true = sym st.says ∙ t in
+          let q : rank (λ i. free (U + i)) y ≡ r.index = omega (arith, moved free U y, st.index) in
+          ap (rank (active s (clear closures))) e ∙ rank_groups y k (omega arith)
+          ∙ ap₂ (λ (a b : ℕ). a * g + b * k) q (ap bool_byte p) ∙ omega (arith, one-mul k)
+
+      pub index_some : r.free ≡ true → Some (r.index * g + k) ≡ active_index s (clear closures) x
+      index_some t = rw (may_send ∙ t) (ap Some (sym (index_of_group t)))
+
+      pub index_none : r.free ≡ false → None ≡ active_index s (clear closures) x
+      index_none t = rw (may_send ∙ t) refl
 
 -- ---- cycles
 
@@ -346,5 +351,8 @@ module _ (s : Shape) (f : Fits s) (nested : Nested) (o : OpenRepeats s (clear ne
     pub index_found_fits : t.index * s.group + (x - y * s.group) ≤ x
     index_found_fits = index_fits s f nested.closures o x y (x - y * s.group) t parts.0 parts.1 stands
 
-    pub index_found : ActiveIndex s (clear nested.closures) x (record { sent = t.free; i = t.index * s.group + (x - y * s.group) })
-    index_found = index_is s f nested.closures o x y (x - y * s.group) t parts.0 parts.1 stands
+    pub index_found : t.free ≡ true → Some (t.index * s.group + (x - y * s.group)) ≡ active_index s (clear nested.closures) x
+    index_found = index_some s f nested.closures o x y (x - y * s.group) t parts.0 parts.1 stands
+
+    pub index_missed : t.free ≡ false → None ≡ active_index s (clear nested.closures) x
+    index_missed = index_none s f nested.closures o x y (x - y * s.group) t parts.0 parts.1 stands

@@ -1,5 +1,5 @@
 -- A position taken apart line by line, and a slot found by whole gap periods: what the quick code works out is what the definitions say.
-use mathlib.Core.Bool.{Bool, true, false, ◌&&◌}
+use mathlib.Core.Bool.{Bool, true, false, cond, true≢false}
 use mathlib.Core.Path.{◌≡◌, refl, sym, ap, ap₂, ◌∙◌}
 use mathlib.Core.Logic.{⊎_elim}
 use Prim.Native.Nat.{ℕ, ◌+◌, ◌-◌, ◌*◌, ◌/◌, ◌%◌, ◌≤◌, ◌<◌}
@@ -7,22 +7,22 @@ use native.Mathlib.Nat.{mul_comm, mod-lt, div-mul-le_self, div-div-eq-div-mul, m
 use native.Mathlib.Omega.{arith}
 use lib.Arith.{digits_div, digits_mod, mod-mul}
 use lib.Dec.{ltb}
-use mir.Val.{bool_byte}
 use borrow.Author.Tests.{lt-ltb, le-ltb, ltb-true}
 use Rattle.counting.specs.Counting.{rank}
-use Rattle.counting.proofs.Facts.{order, both_parts}
+use Rattle.counting.proofs.Facts.{order}
 use Rattle.grid.specs.Grid.{symbols, uplink_symbol_of, uplink_subcarrier_of}
 use Rattle.uplink.specs.declared.Shape.{Shape}
+use Rattle.std.specs.Prelude.{Option, Some, None, is_some}
+use Rattle.std.specs.Option.{unwrap_or}
 use Rattle.uplink.specs.declared.Split.{Split}
-use Rattle.uplink.specs.declared.SentIndex.{SentIndex}
 use Rattle.uplink.specs.Fits.{Fits}
 use Rattle.uplink.specs.Timing.{gap_period, in_block, active, sent_slots, is_sent, index_of}
 use Rattle.uplink.specs.Scaffold.{all_open}
 use Rattle.uplink.specs.Elements.{slot_data, element_at}
-use Rattle.uplink.specs.Quick.{symbol_of_line, split_of, among_sent, Located, ActiveIndex}
+use Rattle.uplink.specs.Quick.{symbol_of_line, split_of, active_index, Located}
 use Rattle.uplink.proofs.Lines.{slot_data_lem, some_data, symbol_first, symbol_second, subcarrier_is}
 use Rattle.uplink.proofs.GapPeriods.{before_in_block, blocks_below, plain, plain_rank}
-use Rattle.uplink.proofs.Joined.{unsent_before, sent_is, sent_active}
+use Rattle.uplink.proofs.Joined.{unsent_before, sent_is}
 
 module _ (s : Shape) (f : Fits s) (p : ℕ) where
   -- lines of a slot
@@ -119,36 +119,57 @@ module _ (s : Shape) (f : Fits s) (x whole : ℕ) (by : whole ≡ x / gap_period
   unfolding in_block
   block_index h = by_whole ∙ before_in_block s f.block x (ltb-true (x % gap_period s) s.block h)
 
-  pub active_index : ActiveIndex s all_open x (record { sent = ltb (x - whole * gap_period s) s.block; i = whole * s.block + (x - whole * gap_period s) })
-  active_index = record {
-    says = block_is ∙ sym (plain s f x);
-    index = λ e. block_index (sym (plain s f x) ∙ e) ∙ sym (plain_rank s f x);
-  }
+  may_send : active s all_open x ≡ ltb (x - whole * gap_period s) s.block
+  may_send = plain s f x ∙ sym block_is
 
--- ---- whether it is one of those that are sent
+  pub index_some : x - whole * gap_period s < s.block → Some (whole * s.block + (x - whole * gap_period s)) ≡ active_index s all_open x
+  index_some h =
+      let e = may_send ∙ lt-ltb _ _ h in
+      rw e (ap Some (block_index (sym (plain s f x) ∙ e) ∙ sym (plain_rank s f x)))
 
-pub unlocated : (s : Shape) (is_open : ℕ → Bool) (slot : ℕ) → slot < s.first → Located s is_open slot (record { sent = false; i = 0 })
-unlocated s is_open slot h = record {
-  says = unsent_before s is_open slot h;
-  index = λ e. absurd (omega (arith, ap bool_byte (unsent_before s is_open slot h ∙ e)));
-  counted = λ e. absurd (omega (arith, ap bool_byte e));
-}
+  pub index_none : s.block ≤ x - whole * gap_period s → None ≡ active_index s all_open x
+  index_none h = rw (may_send ∙ le-ltb _ _ h) refl
 
-module _ (s : Shape) (is_open : ℕ → Bool) (slot : ℕ) (at : SentIndex) (h : s.first ≤ slot) (found : ActiveIndex s is_open (slot - s.first) at) where
+-- ---- which of those that are sent a slot is
+
+module _ (s : Shape) (is_open : ℕ → Bool) (slot : ℕ) where
+  pub unlocated : slot < s.first → Located s is_open slot None
+  unlocated h = record { says = rw (← unsent_before s is_open slot h) refl; counted = tt }
+
   abbrev x : ℕ
   x = slot - s.first
 
-  sent_says : (b : Bool) → active s is_open x ≡ b → (at.sent && ltb at.i (sent_slots s)) ≡ is_sent s is_open slot
-  sent_says true e = sent_is s is_open slot _ at.i (sent_slots s) h found.says (found.index e) refl
-  sent_says false e =
-      ap (λ (b : Bool). b && ltb at.i (sent_slots s)) (found.says ∙ e)
-      ∙ ap (λ (b : Bool). b && ltb (rank (active s is_open) x) (sent_slots s)) (sym e)
-      ∙ sent_is s is_open slot (active s is_open x) (rank (active s is_open) x) (sent_slots s) h refl refl refl
+  -- the number of a slot, where it is counted
+  module _ (i : ℕ) where
+    of_some : (b : Bool) (n : ℕ) → Some i ≡ cond b (Some n) None → (b ≡ true) × (i ≡ n)
+    of_some true n e = (refl, ap (λ (o : Option ℕ). unwrap_or o i) e)
+    of_some false n e = absurd (true≢false (ap is_some e))
 
-  pub locates : Located s is_open slot (among_sent s at)
-  unfolding index_of
-  locates = record {
-    says = sent_says (active s is_open x) refl;
-    index = λ e. found.index (sent_active s is_open slot h e);
-    counted = λ e. ltb-true at.i (sent_slots s) (both_parts at.sent _ e).1;
-  }
+    pub located : s.first ≤ slot → Some i ≡ active_index s is_open x → i < sent_slots s → Located s is_open slot (Some i)
+    unfolding index_of
+    located h e l =
+        let a = of_some _ _ e in
+        record { says = rw (sym (sent_is s is_open slot true i (sent_slots s) h (sym a.0) a.1 refl) ∙ lt-ltb _ _ l) (ap Some a.1); counted = l }
+
+    pub passed : s.first ≤ slot → Some i ≡ active_index s is_open x → sent_slots s ≤ i → Located s is_open slot None
+    passed h e l =
+        let a = of_some _ _ e in
+        record { says = rw (sym (sent_is s is_open slot true i (sent_slots s) h (sym a.0) a.1 refl) ∙ le-ltb _ _ l) refl; counted = tt }
+
+    pub found_sent : Located s is_open slot (Some i) → is_sent s is_open slot ≡ true
+    found_sent l = (of_some _ _ l.says).0
+
+    pub found_index : Located s is_open slot (Some i) → i ≡ index_of s is_open slot
+    found_index l = (of_some _ _ l.says).1
+
+  of_none : (b : Bool) (n : ℕ) → None ≡ cond b (Some n) None → b ≡ false
+  of_none true n e = absurd (true≢false (sym (ap is_some e)))
+  of_none false n e = refl
+
+  pub inactive : s.first ≤ slot → None ≡ active_index s is_open x → Located s is_open slot None
+  inactive h e =
+      let a = of_none _ _ e in
+      record { says = rw (sym (sent_is s is_open slot false (rank (active s is_open) x) (sent_slots s) h (sym a) refl refl)) refl; counted = tt }
+
+  pub none_sent : Located s is_open slot None → is_sent s is_open slot ≡ false
+  none_sent l = of_none _ _ l.says

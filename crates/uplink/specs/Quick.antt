@@ -1,5 +1,5 @@
 -- For the code alone. What the quick code takes apart.
-use Rattle.std.specs.Prelude.{Bool, true, cond, not, ◌&&◌, ◌≡◌, ℕ, ◌+◌, ◌-◌, ◌*◌, ◌/◌, ◌%◌, ◌<◌, ltb}
+use Rattle.std.specs.Prelude.{Bool, cond, not, ◌≡◌, ℕ, ◌+◌, ◌-◌, ◌*◌, ◌/◌, ◌%◌, ◌<◌, ltb, Option, Some, None, IfSome}
 use Rattle.counting.specs.Counting.{rank}
 use Rattle.closures.specs.declared.Closure.{Closure}
 use Rattle.closures.specs.declared.Nested.{Nested}
@@ -9,7 +9,6 @@ use Rattle.grid.specs.Grid.{uplink_symbol_of, uplink_subcarrier_of}
 use Rattle.uplink.specs.declared.Shape.{Shape}
 use Rattle.uplink.specs.declared.timing.GroupSearch.{GroupSearch}
 use Rattle.uplink.specs.declared.Split.{Split}
-use Rattle.uplink.specs.declared.SentIndex.{SentIndex}
 use Rattle.uplink.specs.Timing.{gap_period, active, sent_slots, is_sent, index_of}
 use Rattle.uplink.specs.Elements.{slot_data, element_at}
 
@@ -63,20 +62,14 @@ pub record SearchOf (s : Shape) (nested : Nested) (c : GroupSearch) : Type 0 whe
   pub cycle : Repeats (is_free (gap_closure s) nested.closures) c.cycle
 
 -- the number of a slot that is sent is one of those counted
-abbrev pub Counted : Shape → SentIndex → Type 0
-Counted s r = r.sent ≡ true → r.i < sent_slots s
+abbrev pub Counted : Shape → Option ℕ → Type 0
+Counted s found = IfSome found (λ i. i < sent_slots s)
 
--- r tells whether a slot is sent, and which transmitted slot it is
-pub record Located (s : Shape) (is_open : ℕ → Bool) (slot : ℕ) (r : SentIndex) : Type 0 where
-  pub says : r.sent ≡ is_sent s is_open slot
-  pub index : is_sent s is_open slot ≡ true → r.i ≡ index_of s is_open slot
+-- which transmitted slot a slot is, if it is sent
+pub record Located (s : Shape) (is_open : ℕ → Bool) (slot : ℕ) (r : Option ℕ) : Type 0 where
+  pub says : r ≡ cond (is_sent s is_open slot) (Some (index_of s is_open slot)) None
   pub counted : Counted s r
 
--- r tells whether slot number x, counted from the first, may be sent, and if so how many before it may
-pub record ActiveIndex (s : Shape) (is_open : ℕ → Bool) (x : ℕ) (r : SentIndex) : Type 0 where
-  pub says : r.sent ≡ active s is_open x
-  pub index : active s is_open x ≡ true → r.i ≡ rank (active s is_open) x
-
--- where a slot was found, if it is one of those that are sent
-abbrev pub among_sent : Shape → SentIndex → SentIndex
-among_sent s found = record { sent = found.sent && ltb found.i (sent_slots s); i = found.i }
+-- if slot number x, counted from the first, may be sent: how many before it may
+abbrev pub active_index : Shape → (ℕ → Bool) → ℕ → Option ℕ
+active_index s is_open x = cond (active s is_open x) (Some (rank (active s is_open) x)) None

@@ -14,18 +14,14 @@ pub fn is_reference(s: Shape, l: u64) -> bool
     requires { Fits s }
     ensures { result ≡ is_reference s l }
 {
-    let from = s.reference;
-    let references = s.references;
-    (from <= l) & (l < from + references)
+    (s.reference <= l) & (l < s.reference + s.references)
 }
 
 pub fn is_granted(s: Shape, k: u64) -> bool
     requires { Fits s }
     ensures { result ≡ is_granted s k }
 {
-    let from = s.tone;
-    let tones = s.tones;
-    (from <= k) & (k < from + tones)
+    (s.tone <= k) & (k < s.tone + s.tones)
 }
 
 // How many elements of a slot carry data.
@@ -33,9 +29,7 @@ pub fn slot_data(s: Shape) -> u64
     requires { Fits s }
     ensures { (result ≡ slot_data s) × (0 < result) × (result < 2 ^ 19) }
 {
-    let references = s.references;
-    let tones = s.tones;
-    (UplinkGrid::SYMBOLS - references) * tones
+    (UplinkGrid::SYMBOLS - s.references) * s.tones
 }
 
 // The symbol of a line of data elements.
@@ -43,12 +37,11 @@ fn symbol_at(s: Shape, line: u64) -> u64
     requires { Fits s × (line + s.references < symbols) }
     ensures { result ≡ symbol_of_line s line }
 {
-    let reference = s.reference;
-    let references = s.references;
-    if line < reference {
-        return line;
+    if line < s.reference {
+        line
+    } else {
+        line + s.references
     }
-    line + references
 }
 
 // Where position p is: lines of `tones` elements, as many a slot as there are symbols with data.
@@ -56,7 +49,6 @@ pub fn split(s: Shape, p: u64) -> Split
     requires { Fits s }
     ensures { result ≡ split_of s p }
 {
-    let tone = s.tone;
     let tones = s.tones;
     let lines = UplinkGrid::SYMBOLS - s.references;
     let line = p / tones;
@@ -66,7 +58,7 @@ pub fn split(s: Shape, p: u64) -> Split
         i,
         e: p - i * (lines * tones),
         l,
-        k: tone + (p - line * tones),
+        k: s.tone + (p - line * tones),
     }
 }
 
@@ -75,12 +67,7 @@ fn data_symbols_before(s: Shape, l: u64) -> u64
     requires { Fits s × (is_data_symbol s l ≡ true) }
     ensures { result ≡ rank (is_data_symbol s) l }
 {
-    let reference = s.reference;
-    let references = s.references;
-    if l < reference {
-        return l;
-    }
-    l - references
+    if l < s.reference { l } else { l - s.references }
 }
 
 // Which data element stands at symbol l and subcarrier k.
@@ -88,7 +75,5 @@ pub fn number_of(s: Shape, l: u64, k: u64) -> u64
     requires { Fits s × (k < s.subcarriers) × (carries_data s (uplink_element_of s.subcarriers l k) ≡ true) }
     ensures { (result ≡ number_of s (uplink_element_of s.subcarriers l k)) × (result < slot_data s) }
 {
-    let tone = s.tone;
-    let tones = s.tones;
-    data_symbols_before(s, l) * tones + (k - tone)
+    data_symbols_before(s, l) * s.tones + (k - s.tone)
 }

@@ -6,9 +6,9 @@ ghost use Rattle.closures.specs.Quick.{Repeats};
 ghost use Rattle.uplink.specs.Fits.{Fits, OpenRepeats};
 ghost use Rattle.uplink.specs.Timing.{active, period, slot_at};
 ghost use Rattle.uplink.specs.Scaffold.{all_open};
-ghost use Rattle.uplink.specs.Quick.{gap_closure, Searchable, SearchOf, ActiveIndex};
+ghost use Rattle.uplink.specs.Quick.{gap_closure, Searchable, SearchOf, active_index};
 
-use super::{SentIndex, Shape};
+use super::Shape;
 use closures::{Closure, Cycle, Ends, Nested};
 
 // The first slot's group, the groups of the gaps, and after how many groups all repeats.
@@ -24,13 +24,11 @@ fn over_gap_period(period: u64, n: u64) -> u64
     requires { 0 < period }
     ensures { result ≡ n / period }
 {
-    if period == 148 {
-        return (n / 37) >> 2;
+    match period {
+        148 => (n / 37) >> 2,
+        592 => (n / 37) >> 4,
+        _ => n / period,
     }
-    if period == 592 {
-        return (n / 37) >> 4;
-    }
-    n / period
 }
 
 // The i-th slot that may be sent, where there is no window.
@@ -38,9 +36,7 @@ pub fn active_at(s: Shape, i: u64) -> u64
     requires { Fits s × (i < 2 ^ 32) }
     ensures { (result ≡ select (active s all_open) (period s) 0 i) × (result < 2 ^ 49) }
 {
-    let block = s.block;
-    let gap = s.gap;
-    i + gap * (i / block)
+    i + s.gap * (i / s.block)
 }
 
 // n slots in groups, without a division if they have one slot or two.
@@ -48,13 +44,11 @@ fn over_group(group: u64, n: u64) -> u64
     requires { 0 < group }
     ensures { result ≡ n / group }
 {
-    if group == 1 {
-        return n;
+    match group {
+        1 => n,
+        2 => n / 2,
+        _ => n / group,
     }
-    if group == 2 {
-        return n / 2;
-    }
-    n / group
 }
 
 // The groups of the gaps, from the first slot's group on.
@@ -62,11 +56,8 @@ fn gap_closure(s: Shape, from: u64) -> Closure
     requires { Fits s × (from ≡ s.first / s.group) }
     ensures { result ≡ gap_closure s }
 {
-    let block = s.block;
-    let gap = s.gap;
-    let group = s.group;
-    let closed = over_group(group, gap);
-    let period = over_group(group, block + gap);
+    let closed = over_group(s.group, s.gap);
+    let period = over_group(s.group, s.block + s.gap);
     Closure {
         period,
         phase: closed + (period - from % period),
@@ -80,11 +71,9 @@ fn cycle(s: Shape, nested: Nested) -> Cycle
     requires { Fits s × OpenRepeats s (clear nested.closures) × Searchable s nested }
     ensures { Repeats (is_free (gap_closure s) nested.closures) result }
 {
-    let longest = nested.closures.b4.period;
-    let clear = nested.clear;
     Cycle {
-        length: 37 * longest,
-        free: 32 * clear,
+        length: 37 * nested.closures.b4.period,
+        free: 32 * nested.clear,
     }
 }
 
@@ -93,8 +82,7 @@ pub fn group_search(s: Shape, nested: Nested) -> GroupSearch
     requires { Fits s × OpenRepeats s (clear nested.closures) × Searchable s nested }
     ensures { SearchOf s nested result }
 {
-    let first = s.first;
-    let from = over_group(s.group, first);
+    let from = over_group(s.group, s.first);
     GroupSearch {
         from,
         gap: gap_closure(s, from),
@@ -130,32 +118,33 @@ pub fn open_ends(s: Shape, nested: Nested, search: GroupSearch, i: u64) -> Ends
     }
 }
 
-// Whether slot number x, counted from the first, may be sent, and how many before it may.
-pub fn open_index(s: Shape, nested: Nested, search: GroupSearch, x: u64) -> SentIndex
+// If slot number x, counted from the first, may be sent: how many before it may.
+pub fn open_index(s: Shape, nested: Nested, search: GroupSearch, x: u64) -> Option<u64>
     requires { Fits s × OpenRepeats s (clear nested.closures) × Searchable s nested × SearchOf s nested search }
-    ensures { ActiveIndex s (clear nested.closures) x result }
+    ensures { result ≡ active_index s (clear nested.closures) x }
 {
     let group = s.group;
     let y = over_group(group, x);
     let at = closures::free_index(search.gap, nested, search.cycle, search.from, y);
-    SentIndex {
-        sent: at.free,
-        i: at.index * group + (x - y * group),
+    if at.free {
+        Some(at.index * group + (x - y * group))
+    } else {
+        None
     }
 }
 
 // The same, where there is no window.
-pub fn active_index(s: Shape, x: u64) -> SentIndex
+pub fn active_index(s: Shape, x: u64) -> Option<u64>
     requires { Fits s }
-    ensures { ActiveIndex s all_open x result }
+    ensures { result ≡ active_index s all_open x }
 {
     let block = s.block;
-    let gap = s.gap;
-    let period = block + gap;
+    let period = block + s.gap;
     let whole = over_gap_period(period, x);
     let rest = x - whole * period;
-    SentIndex {
-        sent: rest < block,
-        i: whole * block + rest,
+    if rest < block {
+        Some(whole * block + rest)
+    } else {
+        None
     }
 }

@@ -35,12 +35,6 @@ module _ (c : After-slot_data-w) where
         c.slot_data-w.ensures.0,
       )
 
-pub sent_slots-requires : goal.sent_slots-requires
-sent_slots-requires c = c.requires.0
-
-pub refused_place-requires : goal.refused_place-requires
-refused_place-requires c = tt
-
 pub returns-then-at-sent_slots : goal.returns-then-at-sent_slots
 returns-then-at-sent_slots c =
     λ is_open h.
@@ -51,17 +45,6 @@ returns-then-at-sent_slots c =
     ∙ sym (past_at refused_place (place_of b.args.s.subcarriers) (sending_of b.args.s is_open) b.args.p
     ((le-div_iff_mul-le (some_data b.args.s b.requires.0)).0
     (omega (arith, t.if-at-sent_slots.true, a.sent_slots.ensures.0, ap (λ (x : Split). x.i) b.requires.1))))
-
-pub slot_data-w-requires : goal.slot_data-w-requires
-slot_data-w-requires c = c.requires.0
-
-pub carried_by-unit-requires : goal.carried_by-unit-requires
-carried_by-unit-requires c = (start c).requires.0
-
-pub item-requires : goal.item-requires
-item-requires c =
-    let w = c in
-    (omega (arith, c.carried_by-unit.ensures.1), w.slot_data-w.ensures.2, rest w.before)
 
 pub returns : goal.returns
 returns c =

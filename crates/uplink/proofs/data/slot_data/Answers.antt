@@ -2,9 +2,6 @@ use native.Mathlib.Omega.{arith}
 use Rattle.uplink.proofs.Lines.{slot_data_lem, some_data, slot_data_small}
 use Rattle.uplink.proofs.data.slot_data.Goals as goal
 
-pub overflow_mul-result : goal.overflow_mul-result
-overflow_mul-result c = omega (arith, slot_data_lem c.args.s c.requires, slot_data_small c.args.s c.requires)
-
 pub returns : goal.returns
 returns c =
     let e = slot_data_lem c.args.s c.requires in

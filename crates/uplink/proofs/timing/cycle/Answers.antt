@@ -5,9 +5,6 @@ use Rattle.closures.specs.Closures.{clear}
 use Rattle.uplink.proofs.Grouped.{cycle_repeats}
 use Rattle.uplink.proofs.timing.cycle.Goals as goal
 
-pub overflow_mul-result : goal.overflow_mul-result
-overflow_mul-result c = omega (arith, c.requires.2.nesting.sorted.usable.u4.period_small)
-
 pub overflow_mul-result-2 : goal.overflow_mul-result-2
 overflow_mul-result-2 c = omega (arith, c.requires.2.counted, rank_le (clear c.args.nested.closures) c.args.nested.closures.b4.period, c.requires.2.nesting.sorted.usable.u4.period_small)
 

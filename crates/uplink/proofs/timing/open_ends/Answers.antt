@@ -24,9 +24,6 @@ module _ (c : After-first_and_last-ends) where
   small : (i : ℕ) → i < 2 ^ 32 → slot_at s.args.s (clear s.args.nested.closures) i < 2 ^ 60
   small = slot_small s.args.s s.requires.0 s.args.nested.closures s.requires.1
 
-pub over_group-j-requires : goal.over_group-j-requires
-over_group-j-requires c = c.requires.0.group
-
 pub first_and_last-ends-requires : goal.first_and_last-ends-requires
 first_and_last-ends-requires c =
     let a = c in
@@ -44,12 +41,6 @@ overflow_mul-result c = let b = c in omega (arith, first b.before, small b.befor
 
 pub overflow_mul-result-2 : goal.overflow_mul-result-2
 overflow_mul-result-2 c = let b = c in omega (arith, last b.before.before, small b.before.before (s b.before.before).args.i (s b.before.before).requires.4)
-
-pub overflow_mul-result-3 : goal.overflow_mul-result-3
-overflow_mul-result-3 c = let b = c in omega (arith, within b.before.before, (s b.before.before).requires.4)
-
-pub overflow_sub-result : goal.overflow_sub-result
-overflow_sub-result c = within c.before.before
 
 pub overflow_add-result : goal.overflow_add-result
 overflow_add-result c = let b = c in omega (arith, last b.before.before, small b.before.before (s b.before.before).args.i (s b.before.before).requires.4)

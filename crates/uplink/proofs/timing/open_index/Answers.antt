@@ -1,21 +1,7 @@
-use Prim.Native.Nat.{◌+◌, ◌-◌, ◌*◌, ◌≤◌}
 use native.Mathlib.Omega.{arith}
-use Rattle.uplink.proofs.Grouped.{usable, begins, cycles, first_group_small, groups_within, index_found, index_found_fits}
+use Rattle.uplink.proofs.Grouped.{usable, begins, cycles, first_group_small, index_found, index_missed, index_found_fits}
 use Rattle.uplink.proofs.timing.open_index.Goals.{After-free_index-at, Start}
 use Rattle.uplink.proofs.timing.open_index.Goals as goal
-
-module _ (c : After-free_index-at) where
-  abbrev s : Start
-  s = c.before.before.before.before
-
-  within : c.over_group-y.result * s.args.s.group ≤ s.args.x
-  within = groups_within s.args.s s.requires.0 s.args.nested s.requires.1 _ s.requires.3 s.args.x _ c.over_group-y.ensures
-
-  fits : c.free_index-at.result.index * s.args.s.group + (s.args.x - c.over_group-y.result * s.args.s.group) ≤ s.args.x
-  fits = index_found_fits s.args.s s.requires.0 s.args.nested s.requires.1 _ s.requires.3 s.args.x _ _ c.over_group-y.ensures c.free_index-at.ensures
-
-pub over_group-y-requires : goal.over_group-y-requires
-over_group-y-requires c = c.requires.0.group
 
 pub free_index-at-requires : goal.free_index-at-requires
 free_index-at-requires c =
@@ -29,19 +15,15 @@ free_index-at-requires c =
     )
 
 pub overflow_mul-result : goal.overflow_mul-result
-overflow_mul-result c = omega (arith, fits c.before, c.ranges.x)
-
-pub overflow_mul-result-2 : goal.overflow_mul-result-2
-overflow_mul-result-2 c = omega (arith, within c.before, c.ranges.x)
-
-pub overflow_sub-result : goal.overflow_sub-result
-overflow_sub-result c = within c.before
+overflow_mul-result c =
+    omega (arith, c.ranges.x, index_found_fits c.args.s c.requires.0 c.args.nested c.requires.1 _ c.requires.3 c.args.x _ _ c.over_group-y.ensures c.free_index-at.ensures)
 
 pub overflow_add-result : goal.overflow_add-result
-overflow_add-result c = omega (arith, fits c.before, c.ranges.x)
+overflow_add-result c =
+    omega (arith, c.ranges.x, index_found_fits c.args.s c.requires.0 c.args.nested c.requires.1 _ c.requires.3 c.args.x _ _ c.over_group-y.ensures c.free_index-at.ensures)
 
-pub returns : goal.returns
-returns c =
-    let n = c in
-    let a = s n.before in
-    index_found a.args.s a.requires.0 a.args.nested a.requires.1 _ a.requires.3 a.args.x _ _ n.over_group-y.ensures n.free_index-at.ensures
+pub returns-then-at : goal.returns-then-at
+returns-then-at c = index_found c.args.s c.requires.0 c.args.nested c.requires.1 _ c.requires.3 c.args.x _ _ c.over_group-y.ensures c.free_index-at.ensures c.if-at.true
+
+pub returns-else-at : goal.returns-else-at
+returns-else-at c = index_missed c.args.s c.requires.0 c.args.nested c.requires.1 _ c.requires.3 c.args.x _ _ c.over_group-y.ensures c.free_index-at.ensures c.if-at.false

@@ -21,9 +21,6 @@ module _ (c : After-nth-at) where
   small : slot_at s.args.s (clear s.args.nested.closures) s.args.i < 2 ^ 60
   small = slot_small s.args.s s.requires.0 s.args.nested.closures s.requires.1 s.args.i s.requires.4
 
-pub over_group-j-requires : goal.over_group-j-requires
-over_group-j-requires c = c.requires.0.group
-
 pub nth-at-requires : goal.nth-at-requires
 nth-at-requires c =
     let a = c in
@@ -38,12 +35,6 @@ nth-at-requires c =
 
 pub overflow_mul-result : goal.overflow_mul-result
 overflow_mul-result c = omega (arith, found c, small c)
-
-pub overflow_mul-result-2 : goal.overflow_mul-result-2
-overflow_mul-result-2 c = omega (arith, within c, (s c).requires.4)
-
-pub overflow_sub-result : goal.overflow_sub-result
-overflow_sub-result c = within c
 
 pub overflow_add-result : goal.overflow_add-result
 overflow_add-result c = omega (arith, found c, small c)
