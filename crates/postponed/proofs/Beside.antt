@@ -13,13 +13,16 @@ use Rattle.counting.proofs.Rank.{rank_zero, rank_same}
 use Rattle.counting.proofs.Select.{next_is}
 use Rattle.closures.specs.declared.Nested.{Nested}
 use Rattle.closures.specs.Closures.{clear}
+use Rattle.refusals.specs.declared.Refusal.{Refusal}
+use Rattle.refusals.specs.declared.Refusal.TheVariants as refusal
+use Rattle.refusals.specs.Refusal.{number_of}
 use Rattle.numerology.specs.Numerology.{slots_in, group_of, group_ms}
 use Rattle.sending.specs.Sending.{Sending}
 use Rattle.sending.specs.Answer.{answer_of}
-use Rattle.sending.proofs.Answer.{answer_path, accepted_as, refused_as}
+use Rattle.sending.proofs.Answer.{accepted_as, refused_as}
 use Rattle.uplink.specs.declared.Shape.{Shape}
-use Rattle.uplink.specs.Fits.{Fits, OpenRepeats}
-use Rattle.uplink.specs.Quick.{Parted, Searchable}
+use Rattle.uplink.specs.Fits.{OpenRepeats}
+use Rattle.uplink.specs.Quick.{Parted}
 use Rattle.uplink.specs.Timing.{gap_period}
 use Rattle.uplink.specs.Scaffold.{all_open}
 use Rattle.uplink.specs.Mapping.{sending_of}
@@ -30,7 +33,7 @@ use Rattle.nprach.specs.Quick.{doubles, NestedFor}
 use Rattle.nprach.proofs.Closing.{clear_again}
 use Rattle.nprach.proofs.Listing.{all_pass, of_list, step_of}
 use Rattle.nprach.proofs.Spaced.{accepted_windows, none_refuses, none_closes}
-use Rattle.postponed.specs.Beside.{refusal_beside, open_beside, question_beside, AtSpacing}
+use Rattle.postponed.specs.Beside.{refusal_beside, open_beside, question_beside, AtSpacing, Leaves}
 
 -- ---- windows that do not refuse leave a slot to send; e groups last 8 ms
 
@@ -128,63 +131,82 @@ module _ (spacing : ℕ) (s : Shape) (sp : AtSpacing spacing s) (ws : Windows) w
     tested = clear nested.closures
 
     -- what the search requires
-    pub ready : (nested.clear ≡ 0 → ⊥) → Fits s → Fits s × OpenRepeats s tested × Searchable s nested
-    ready n f = (
-      f,
-      subst (OpenRepeats s) (λ i u. sym (l.same u) i) (open_repeats (accepts n)),
-      record {
+    pub leaves : (nested.clear ≡ 0 → ⊥) → Leaves spacing s ws nested
+    leaves n = record {
+      same = l.same;
+      again = subst (OpenRepeats s) (λ i u. sym (l.same u) i) (open_repeats (accepts n));
+      searchable = record {
         nesting = l.nesting;
         counted = l.counted;
         part = 8 / group_ms spacing;
         parted = parted s spacing sp;
         spread = let m = step_of (8 / group_ms spacing) doubles _ l.longest in record { times = m.0; evenly = spread_evenly m.0 m.1; longest = m.2 };
-      },
-    )
+      };
+    }
+
+-- a refusal has a number
+pub numbered : (r : Refusal) → number_of r ≡ 0 → ⊥
+numbered refusal.Carrier e = omega (arith, e)
+numbered refusal.Identity e = omega (arith, e)
+numbered refusal.NarrowbandPorts e = omega (arith, e)
+numbered refusal.CellPorts e = omega (arith, e)
+numbered refusal.ControlRegion e = omega (arith, e)
+numbered refusal.Sib1Schedule e = omega (arith, e)
+numbered refusal.BadBitmap e = omega (arith, e)
+numbered refusal.EmptyBitmap e = omega (arith, e)
+numbered refusal.LateSubframe e = omega (arith, e)
+numbered refusal.LargeField e = omega (arith, e)
+numbered refusal.SubcarrierField e = omega (arith, e)
+numbered refusal.Repetitions e = omega (arith, e)
+numbered refusal.Mcs e = omega (arith, e)
+numbered refusal.NoSuchPlace e = omega (arith, e)
+numbered refusal.Length e = omega (arith, e)
+numbered refusal.Level e = omega (arith, e)
+numbered refusal.TwoPorts e = omega (arith, e)
+numbered refusal.NeverUsable e = omega (arith, e)
+numbered refusal.WindowsNotListed e = omega (arith, e)
+numbered refusal.NeverFree e = omega (arith, e)
+numbered refusal.MessagesNotListed e = omega (arith, e)
+numbered refusal.ShortPeriod e = omega (arith, e)
+numbered refusal.LateOffset e = omega (arith, e)
+numbered refusal.PortsDiffer e = omega (arith, e)
+numbered refusal.NoBroadcast e = omega (arith, e)
 
 -- ---- a question's two ends, whatever is asked of it: it is refused with 19 or 20, or its shape is asked in the groups that are open
 
-module _ {A : Type 0} (zeros : ℕ → A) (f : Sending → A) (spacing : ℕ) (s : Shape) (sp : AtSpacing spacing s) (ws : Windows) where
+module _ {A : Type 0} (zeros : ℕ → A) (f : Sending → A) (spacing : ℕ) (s : Shape) (ws : Windows) where
   abbrev asked : A
   asked = answer_of zeros (refusal_beside spacing s ws) (f (sending_of s (open_beside spacing s ws)))
 
-  pub none_asked : ws.count ≡ 0 → f (sending_of s all_open) ≡ asked
-  none_asked z =
+  pub none_asked : AtSpacing spacing s → ws.count ≡ 0 → f (sending_of s all_open) ≡ asked
+  none_asked sp z =
       accepted_as zeros f (question_beside spacing s ws) _ (none_refused spacing s sp ws z) (ap (sending_of s) (λ i u. none_closed spacing s sp ws z u i))
 
-  pub unlisted_asked : are_listed ws ≡ false → zeros 19 ≡ asked
-  unlisted_asked h = refused_as zeros f (question_beside spacing s ws) 19 (unlisted spacing s sp ws h) (λ z. omega arith)
+  pub refused_asked : (r : Refusal) → number_of r ≡ refusal_beside spacing s ws → zeros (number_of r) ≡ asked
+  refused_asked r e = refused_as zeros f (question_beside spacing s ws) (number_of r) e (numbered r)
 
-  module _ (h : are_listed ws ≡ true) (nested : Nested) (l : NestedFor (group_ms spacing) (open_beside spacing s ws) nested) where
-    pub never_asked : nested.clear ≡ 0 → zeros 20 ≡ asked
-    never_asked z = refused_as zeros f (question_beside spacing s ws) 20 (never_free spacing s sp ws h nested l z) (λ e. omega arith)
-
-    pub nested_asked : (nested.clear ≡ 0 → ⊥) → f (sending_of s (clear nested.closures)) ≡ asked
-    nested_asked n = accepted_as zeros f (question_beside spacing s ws) _ (accepts spacing s sp ws h nested l n) (ap (sending_of s) (λ i u. l.same u i))
+  pub nested_asked : (nested : Nested) → 0 ≡ refusal_beside spacing s ws → Leaves spacing s ws nested → f (sending_of s (clear nested.closures)) ≡ asked
+  nested_asked nested e l = accepted_as zeros f (question_beside spacing s ws) _ (sym e) (ap (sending_of s) (λ i u. l.same u i))
 
 -- ---- a grant's question: the fields' number first, then that of its shape beside windows
 
--- a number that is not 0 stands before the windows'
-pub first_refuses : (n fields windows : ℕ) → n ≡ fields → (n ≡ 0 → ⊥) → n ≡ cond (eqb fields 0) windows fields
-first_refuses n fields windows e h = rw (← e, ne_eqb n 0 h) refl
-
--- and its two ends: it got number n, and if that is 0 its shape is asked
-module _ (spacing n fields : ℕ) (g : Shape) (e : n ≡ fields) {A : Type 0} (zeros : ℕ → A) (f : Sending → A) where
+module _ {A : Type 0} (zeros : ℕ → A) (f : Sending → A) (fields spacing : ℕ) (s : Shape) where
   abbrev number : Windows → ℕ
-  number ws = cond (eqb fields 0) (refusal_beside spacing g ws) fields
+  number ws = cond (eqb fields 0) (refusal_beside spacing s ws) fields
 
   abbrev answered : Windows → A
-  answered ws = answer_of zeros (number ws) (f (sending_of g (open_beside spacing g ws)))
+  answered ws = answer_of zeros (number ws) (f (sending_of s (open_beside spacing s ws)))
 
-  pub refused_first : (ws : Windows) → (n ≡ 0 → ⊥) → zeros n ≡ answered ws
-  refused_first ws h =
-      refused_as zeros f (record { no = number ws; sending = sending_of g (open_beside spacing g ws) }) n (first_refuses n fields (refusal_beside spacing g ws) e h) h
+  pub refused_first : (ws : Windows) (r : Refusal) → number_of r ≡ fields → zeros (number_of r) ≡ answered ws
+  refused_first ws r e =
+      refused_as zeros f (record { no = number ws; sending = sending_of s (open_beside spacing s ws) }) (number_of r)
+      (rw (← e, ne_eqb (number_of r) 0 (numbered r)) refl) (numbered r)
 
-  module _ (z : n ≡ 0) (s : Shape) (own : s ≡ g) where
+  module _ (e : 0 ≡ fields) where
     pub asked_beside : (ws : Windows) → answer_of zeros (refusal_beside spacing s ws) (f (sending_of s (open_beside spacing s ws))) ≡ answered ws
-    asked_beside ws =
-        answer_path zeros _ (number ws) _ _ (rw (own, sym e ∙ z) refl) (λ h. ap (λ (x : Shape). f (sending_of x (open_beside spacing x ws))) own)
+    asked_beside ws = rw (← e) refl
 
     pub asked_alone : f (sending_of s all_open) ≡ answered none
     asked_alone =
-        accepted_as zeros f (record { no = number none; sending = sending_of g (open_beside spacing g none) }) _
-        (rw (sym e ∙ z) (none_refuses spacing g.tone g.tones none refl)) (ap₂ sending_of own (λ i u. none_closes spacing g.tone g.tones none refl u i))
+        accepted_as zeros f (record { no = number none; sending = sending_of s (open_beside spacing s none) }) _
+        (rw (← e) (none_refuses spacing s.tone s.tones none refl)) (ap (sending_of s) (λ i u. none_closes spacing s.tone s.tones none refl u i))

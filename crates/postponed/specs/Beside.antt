@@ -4,6 +4,10 @@ use Rattle.grid.specs.Grid.{uplink_subcarriers}
 use Rattle.numerology.specs.Numerology.{slots_in, group_of}
 use Rattle.sending.specs.Answer.{Question}
 use Rattle.uplink.specs.declared.Shape.{Shape}
+use Rattle.closures.specs.declared.Nested.{Nested}
+use Rattle.closures.specs.Closures.{clear}
+use Rattle.uplink.specs.Fits.{OpenRepeats}
+use Rattle.uplink.specs.Quick.{Searchable}
 use Rattle.uplink.specs.Mapping.{sending_of}
 use Rattle.nprach.specs.declared.Windows.{Windows}
 use Rattle.nprach.specs.Windows.{open_to, refusal_on}
@@ -28,3 +32,9 @@ pub record AtSpacing (spacing : ℕ) (s : Shape) : Type 0 where
   pub block : s.block ≡ slots_in spacing 256
   pub gap : s.gap ≡ slots_in spacing 40
   pub group : s.group ≡ group_of spacing
+
+-- nested closures that leave the shape the groups that the windows leave, and what their search requires
+pub record Leaves (spacing : ℕ) (s : Shape) (ws : Windows) (nested : Nested) : Type 0 where
+  pub same : (u : ℕ) → clear nested.closures u ≡ open_beside spacing s ws u
+  pub again : OpenRepeats s (clear nested.closures)
+  pub searchable : Searchable s nested

@@ -2,49 +2,58 @@
 // Where there is none, the shape is asked by itself, which is quicker.
 #![tactic(auto)]
 
-ghost use Rattle.std.specs.Prelude.{◌≡◌};
+ghost use Rattle.std.specs.Prelude.{◌≡◌, IfOk};
+ghost use Rattle.refusals.specs.Refusal.{refused_by};
 ghost use Rattle.uplink.specs.Fits.{Fits};
 ghost use Rattle.uplink.specs.Answers.{plan_answer, forward_answer, backward_answer};
-ghost use Rattle.postponed.specs.Beside.{question_beside, AtSpacing};
+ghost use Rattle.postponed.specs.Beside.{refusal_beside, question_beside, AtSpacing, Leaves};
 
+use closures::Nested;
 use nprach::Windows;
+use refusals::Refusal;
 use sending::Back;
-use uplink::{Shape, UplinkPlace, UplinkPlan};
+use uplink::{AllOpen, Shape, UplinkPlace, UplinkPlan};
+
+// What the windows close to the shape's tones, as nested closures, if they leave something.
+fn nested(spacing: u64, s: Shape, ws: Windows) -> Result<Nested, Refusal>
+    requires { Fits s × AtSpacing spacing s }
+    ensures { (refused_by result ≡ refusal_beside spacing s ws) × IfOk result (Leaves spacing s ws) }
+{
+    if !nprach::are_listed(ws) {
+        return Err(Refusal::WindowsNotListed);
+    }
+    let nested = nprach::nested_closures(spacing, s.tone, s.tones, ws);
+    if nested.clear == 0 {
+        return Err(Refusal::NeverFree);
+    }
+    Ok(nested)
+}
 
 pub fn plan(spacing: u64, s: Shape, ws: Windows, size: u64, order: u64) -> UplinkPlan
     requires { Fits s × AtSpacing spacing s }
     ensures { result ≡ plan_answer size order (question_beside spacing s ws) }
 {
     if ws.count == 0 {
-        return uplink::plan(s, size, order);
+        return uplink::plan(s, AllOpen, size, order);
     }
-    if !nprach::are_listed(ws) {
-        return uplink::refused_plan(nprach::NOT_LISTED);
+    match nested(spacing, s, ws) {
+        Ok(nested) => uplink::plan(s, nested, size, order),
+        Err(refusal) => uplink::refused_plan(refusal),
     }
-    let nested = nprach::nested_closures(spacing, s.tone, s.tones, ws);
-    if nested.clear == 0 {
-        return uplink::refused_plan(nprach::NEVER_FREE);
-    }
-    uplink::plan_beside(s, nested, size, order)
 }
 
 pub fn forward(spacing: u64, s: Shape, ws: Windows, p: u64) -> UplinkPlace
     requires { Fits s × AtSpacing spacing s }
     ensures { result ≡ forward_answer s.subcarriers (question_beside spacing s ws) p }
 {
-    if ws.count == 0 {
-        let at = uplink::taken_apart(s, p);
-        return uplink::forward(s, p, at, uplink::slot_at(s, at.i));
-    }
-    if !nprach::are_listed(ws) {
-        return uplink::refused_place(nprach::NOT_LISTED);
-    }
-    let nested = nprach::nested_closures(spacing, s.tone, s.tones, ws);
-    if nested.clear == 0 {
-        return uplink::refused_place(nprach::NEVER_FREE);
-    }
     let at = uplink::taken_apart(s, p);
-    uplink::forward(s, p, at, uplink::slot_at_beside(s, nested, at.i))
+    if ws.count == 0 {
+        return uplink::forward(s, p, at, uplink::slot_at(s, AllOpen, at.i));
+    }
+    match nested(spacing, s, ws) {
+        Ok(nested) => uplink::forward(s, p, at, uplink::slot_at(s, nested, at.i)),
+        Err(refusal) => uplink::refused_place(refusal),
+    }
 }
 
 pub fn backward(spacing: u64, s: Shape, ws: Windows, slot: u64, l: u64, k: u64) -> Back
@@ -52,14 +61,10 @@ pub fn backward(spacing: u64, s: Shape, ws: Windows, slot: u64, l: u64, k: u64) 
     ensures { result ≡ backward_answer s.subcarriers (question_beside spacing s ws) slot l k }
 {
     if ws.count == 0 {
-        return uplink::backward(s, slot, uplink::locate(s, slot), l, k);
+        return uplink::backward(s, slot, uplink::locate(s, AllOpen, slot), l, k);
     }
-    if !nprach::are_listed(ws) {
-        return sending::refused(nprach::NOT_LISTED);
+    match nested(spacing, s, ws) {
+        Ok(nested) => uplink::backward(s, slot, uplink::locate(s, nested, slot), l, k),
+        Err(refusal) => sending::refused(refusal),
     }
-    let nested = nprach::nested_closures(spacing, s.tone, s.tones, ws);
-    if nested.clear == 0 {
-        return sending::refused(nprach::NEVER_FREE);
-    }
-    uplink::backward(s, slot, uplink::locate_beside(s, nested, slot), l, k)
 }
