@@ -1,0 +1,1 @@
+-- Answers alone stand here: the questions' two ends are in postponed.
