@@ -1,5 +1,8 @@
 -- For the code alone. What the quick code chooses: the cell's masks, and the cause read off a mask.
 use Rattle.std.specs.Prelude.{Bool, true, cond, not, ◌&&◌, List, ◌≡◌, ◌⊎◌, ℕ, ◌+◌, ◌*◌, ◌≤◌, ◌<◌, eqb, ltb}
+use Rattle.std.specs.Prelude.{Result, Ok, Err, IfOk}
+use Rattle.refusals.specs.declared.Refusal.{Refusal}
+use Rattle.refusals.specs.Refusal.{number_of, refused_by}
 use Rattle.counting.specs.Counting.{rank}
 use Rattle.spans.specs.declared.Pattern.{Pattern}
 use Rattle.spans.specs.Pattern.{span, mask_bit, mask_at, allows, Regular}
@@ -59,16 +62,25 @@ why_not c p laid t = cond (laid && allows p t) Message (why_not_free c t)
 unfoldable pub seen : Cell → Pattern → Bool → ℕ → Cause
 seen c p laid t = cond (left_in p laid c.messages t) None (why_not c.config p laid t)
 
--- a cell judged by its own buffer: the number, and for an accepted cell where to search
-pub record VerdictOn (c : Cell) (own : List ℕ) (r : Verdict) : Type 0 where
-  pub number : r.no ≡ cell_refusal c own
-  pub laid : r.no ≡ 0 → r.laid ≡ lays_messages c
-  pub shows : r.no ≡ 0 → Shows c.config (bitmap_in c.config own) r.pattern
-  pub searchable : r.no ≡ 0 → Searchable r.pattern r.laid c.messages
+-- what the verdict on an accepted cell tells: where to search
+pub record Accepted (c : Cell) (own : List ℕ) (v : Verdict) : Type 0 where
+  pub laid : v.laid ≡ lays_messages c
+  pub shows : Shows c.config (bitmap_in c.config own) v.pattern
+  pub searchable : Searchable v.pattern v.laid c.messages
+
+-- a cell judged by its own buffer
+pub record VerdictOn (c : Cell) (own : List ℕ) (r : Result Verdict Refusal) : Type 0 where
+  pub number : refused_by r ≡ cell_refusal c own
+  pub accepted : IfOk r (Accepted c own)
 
 -- the same of eight numbers, whatever messages stand beside them that change nothing
-abbrev pub VerdictAlone : CellConfig → List ℕ → Verdict → Type 0
+abbrev pub VerdictAlone : CellConfig → List ℕ → Result Verdict Refusal → Type 0
 VerdictAlone c own r = (ms : Messages) → is_silent ms ≡ true → VerdictOn (with_messages c ms) own r
+
+-- a refusal has its number and no cause
+abbrev pub cause_answer : Result Cause Refusal → CauseAnswer
+cause_answer (Ok cause) = record { no = 0; cause = cause }
+cause_answer (Err refusal) = record { no = number_of refusal; cause = None }
 
 -- the question of the cause, on the cell's own buffer
 abbrev pub cause_on : Cell → List ℕ → ℕ → CauseAnswer

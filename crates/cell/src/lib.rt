@@ -3,8 +3,9 @@
 // are needed, and a cell without any pays nothing for them. The questions on a `Cell` lend its messages to these.
 #![tactic(auto)]
 
-ghost use Rattle.std.specs.Prelude.{◌≡◌, true, cond, ◌&&◌, ◌||◌, eqb, leb};
+ghost use Rattle.std.specs.Prelude.{◌≡◌, true};
 ghost use Rattle.std.specs.Int.Bits.{bit_and};
+ghost use Rattle.refusals.specs.Refusal.{refused_by};
 ghost use Rattle.spans.specs.Pattern.{Regular};
 ghost use Rattle.messages.specs.declared.Messages.{Messages};
 ghost use Rattle.messages.specs.Quick.{is_silent};
@@ -14,7 +15,8 @@ ghost use Rattle.cell.specs.Bitmap.{own_buffer};
 ghost use Rattle.cell.specs.Judge.{numbers_refusal, config_refusal, form_refusal, cell_refusal, judge_of, in_force_of};
 ghost use Rattle.cell.specs.Judge.{cause_of};
 ghost use Rattle.cell.specs.Quick.{band_refusal, why_not_free, why_not, seen, ShowsLoaded};
-ghost use Rattle.cell.specs.Quick.{with_messages, lent_cell, VerdictOn, VerdictAlone, cause_on, count_after};
+ghost use Rattle.cell.specs.Quick.{with_messages, lent_cell, VerdictOn, VerdictAlone, cause_answer, cause_on};
+ghost use Rattle.cell.specs.Quick.{count_after};
 ghost use Rattle.cell.specs.Quick.{WellFormed};
 ghost use Rattle.cell.specs.Usable.{cause_number};
 ghost use Rattle.cell.specs.Layout.{layout_of, element_count_of};
@@ -23,6 +25,7 @@ pub use bitmap::bytes as bitmap_bytes;
 use elements::Layout;
 use grid::Grid;
 use messages::Messages;
+use refusals::Refusal;
 use spans::Pattern;
 
 // The eight numbers of a cell: mode 0 in-band with the same identity, 1 in-band with another, 2 guard band, 3
@@ -48,15 +51,15 @@ pub struct Cell {
 }
 
 // Why a subframe is not usable.
-#[derive(Clone, Copy)]
+#[derive(Clone, Copy, PartialEq, Eq)]
 pub enum Cause {
-    None,
-    Npbch,
-    Npss,
-    Nsss,
-    Sib1,
-    Message,
-    Bitmap,
+    None = 0,
+    Npbch = 1,
+    Npss = 2,
+    Nsss = 3,
+    Sib1 = 4,
+    Message = 5,
+    Bitmap = 6,
 }
 
 // The answer on one subframe: the refusal number, and why the subframe is not usable.
@@ -66,89 +69,79 @@ pub struct CauseAnswer {
     pub cause: Cause,
 }
 
-// The refusal number, and for an accepted cell the pattern of its free subframes and whether messages are laid.
+// An accepted cell: the pattern of its free subframes, and whether messages are laid.
 #[derive(Clone, Copy)]
 pub struct Verdict {
-    pub no: u64,
     pub laid: bool,
     pub pattern: Pattern,
 }
 
 // Refusals 4, 5 and 24. In-band there are 1, 2 or 4 cell reference ports, in mode 0 as many as narrowband ports, and a
 // control region of 1 to 3 symbols; else neither.
-fn band_refusal(c: CellConfig) -> u64
-    ensures { result ≡ band_refusal c }
+fn band_refusal(c: CellConfig) -> Result<(), Refusal>
+    ensures { refused_by result ≡ band_refusal c }
 {
     if c.mode < 2 {
         if !((c.cports == 1) | ((c.cports == 2) | (c.cports == 4))) {
-            return 4;
+            return Err(Refusal::CellPorts);
         }
         if !((1 <= c.control) & (c.control <= 3)) {
-            return 5;
+            return Err(Refusal::ControlRegion);
         }
         if (c.mode == 0) & (c.cports != c.nports) {
-            return 24;
+            return Err(Refusal::PortsDiffer);
         }
-        return 0;
+        return Ok(());
     }
     if c.cports != 0 {
-        return 4;
+        return Err(Refusal::CellPorts);
     }
     if c.control != 0 {
-        return 5;
+        return Err(Refusal::ControlRegion);
     }
-    0
+    Ok(())
 }
 
 // Refusals 1 to 6 and 24.
-fn numbers_refusal(c: CellConfig) -> u64
-    ensures { result ≡ numbers_refusal c }
+fn numbers_refusal(c: CellConfig) -> Result<(), Refusal>
+    ensures { refused_by result ≡ numbers_refusal c }
 {
     if (c.mode > 3) | (c.carrier > 1) {
-        return 1;
+        return Err(Refusal::Carrier);
     }
     if c.identity > 503 {
-        return 2;
+        return Err(Refusal::Identity);
     }
     if !((c.nports == 1) | (c.nports == 2)) {
-        return 3;
+        return Err(Refusal::NarrowbandPorts);
     }
-    let no = band_refusal(c);
-    if no != 0 {
-        return no;
-    }
+    band_refusal(c)?;
     if c.sib1 > 11 {
-        return 6;
+        return Err(Refusal::Sib1Schedule);
     }
-    0
+    Ok(())
 }
 
 // Refusals 1 to 7 and 24.
-fn config_refusal(c: CellConfig, own: &[u8]) -> u64
-    ensures { result ≡ config_refusal c own.now }
+fn config_refusal(c: CellConfig, own: &[u8]) -> Result<(), Refusal>
+    ensures { refused_by result ≡ config_refusal c own.now }
 {
-    let no = numbers_refusal(c);
-    if no != 0 {
-        return no;
-    }
+    numbers_refusal(c)?;
     if bitmap::is_bad(c.bits, own) {
-        return 7;
+        return Err(Refusal::BadBitmap);
     }
-    0
+    Ok(())
 }
 
 // Refusals 1 to 7, 24 and 21.
-fn form_refusal(c: CellConfig, si: &[u64], own: &[u8]) -> u64
-    ensures { result ≡ form_refusal (lent_cell c si.now) own.now }
+fn form_refusal(c: CellConfig, si: &[u64], own: &[u8]) -> Result<(), Refusal>
+    ensures { refused_by result ≡ form_refusal (lent_cell c si.now) own.now }
 {
-    let no = config_refusal(c, own);
-    if no != 0 {
-        return no;
-    }
+    config_refusal(c, own)?;
     if !messages::are_listed(subframes::messages_in(si)) {
-        return 21;
+        return Err(Refusal::MessagesNotListed);
     }
-    0
+    Ok(())
 }
 
 // What a pattern and a mask of forty both allow.
@@ -179,76 +172,53 @@ fn pattern(c: CellConfig, m: u64) -> Pattern
     }
 }
 
-fn refused(no: u64) -> Verdict
-    ensures { result.no ≡ no }
-{
-    Verdict {
-        no,
-        laid: false,
-        pattern: Pattern {
-            log: 2,
-            first: 0,
-            usual: 0,
-            sib1: 0,
-        },
-    }
-}
-
 // 8, 18 or the pattern, of eight numbers with none of the refusals before, beside which no message stands. Some
 // questions ask for both in turn: one function of them is too long for the compiler to put into each.
-fn formed_alone(c: CellConfig, own: &[u8]) -> Verdict
+fn formed_alone(c: CellConfig, own: &[u8]) -> Result<Verdict, Refusal>
     requires { config_refusal c own.now ≡ 0 }
     ensures { VerdictAlone c own.now result }
 {
     let m = bitmap::load(c.bits, own);
     if m == 0 {
-        return refused(8);
+        return Err(Refusal::EmptyBitmap);
     }
     let p = pattern(c, m);
     if spans::is_empty(p) {
-        return refused(18);
+        return Err(Refusal::NeverUsable);
     }
-    Verdict {
-        no: 0,
+    Ok(Verdict {
         laid: false,
         pattern: p,
-    }
+    })
 }
 
 // 8, 18 or the pattern, of a cell with none of the refusals before.
-fn formed(c: CellConfig, si: &[u64], own: &[u8]) -> Verdict
+fn formed(c: CellConfig, si: &[u64], own: &[u8]) -> Result<Verdict, Refusal>
     requires { form_refusal (lent_cell c si.now) own.now ≡ 0 }
     ensures { VerdictOn (lent_cell c si.now) own.now result }
 {
     let m = bitmap::load(c.bits, own);
     if m == 0 {
-        return refused(8);
+        return Err(Refusal::EmptyBitmap);
     }
     let p = pattern(c, m);
     let ms = subframes::messages_in(si);
     let laid = (c.carrier == 0) & (0 < ms.count);
     if subframes::is_empty(p, laid, si) {
-        return refused(18);
+        return Err(Refusal::NeverUsable);
     }
-    Verdict {
-        no: 0,
-        laid,
-        pattern: p,
-    }
+    Ok(Verdict { laid, pattern: p })
 }
 
 // Eight numbers judged by their own buffer.
-fn judged_own(c: CellConfig, own: &[u8]) -> Verdict
+fn judged_own(c: CellConfig, own: &[u8]) -> Result<Verdict, Refusal>
     ensures { VerdictAlone c own.now result }
 {
-    let no = config_refusal(c, own);
-    if no != 0 {
-        return refused(no);
-    }
+    config_refusal(c, own)?;
     formed_alone(c, own)
 }
 
-fn judged_alone(c: CellConfig, anchor: &[u8], other: &[u8]) -> Verdict
+fn judged_alone(c: CellConfig, anchor: &[u8], other: &[u8]) -> Result<Verdict, Refusal>
     ensures { VerdictAlone c (own_buffer c anchor.now other.now) result }
 {
     if c.carrier == 0 {
@@ -258,19 +228,16 @@ fn judged_alone(c: CellConfig, anchor: &[u8], other: &[u8]) -> Verdict
 }
 
 // A cell judged by its own buffer.
-fn judged_with(c: CellConfig, si: &[u64], own: &[u8]) -> Verdict
+fn judged_with(c: CellConfig, si: &[u64], own: &[u8]) -> Result<Verdict, Refusal>
     ensures { VerdictOn (lent_cell c si.now) own.now result }
 {
-    let no = form_refusal(c, si, own);
-    if no != 0 {
-        return refused(no);
-    }
+    form_refusal(c, si, own)?;
     formed(c, si, own)
 }
 
 // The compiler puts this in where it is asked, and what it passes on is then copied there, on the way with messages
 // alone.
-fn judged_beside(c: CellConfig, si: &[u64], anchor: &[u8], other: &[u8]) -> Verdict
+fn judged_beside(c: CellConfig, si: &[u64], anchor: &[u8], other: &[u8]) -> Result<Verdict, Refusal>
     ensures { VerdictOn (lent_cell c si.now)
         (own_buffer c anchor.now other.now) result }
 {
@@ -280,9 +247,14 @@ fn judged_beside(c: CellConfig, si: &[u64], anchor: &[u8], other: &[u8]) -> Verd
     judged_with(c, si, other)
 }
 
-// A cell's refusal number, and the pattern of an accepted one. With no message the eight numbers are asked by
-// themselves, here and below.
-pub fn judged_lent(c: CellConfig, si: &[u64], anchor: &[u8], other: &[u8]) -> Verdict
+// A cell's refusal, or the pattern of an accepted one. With no message the eight numbers are asked by themselves, here
+// and below: what stands twice, alone and beside messages, spares them the copies.
+pub fn judged_lent(
+    c: CellConfig,
+    si: &[u64],
+    anchor: &[u8],
+    other: &[u8],
+) -> Result<Verdict, Refusal>
     ensures { VerdictOn (lent_cell c si.now)
         (own_buffer c anchor.now other.now) result }
 {
@@ -293,22 +265,31 @@ pub fn judged_lent(c: CellConfig, si: &[u64], anchor: &[u8], other: &[u8]) -> Ve
 }
 
 // The same on a cell, which lends its messages.
-pub fn judged(c: Cell, anchor: &[u8], other: &[u8]) -> Verdict
+pub fn judged(c: Cell, anchor: &[u8], other: &[u8]) -> Result<Verdict, Refusal>
     ensures { VerdictOn c (own_buffer c.config anchor.now other.now) result }
 {
     let si = subframes::numbers(c.messages);
     judged_lent(c.config, &si, anchor, other)
 }
 
+// The number of a refusal; 0 for what is not refused.
+fn number<A: Drop>(r: Result<A, Refusal>) -> u64
+    ensures { result ≡ refused_by r }
+{
+    match r {
+        Ok(_) => 0,
+        Err(refusal) => refusal.number(),
+    }
+}
+
 // The refusal number of eight numbers, by their own buffer.
 fn judge_alone(c: CellConfig, own: &[u8]) -> u64
     ensures { (ms : Messages) → is_silent ms ≡ true → result ≡ cell_refusal (with_messages c ms) own.now }
 {
-    let no = config_refusal(c, own);
-    if no != 0 {
-        return no;
+    if let Err(refusal) = config_refusal(c, own) {
+        return refusal.number();
     }
-    formed_alone(c, own).no
+    number(formed_alone(c, own))
 }
 
 // Judge a cell: its refusal number, or 0. The test is the shortest, so that the compiler puts this in where it is
@@ -322,10 +303,7 @@ pub fn judge_lent(c: CellConfig, si: &[u64], anchor: &[u8], other: &[u8]) -> u64
         }
         return judge_alone(c, other);
     }
-    if c.carrier == 0 {
-        return judged_with(c, si, anchor).no;
-    }
-    judged_with(c, si, other).no
+    number(judged_beside(c, si, anchor, other))
 }
 
 pub fn judge(c: Cell, anchor: &[u8], other: &[u8]) -> u64
@@ -394,38 +372,21 @@ pub fn why(c: CellConfig, si: &[u64], p: Pattern, laid: bool, t: u64) -> Cause
 }
 
 // Why subframe t is not usable to eight numbers, by their own buffer.
-fn cause_own(c: CellConfig, own: &[u8], t: u64) -> CauseAnswer
-    ensures { (ms : Messages) → is_silent ms ≡ true → result ≡ cause_on (with_messages c ms) own.now t }
+fn cause_own(c: CellConfig, own: &[u8], t: u64) -> Result<Cause, Refusal>
+    ensures { (ms : Messages) → is_silent ms ≡ true
+        → cause_answer result ≡ cause_on (with_messages c ms) own.now t }
 {
-    let no = config_refusal(c, own);
-    if no != 0 {
-        return CauseAnswer {
-            no,
-            cause: Cause::None,
-        };
-    }
-    let v = formed_alone(c, own);
-    if v.no != 0 {
-        return CauseAnswer {
-            no: v.no,
-            cause: Cause::None,
-        };
-    }
+    config_refusal(c, own)?;
+    let v = formed_alone(c, own)?;
     if spans::is_allowed(v.pattern, t) {
-        return CauseAnswer {
-            no: 0,
-            cause: Cause::None,
-        };
+        return Ok(Cause::None);
     }
-    CauseAnswer {
-        no: 0,
-        cause: why_not_free(c, t),
-    }
+    Ok(why_not_free(c, t))
 }
 
-fn cause_alone(c: CellConfig, anchor: &[u8], other: &[u8], t: u64) -> CauseAnswer
+fn cause_alone(c: CellConfig, anchor: &[u8], other: &[u8], t: u64) -> Result<Cause, Refusal>
     ensures { (ms : Messages) → is_silent ms ≡ true
-        → result ≡ cause_of (with_messages c ms) anchor.now other.now t }
+        → cause_answer result ≡ cause_of (with_messages c ms) anchor.now other.now t }
 {
     if c.carrier == 0 {
         return cause_own(c, anchor, t);
@@ -434,19 +395,29 @@ fn cause_alone(c: CellConfig, anchor: &[u8], other: &[u8], t: u64) -> CauseAnswe
 }
 
 // Why subframe t is not usable, beside messages.
-fn cause_beside(c: CellConfig, si: &[u64], anchor: &[u8], other: &[u8], t: u64) -> CauseAnswer
-    ensures { result ≡ cause_of (lent_cell c si.now) anchor.now other.now t }
+fn cause_beside(
+    c: CellConfig,
+    si: &[u64],
+    anchor: &[u8],
+    other: &[u8],
+    t: u64,
+) -> Result<Cause, Refusal>
+    ensures { cause_answer result ≡ cause_of (lent_cell c si.now) anchor.now other.now t }
 {
-    let v = judged_beside(c, si, anchor, other);
-    if v.no != 0 {
-        return CauseAnswer {
-            no: v.no,
+    let v = judged_beside(c, si, anchor, other)?;
+    Ok(why(c, si, v.pattern, v.laid, t))
+}
+
+// The answer: a refusal has its number and no cause.
+fn cause_answer(judged: Result<Cause, Refusal>) -> CauseAnswer
+    ensures { result ≡ cause_answer judged }
+{
+    match judged {
+        Ok(cause) => CauseAnswer { no: 0, cause },
+        Err(refusal) => CauseAnswer {
+            no: refusal.number(),
             cause: Cause::None,
-        };
-    }
-    CauseAnswer {
-        no: 0,
-        cause: why(c, si, v.pattern, v.laid, t),
+        },
     }
 }
 
@@ -455,9 +426,9 @@ pub fn cause_lent(c: CellConfig, si: &[u64], anchor: &[u8], other: &[u8], t: u64
     ensures { result ≡ cause_of (lent_cell c si.now) anchor.now other.now t }
 {
     if subframes::is_silent(si) {
-        return cause_alone(c, anchor, other, t);
+        return cause_answer(cause_alone(c, anchor, other, t));
     }
-    cause_beside(c, si, anchor, other, t)
+    cause_answer(cause_beside(c, si, anchor, other, t))
 }
 
 pub fn cause_at(c: Cell, anchor: &[u8], other: &[u8], t: u64) -> CauseAnswer
@@ -471,15 +442,7 @@ pub fn cause_at(c: Cell, anchor: &[u8], other: &[u8], t: u64) -> CauseAnswer
 pub fn cause_number(cause: Cause) -> u64
     ensures { result ≡ cause_number cause }
 {
-    match cause {
-        Cause::None => 0,
-        Cause::Npbch => 1,
-        Cause::Npss => 2,
-        Cause::Nsss => 3,
-        Cause::Sib1 => 4,
-        Cause::Message => 5,
-        Cause::Bitmap => 6,
-    }
+    cause as u64
 }
 
 // The layout of a subframe of a cell.
@@ -501,17 +464,20 @@ pub struct ElementCount {
     pub e: u64,
 }
 
-// E of an accepted cell, whose refusal number is 0.
-fn counted(c: CellConfig, no: u64) -> ElementCount
-    requires { no ≡ 0 → WellFormed c }
-    ensures { result ≡ count_after no c }
+// E of a cell, judged.
+fn counted(c: CellConfig, judged: Result<Verdict, Refusal>) -> ElementCount
+    requires { refused_by judged ≡ 0 → WellFormed c }
+    ensures { result ≡ count_after (refused_by judged) c }
 {
-    if no != 0 {
-        return ElementCount { no, e: 0 };
-    }
-    ElementCount {
-        no: 0,
-        e: elements::count(layout(c), 0, Grid::SUBCARRIERS),
+    match judged {
+        Ok(_) => ElementCount {
+            no: 0,
+            e: elements::count(layout(c), 0, Grid::SUBCARRIERS),
+        },
+        Err(refusal) => ElementCount {
+            no: refusal.number(),
+            e: 0,
+        },
     }
 }
 
@@ -520,11 +486,13 @@ fn count_own(c: CellConfig, own: &[u8]) -> ElementCount
     ensures { (ms : Messages) → is_silent ms ≡ true
         → result ≡ count_after (cell_refusal (with_messages c ms) own.now) c }
 {
-    let no = config_refusal(c, own);
-    if no != 0 {
-        return ElementCount { no, e: 0 };
+    if let Err(refusal) = config_refusal(c, own) {
+        return ElementCount {
+            no: refusal.number(),
+            e: 0,
+        };
     }
-    counted(c, formed_alone(c, own).no)
+    counted(c, formed_alone(c, own))
 }
 
 fn count_alone(c: CellConfig, anchor: &[u8], other: &[u8]) -> ElementCount
@@ -544,7 +512,7 @@ pub fn count_lent(c: CellConfig, si: &[u64], anchor: &[u8], other: &[u8]) -> Ele
     if subframes::is_silent(si) {
         return count_alone(c, anchor, other);
     }
-    counted(c, judged_beside(c, si, anchor, other).no)
+    counted(c, judged_beside(c, si, anchor, other))
 }
 
 pub fn element_count(c: Cell, anchor: &[u8], other: &[u8]) -> ElementCount

@@ -12,22 +12,17 @@ returns-then-not-c c = simp (lt-ltb _ _ c.if-c-lt2.true, c.if-not-c.true)
 pub returns-then-not-c-2 : goal.returns-then-not-c-2
 unfolding band_refusal
 returns-then-not-c-2 c =
-    let e2 = c in
-    simp (lt-ltb _ _ e2.if-c-lt2.true, e2.if-not-c.false, c.if-not-c-2.true)
+    simp (lt-ltb _ _ c.if-c-lt2.true, c.if-not-c.false, c.if-not-c-2.true)
 
 pub returns-then-c : goal.returns-then-c
 unfolding band_refusal
 returns-then-c c =
-    let e3 = c in
-    let e2 = e3 in
-    simp (lt-ltb _ _ e2.if-c-lt2.true, e2.if-not-c.false, e3.if-not-c-2.false, c.if-c.true)
+    simp (lt-ltb _ _ c.if-c-lt2.true, c.if-not-c.false, c.if-not-c-2.false, c.if-c.true)
 
 pub returns-then-c-lt2 : goal.returns-then-c-lt2
 unfolding band_refusal
 returns-then-c-lt2 c =
-    let e3 = c in
-    let e2 = e3 in
-    simp (lt-ltb _ _ e2.if-c-lt2.true, e2.if-not-c.false, e3.if-not-c-2.false, c.if-c.false)
+    simp (lt-ltb _ _ c.if-c-lt2.true, c.if-not-c.false, c.if-not-c-2.false, c.if-c.false)
 
 pub returns-then-c-ne0 : goal.returns-then-c-ne0
 unfolding band_refusal
@@ -36,18 +31,15 @@ returns-then-c-ne0 c = simp (le-ltb _ _ c.if-c-lt2.false, ne_eqb _ _ c.if-c-ne0.
 pub returns-then-c-ne0-2 : goal.returns-then-c-ne0-2
 unfolding band_refusal
 returns-then-c-ne0-2 c =
-    let e5 = c in
-    simp (le-ltb _ _ e5.if-c-lt2.false, eq-eqb _ _ e5.if-c-ne0.false, ne_eqb _ _ c.if-c-ne0-2.true)
+    simp (le-ltb _ _ c.if-c-lt2.false, eq-eqb _ _ c.if-c-ne0.false, ne_eqb _ _ c.if-c-ne0-2.true)
 
 pub returns : goal.returns
 unfolding band_refusal
 returns c =
-    let e5 = c in
-    let e1 = e5 in
-    let mode = e1.args.c.mode in
+    let mode = c.args.c.mode in
     simp (
-      le-ltb _ _ e1.if-c-lt2.false,
-      eq-eqb _ _ e5.if-c-ne0.false,
+      le-ltb _ _ c.if-c-lt2.false,
+      eq-eqb _ _ c.if-c-ne0.false,
       eq-eqb _ _ c.if-c-ne0-2.false,
-      ne_eqb mode 0 (λ (z : mode ≡ 0). omega (arith, z, e1.if-c-lt2.false)),
+      ne_eqb mode 0 (λ (z : mode ≡ 0). omega (arith, z, c.if-c-lt2.false)),
     )

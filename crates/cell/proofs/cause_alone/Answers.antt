@@ -2,17 +2,9 @@ use borrow.Author.Tests.{eq-eqb, ne_eqb}
 use Rattle.cell.specs.Judge.{judge_of, cause_of}
 use Rattle.cell.proofs.cause_alone.Goals as goal
 
-pub cause_own-requires : goal.cause_own-requires
-unfolding judge_of cause_of
-cause_own-requires c = tt
-
 pub returns-then-c-eq0 : goal.returns-then-c-eq0
 unfolding judge_of cause_of
 returns-then-c-eq0 c = λ ms silent. rw (eq-eqb _ _ c.if-c-eq0.true) (c.cause_own.ensures ms silent)
-
-pub cause_own-requires-2 : goal.cause_own-requires-2
-unfolding judge_of cause_of
-cause_own-requires-2 c = tt
 
 pub returns : goal.returns
 unfolding judge_of cause_of

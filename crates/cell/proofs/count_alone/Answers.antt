@@ -4,17 +4,9 @@ use Rattle.cell.specs.Layout.{element_count_of}
 use Rattle.cell.specs.Quick.{count_after}
 use Rattle.cell.proofs.count_alone.Goals as goal
 
-pub count_own-requires : goal.count_own-requires
-unfolding judge_of element_count_of count_after
-count_own-requires c = tt
-
 pub returns-then-c-eq0 : goal.returns-then-c-eq0
 unfolding judge_of element_count_of count_after
 returns-then-c-eq0 c = λ ms silent. rw (eq-eqb _ _ c.if-c-eq0.true) (c.count_own.ensures ms silent)
-
-pub count_own-requires-2 : goal.count_own-requires-2
-unfolding judge_of element_count_of count_after
-count_own-requires-2 c = tt
 
 pub returns : goal.returns
 unfolding judge_of element_count_of count_after

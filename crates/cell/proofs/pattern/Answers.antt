@@ -4,18 +4,11 @@ use Rattle.cell.proofs.pattern.Goals as goal
 
 pub returns-then-c-eq0 : goal.returns-then-c-eq0
 returns-then-c-eq0 c =
-    let t = c in
-    let a = t.args in
+    let a = c.args in
     rw (c.withheld.ensures, c.pattern.ensures)
-    (record { shows = λ own f l. shows_anchor a.c own a.m f l (eq-eqb _ _ t.if-c-eq0.true) })
+    (record { shows = λ own f l. shows_anchor a.c own a.m f l (eq-eqb _ _ c.if-c-eq0.true) })
 
 pub returns : goal.returns
 returns c =
     let a = c.args in
     record { shows = λ own f l. shows_other a.c own a.m f l (ne_eqb _ _ c.if-c-eq0.false) }
-
-pub pattern-requires : goal.pattern-requires
-pattern-requires c = tt
-
-pub withheld-requires : goal.withheld-requires
-withheld-requires c = tt

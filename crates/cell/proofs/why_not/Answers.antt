@@ -27,7 +27,3 @@ is_allowed-requires c = c.requires
 pub returns-then-is_allowed : goal.returns-then-is_allowed
 unfolding why_not
 returns-then-is_allowed c = simp (c.if-laid.true, ← c.is_allowed.ensures, c.if-is_allowed.true)
-
-pub why_not_free-requires : goal.why_not_free-requires
-unfolding why_not
-why_not_free-requires c = tt
