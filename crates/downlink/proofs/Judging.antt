@@ -1,73 +1,48 @@
 -- A question judged: by the cell, then by the grant.
-use mathlib.Core.Bool.{Bool, true, false, cond, not}
+use mathlib.Core.Bool.{Bool, true, false, not}
 use mathlib.Core.List.{List}
-use mathlib.Core.Path.{◌≡◌, sym, ap, ◌∙◌, subst}
+use mathlib.Core.Path.{◌≡◌, refl, sym}
 use Prim.Native.Nat.{ℕ, ◌≤◌}
 use native.Mathlib.Omega.{arith}
-use lib.Dec.{eqb, ltb}
-use borrow.Author.Tests.{eq-eqb, ne_eqb, ltb-false, not-false}
-use Rattle.counting.proofs.Facts.{passed, chained}
+use lib.Dec.{ltb}
+use borrow.Author.Tests.{ltb-false, not-false}
+use Rattle.std.specs.Prelude.{Ok}
+use Rattle.refusals.specs.declared.Refusal.{Refusal}
+use Rattle.refusals.specs.Refusal.{number_of}
+use Rattle.refusals.proofs.Numbers.{stands}
+use Rattle.counting.proofs.Facts.{passed}
+use Rattle.grid.specs.Grid.{last_subframe}
 use Rattle.grid.specs.Tables.{is_repetition}
 use Rattle.cell.specs.declared.Cell.{Cell}
 use Rattle.cell.specs.declared.Verdict.{Verdict}
-use Rattle.cell.specs.Bitmap.{own_buffer, bitmap_in}
-use Rattle.cell.specs.Judge.{judge_of}
-use Rattle.cell.specs.Quick.{VerdictOn}
+use Rattle.cell.specs.Bitmap.{own_buffer}
+use Rattle.cell.specs.Judge.{cell_refusal, judge_of}
+use Rattle.cell.specs.Quick.{VerdictOn, WellFormed}
 use Rattle.cell.proofs.Accepted.{accepted_form, form_numbers}
-use Rattle.cell.specs.Quick.{WellFormed}
-use Rattle.downlink.specs.declared.Burst.{Burst}
-use Rattle.downlink.specs.declared.Ready.{Ready}
-use Rattle.downlink.specs.Fits.{Fits}
 use Rattle.downlink.specs.Cells.{fields_refusal, question_refusal}
-use Rattle.grid.specs.Grid.{last_subframe}
-use Rattle.downlink.specs.Quick.{Judged, ReadyFor}
 
 module _ (c : Cell) (anchor other : List ℕ) where
+  abbrev own : List ℕ
+  own = own_buffer c.config anchor other
+
   -- an accepted question has an accepted cell
   pub accepted_cell : judge_of c anchor other ≡ 0 → WellFormed c.config
   unfolding judge_of
-  accepted_cell e = form_numbers c (own_buffer c.config anchor other) (accepted_form c (own_buffer c.config anchor other) e)
+  accepted_cell e = form_numbers c own (accepted_form c own e)
 
-  -- the question on a cell with verdict v and a grant judged after it
-  module _ (grant : ℕ) (b : Burst) (v : Verdict) (h : VerdictOn c (own_buffer c.config anchor other) v) (q : Ready) (j : Judged v.no grant b q) where
-    judged_as : v.no ≡ judge_of c anchor other
-    unfolding judge_of
-    judged_as = h.number
+  -- the cell's refusal stands, whatever the grant is
+  pub by_cell : (grant : ℕ) (e : Refusal) → number_of e ≡ cell_refusal c own → number_of e ≡ question_refusal c anchor other grant
+  unfolding question_refusal judge_of
+  by_cell grant e h = stands e grant _ h
 
-    is_refusal : q.no ≡ question_refusal c anchor other grant
-    unfolding question_refusal
-    is_refusal = j.number ∙ ap (λ (x : ℕ). cond (eqb x 0) grant x) judged_as
+  module _ (v : Verdict) (h : VerdictOn c own (Ok v)) where
+    -- the grant's number is the question's on an accepted cell
+    pub by_grant : (grant : ℕ) → question_refusal c anchor other grant ≡ grant
+    unfolding question_refusal judge_of
+    by_grant grant = rw (← h.number) refl
 
-    both_accept : q.no ≡ 0 → (v.no ≡ 0) × (grant ≡ 0)
-    both_accept z = chained v.no grant (sym j.number ∙ z)
-
-    pub question_ready : (WellFormed c.config → grant ≡ 0 → Fits b)
-        → ReadyFor c (bitmap_in c.config (own_buffer c.config anchor other)) (question_refusal c anchor other grant) b q v.pattern v.laid
-    question_ready f = record {
-      number = is_refusal;
-      answerable = record {
-        searchable = λ z. h.searchable (both_accept z).0;
-        fits = λ z. let a = both_accept z in subst Fits (sym (j.burst z)) (f (accepted_cell (sym judged_as ∙ a.0)) a.1);
-      };
-      shows = λ z. h.shows (both_accept z).0;
-      lays = λ z. h.laid (both_accept z).0;
-      burst = j.burst;
-    }
-
--- ---- the grant's part of the judgement, by the branch that gave it
-
-module _ (cell grant : ℕ) (b : Burst) where
-  pub by_cell : (q : Ready) → q.no ≡ cell → (cell ≡ 0 → ⊥) → Judged cell grant b q
-  by_cell q e n = record { number = e ∙ sym (ap (λ (x : Bool). cond x grant cell) (ne_eqb cell 0 n)); burst = λ z. absurd (n (sym e ∙ z)) }
-
-  accepted : cell ≡ 0 → cond (eqb cell 0) grant cell ≡ grant
-  accepted z = ap (λ (x : Bool). cond x grant cell) (eq-eqb cell 0 z)
-
-  pub by_grant : (q : Ready) (n : ℕ) → n ≡ grant → q.no ≡ n → cell ≡ 0 → (n ≡ 0 → ⊥) → Judged cell grant b q
-  by_grant q n e f z h = record { number = f ∙ e ∙ sym (accepted z); burst = λ y. absurd (h (sym f ∙ y)) }
-
-  pub by_none : (n : ℕ) (d : Burst) → n ≡ grant → cell ≡ 0 → n ≡ 0 → d ≡ b → Judged cell grant b (record { no = 0; burst = d })
-  by_none n d e z y f = record { number = sym (accepted z ∙ sym e ∙ y); burst = λ x. f }
+    pub well_formed : WellFormed c.config
+    well_formed = form_numbers c own (accepted_form c own (sym h.number))
 
 -- ---- what an accepted grant has passed
 

@@ -44,73 +44,55 @@ by_pattern : (c : CellConfig) (p : Pattern) (laid : Bool) (si : List ℕ) (t : �
 unfolding seen
 by_pattern c p laid si t = refl
 
-pub refused-requires : goal.refused-requires
-refused-requires c = tt
-
-pub without_cause-requires : goal.without_cause-requires
-without_cause-requires c = tt
-
-pub returns-then-not-inside : goal.returns-then-not-inside
-returns-then-not-inside c =
+pub returns-then-not-is_inside : goal.returns-then-not-is_inside
+returns-then-not-is_inside c =
     let a = c.args in
-    let u = left a.p a.laid a.si.now in
-    let o = c.if-not-inside.true in
-    c.without_cause.ensures
-    ∙ joined u all_periods (saw a.c a.p a.laid a.si.now) a.b a.t a.slot a.l a.k _ _
-    (c.refused.ensures ∙ sym (outside_at (sending_of u all_periods a.b) _ a.t _ o))
-    (outside_none u all_periods (saw a.c a.p a.laid a.si.now) a.b a.t a.slot a.l a.k o)
+    let u = left a.v.pattern a.v.laid a.si.now in
+    let o = sym c.is_inside.ensures ∙ c.if-not-is_inside.true in
+    c.refused_back.ensures
+    ∙ joined u all_periods (saw a.c a.v.pattern a.v.laid a.si.now) a.b a.t a.slot a.l a.k _ _
+    (sym (outside_at (sending_of u all_periods a.b) _ a.t _ o))
+    (outside_none u all_periods (saw a.c a.v.pattern a.v.laid a.si.now) a.b a.t a.slot a.l a.k o)
 
 pub in_sent-requires : goal.in_sent-requires
 in_sent-requires c =
     let a = c.args in
-    let at = sym (searched a.p a.laid a.si.now a.b a.t _ _ c.locate-found.ensures c.sent_subframes-sent.ensures.0) ∙ c.in-At.is in
-    let i = inside_parts a.slot a.l a.k c.if-not-inside.false in
+    let at = sym (searched a.v.pattern a.v.laid a.si.now a.b a.t _ _ c.locate-found.ensures c.sent_subframes-sent.ensures.0) ∙ c.in-At.is in
+    let i = inside_parts a.slot a.l a.k (sym c.is_inside.ensures ∙ c.if-not-is_inside.false) in
     (c.requires.1, omega (arith, at_below _ _ _ _ _ _ at, c.sent_subframes-sent.ensures.0, c.sent_subframes-sent.ensures.2), i.0, i.1, i.2)
-
-pub without_cause-requires-in-At : goal.without_cause-requires-in-At
-without_cause-requires-in-At c = tt
-
-pub not_ours-requires : goal.not_ours-requires
-not_ours-requires c = tt
 
 pub why_not-requires : goal.why_not-requires
 why_not-requires c = c.requires.0.on.regular
 
-pub not_ours-requires-in-Nothing : goal.not_ours-requires-in-Nothing
-not_ours-requires-in-Nothing c = tt
-
-pub without_cause-requires-in-Nothing : goal.without_cause-requires-in-Nothing
-without_cause-requires-in-Nothing c = tt
-
 pub returns-in-At : goal.returns-in-At
 returns-in-At c =
     let a = c.args in
-    let u = left a.p a.laid a.si.now in
-    let at = sym (searched a.p a.laid a.si.now a.b a.t _ _ c.locate-found.ensures c.sent_subframes-sent.ensures.0) ∙ c.in-At.is in
+    let u = left a.v.pattern a.v.laid a.si.now in
+    let at = sym (searched a.v.pattern a.v.laid a.si.now a.b a.t _ _ c.locate-found.ensures c.sent_subframes-sent.ensures.0) ∙ c.in-At.is in
     let i = at_index _ _ _ _ _ _ at in
-    c.without_cause-in-At.ensures
-    ∙ joined u all_periods (saw a.c a.p a.laid a.si.now) a.b a.t a.slot a.l a.k _ _
-    (c.in_sent.ensures ∙ backward_sent _ _ a.b a.t a.slot a.l a.k c.if-not-inside.false _ _ i.0 i.1 refl)
-    (sent_none u all_periods (saw a.c a.p a.laid a.si.now) a.b a.t a.slot a.l a.k _ (by_pattern a.c a.p a.laid a.si.now a.t) c.if-not-inside.false i.0)
+    c.without_cause.ensures
+    ∙ joined u all_periods (saw a.c a.v.pattern a.v.laid a.si.now) a.b a.t a.slot a.l a.k _ _
+    (c.in_sent.ensures ∙ backward_sent _ _ a.b a.t a.slot a.l a.k (sym c.is_inside.ensures ∙ c.if-not-is_inside.false) _ _ i.0 i.1 refl)
+    (sent_none u all_periods (saw a.c a.v.pattern a.v.laid a.si.now) a.b a.t a.slot a.l a.k _ (by_pattern a.c a.v.pattern a.v.laid a.si.now a.t) (sym c.is_inside.ensures ∙ c.if-not-is_inside.false) i.0)
 
 pub returns-in-Between : goal.returns-in-Between
 returns-in-Between c =
     let a = c.args in
-    let u = left a.p a.laid a.si.now in
-    let s = searched a.p a.laid a.si.now a.b a.t _ _ c.locate-found.ensures c.sent_subframes-sent.ensures.0 in
+    let u = left a.v.pattern a.v.laid a.si.now in
+    let s = searched a.v.pattern a.v.laid a.si.now a.b a.t _ _ c.locate-found.ensures c.sent_subframes-sent.ensures.0 in
     let m = at_between _ _ _ _ _ (sym s ∙ c.in-Between.is) in
-    joined u all_periods (saw a.c a.p a.laid a.si.now) a.b a.t a.slot a.l a.k _ _
-    (c.not_ours.ensures ∙ backward_unsent _ _ a.b a.t a.slot a.l a.k c.if-not-inside.false m.0)
+    joined u all_periods (saw a.c a.v.pattern a.v.laid a.si.now) a.b a.t a.slot a.l a.k _ _
+    (c.not_ours.ensures ∙ backward_unsent _ _ a.b a.t a.slot a.l a.k (sym c.is_inside.ensures ∙ c.if-not-is_inside.false) m.0)
     (c.why_not.ensures
-    ∙ missed_why u all_periods (saw a.c a.p a.laid a.si.now) a.b a.t a.slot a.l a.k _ (by_pattern a.c a.p a.laid a.si.now a.t) c.if-not-inside.false m.1)
+    ∙ missed_why u all_periods (saw a.c a.v.pattern a.v.laid a.si.now) a.b a.t a.slot a.l a.k _ (by_pattern a.c a.v.pattern a.v.laid a.si.now a.t) (sym c.is_inside.ensures ∙ c.if-not-is_inside.false) m.1)
 
 pub returns-in-Nothing : goal.returns-in-Nothing
 returns-in-Nothing c =
     let a = c.args in
-    let u = left a.p a.laid a.si.now in
-    let s = searched a.p a.laid a.si.now a.b a.t _ _ c.locate-found.ensures c.sent_subframes-sent.ensures.0 in
+    let u = left a.v.pattern a.v.laid a.si.now in
+    let s = searched a.v.pattern a.v.laid a.si.now a.b a.t _ _ c.locate-found.ensures c.sent_subframes-sent.ensures.0 in
     let m = at_nothing _ _ _ _ _ (sym s ∙ c.in-Nothing.is) in
     c.without_cause-in-Nothing.ensures
-    ∙ joined u all_periods (saw a.c a.p a.laid a.si.now) a.b a.t a.slot a.l a.k _ _
-    (c.not_ours-in-Nothing.ensures ∙ backward_unsent _ _ a.b a.t a.slot a.l a.k c.if-not-inside.false m.0)
-    (unmissed_none u all_periods (saw a.c a.p a.laid a.si.now) a.b a.t a.slot a.l a.k _ (by_pattern a.c a.p a.laid a.si.now a.t) c.if-not-inside.false m.1)
+    ∙ joined u all_periods (saw a.c a.v.pattern a.v.laid a.si.now) a.b a.t a.slot a.l a.k _ _
+    (c.not_ours-in-Nothing.ensures ∙ backward_unsent _ _ a.b a.t a.slot a.l a.k (sym c.is_inside.ensures ∙ c.if-not-is_inside.false) m.0)
+    (unmissed_none u all_periods (saw a.c a.v.pattern a.v.laid a.si.now) a.b a.t a.slot a.l a.k _ (by_pattern a.c a.v.pattern a.v.laid a.si.now a.t) (sym c.is_inside.ensures ∙ c.if-not-is_inside.false) m.1)

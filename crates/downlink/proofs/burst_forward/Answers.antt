@@ -19,15 +19,12 @@ all b n w s e = ap₂ (λ (x y : ℕ). x * y) s e
 pub overflow_mul-total : goal.overflow_mul-total
 overflow_mul-total c = omega (arith, places_small c.sent_subframes.result c.used_elements-w.result c.sent_subframes.ensures.2 c.used_elements-w.ensures.2)
 
-pub refused_place-requires : goal.refused_place-requires
-refused_place-requires c = tt
-
 pub returns-then-position-total : goal.returns-then-position-total
 returns-then-position-total c =
     let a = c.args in
     let all = all a.b _ _ c.sent_subframes.ensures.0 c.used_elements-w.ensures.0 in
     c.refused_place.ensures
-    ∙ sym (past_at refused_place place_of (sending_of (left_in a.p a.laid (messages_in a.si.now)) all_periods a.b) a.position (omega (arith, all, c.if-position-total.true)))
+    ∙ sym (past_at refused_place place_of (sending_of (left_in a.v.pattern a.v.laid (messages_in a.si.now)) all_periods a.b) a.position (omega (arith, all, c.if-position-total.true)))
 
 pub subframe_at-t-requires : goal.subframe_at-t-requires
 subframe_at-t-requires c =
@@ -36,7 +33,7 @@ subframe_at-t-requires c =
     let held : a.position < places a.b = omega (arith, c.if-position-total.false, all) in (
       c.requires.0,
       c.requires.1,
-      omega (arith, unit_below (left_in a.p a.laid (messages_in a.si.now)) all_periods a.b a.position c.requires.1 c.used_elements-w.result held c.used_elements-w.ensures.0, sent_small a.b c.requires.1),
+      omega (arith, unit_below (left_in a.v.pattern a.v.laid (messages_in a.si.now)) all_periods a.b a.position c.requires.1 c.used_elements-w.result held c.used_elements-w.ensures.0, sent_small a.b c.requires.1),
     )
 
 pub element_at-x-requires : goal.element_at-x-requires
@@ -46,7 +43,7 @@ element_at-x-requires c =
     let held : a.position < places a.b = omega (arith, c.if-position-total.false, all) in (
       c.requires.1.layout,
       c.requires.1.part,
-      rest_below (left_in a.p a.laid (messages_in a.si.now)) all_periods a.b a.position c.requires.1 c.used_elements-w.result held c.used_elements-w.ensures.0,
+      rest_below (left_in a.v.pattern a.v.laid (messages_in a.si.now)) all_periods a.b a.position c.requires.1 c.used_elements-w.result held c.used_elements-w.ensures.0,
     )
 
 pub item-requires : goal.item-requires
@@ -54,11 +51,8 @@ item-requires c =
     let a = c.args in
     let all = all a.b _ _ c.sent_subframes.ensures.0 c.used_elements-w.ensures.0 in
     let held : a.position < places a.b = omega (arith, c.if-position-total.false, all) in
-    let rest = rest_below (left_in a.p a.laid (messages_in a.si.now)) all_periods a.b a.position c.requires.1 c.used_elements-w.result held c.used_elements-w.ensures.0 in
+    let rest = rest_below (left_in a.v.pattern a.v.laid (messages_in a.si.now)) all_periods a.b a.position c.requires.1 c.used_elements-w.result held c.used_elements-w.ensures.0 in
     (omega (arith, c.carried_by-unit.ensures.1), omega (arith, c.used_elements-w.ensures.2), omega (arith, rest, c.used_elements-w.ensures.0))
-
-pub place-requires : goal.place-requires
-place-requires c = tt
 
 pub returns : goal.returns
 returns c =

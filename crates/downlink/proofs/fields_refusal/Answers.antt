@@ -13,14 +13,9 @@ returns-then-above c = simp (le-ltb _ _ c.if-n-gt-LAST_SUBFRAME.false, c.if-abov
 pub returns-then-not-is_repetition : goal.returns-then-not-is_repetition
 unfolding fields_refusal
 returns-then-not-is_repetition c =
-    let e2 = c in
-    simp (le-ltb _ _ e2.if-n-gt-LAST_SUBFRAME.false, e2.if-above.false, ← c.is_repetition.ensures, c.if-not-is_repetition.true)
+    simp (le-ltb _ _ c.if-n-gt-LAST_SUBFRAME.false, c.if-above.false, ← c.is_repetition.ensures, c.if-not-is_repetition.true)
 
 pub returns : goal.returns
 unfolding fields_refusal
 returns c =
-    let e2 = c in
-    simp (le-ltb _ _ e2.if-n-gt-LAST_SUBFRAME.false, e2.if-above.false, ← c.is_repetition.ensures, c.if-not-is_repetition.false)
-
-pub is_repetition-requires : goal.is_repetition-requires
-is_repetition-requires c = tt
+    simp (le-ltb _ _ c.if-n-gt-LAST_SUBFRAME.false, c.if-above.false, ← c.is_repetition.ensures, c.if-not-is_repetition.false)

@@ -7,23 +7,17 @@ use Rattle.downlink.proofs.in_use.Goals as goal
 
 pub returns-in-Used : goal.returns-in-Used
 returns-in-Used c =
-    let u = c in
-    let w = u in
-    let k = w in
-    let s = k in
     λ x e.
-    let o = use_used s.args.b.layout s.args.b.low s.args.b.width x _ (sym e ∙ k.in-Used.is) in
+    let o = use_used c.args.b.layout c.args.b.low c.args.b.width x _ (sym e ∙ c.in-Used.is) in
     c.ours.ensures
-    ∙ ap back_of (content_ours s.args.b s.args.i x _ _ _ _ _ o.0 w.used_elements-w.ensures.0 (sym o.1) u.carried_by-unit.ensures.0
+    ∙ ap back_of (content_ours c.args.b c.args.i x _ _ _ _ _ o.0 c.used_elements-w.ensures.0 (sym o.1) c.carried_by-unit.ensures.0
     c.item.ensures c.item-in-Used.ensures)
 
 pub returns-in-Unused : goal.returns-in-Unused
 returns-in-Unused c =
-    let a = c in
-    let s = a in
     λ x e.
-    let o = use_unused s.args.b.layout s.args.b.low s.args.b.width x c.in-Unused.kind (sym e ∙ a.in-Unused.is) in
-    c.not_ours.ensures ∙ ap back_of (content_unused s.args.b s.args.i x _ o.0 (sym o.1))
+    let o = use_unused c.args.b.layout c.args.b.low c.args.b.width x c.in-Unused.kind (sym e ∙ c.in-Unused.is) in
+    c.not_ours.ensures ∙ ap back_of (content_unused c.args.b c.args.i x _ o.0 (sym o.1))
 
 pub used_elements-w-requires : goal.used_elements-w-requires
 used_elements-w-requires c = c.requires.0
@@ -32,15 +26,8 @@ pub carried_by-unit-requires : goal.carried_by-unit-requires
 carried_by-unit-requires c = c.requires.0
 
 pub item-requires : goal.item-requires
-item-requires c = let w = c in (omega (arith, c.carried_by-unit.ensures.1), omega (arith, w.used_elements-w.ensures.2), omega (arith, c.used_elements-w.ensures.0, c.requires.2 c.in-Used.e c.in-Used.is))
+item-requires c = (omega (arith, c.carried_by-unit.ensures.1), omega (arith, c.used_elements-w.ensures.2), omega (arith, c.used_elements-w.ensures.0, c.requires.2 c.in-Used.e c.in-Used.is))
 
 pub item-requires-in-Used : goal.item-requires-in-Used
 item-requires-in-Used c =
-    let w = c in
-    (omega (arith, w.requires.1), omega (arith, w.used_elements-w.ensures.2), omega (arith, c.used_elements-w.ensures.0, c.requires.2 c.in-Used.e c.in-Used.is))
-
-pub ours-requires : goal.ours-requires
-ours-requires c = tt
-
-pub not_ours-requires : goal.not_ours-requires
-not_ours-requires c = tt
+    (omega (arith, c.requires.1), omega (arith, c.used_elements-w.ensures.2), omega (arith, c.used_elements-w.ensures.0, c.requires.2 c.in-Used.e c.in-Used.is))

@@ -8,8 +8,7 @@ use Rattle.downlink.proofs.subframe_at.Goals as goal
 
 pub returns : goal.returns
 returns c =
-    let a = c in
-    let x = a.args in
-    let again = left_again x.p x.laid (messages_in x.si.now) a.requires.0.on in
+    let x = c.args in
+    let again = left_again x.v.pattern x.v.laid (messages_in x.si.now) c.requires.0.on in
     c.nth.ensures
-    ∙ sym (select_from (left_in x.p x.laid (messages_in x.si.now)) all_periods again a.requires.0.some x.b.from x.b.skip x.i)
+    ∙ sym (select_from (left_in x.v.pattern x.v.laid (messages_in x.si.now)) all_periods again c.requires.0.some x.b.from x.b.skip x.i)

@@ -4,9 +4,8 @@ use Rattle.downlink.proofs.used_elements.Goals as goal
 
 pub returns : goal.returns
 returns c =
-    let a = c in
-    let g = a.args.b in (
+    let g = c.args.b in (
       c.count.ensures,
-      omega (arith, c.count.ensures, count_some g.layout g.low g.width a.requires.part),
+      omega (arith, c.count.ensures, count_some g.layout g.low g.width c.requires.part),
       omega (arith, c.count.ensures, count_le g.layout g.low g.width),
     )
