@@ -1,6 +1,5 @@
 -- What an accepted NPDSCH grant says of its numbers.
 use mathlib.Core.Bool.{◌||◌}
-use mathlib.Core.List.{List}
 use mathlib.Core.Path.{◌≡◌}
 use Prim.Native.Nat.{ℕ, ◌≤◌, ◌<◌}
 use native.Mathlib.Omega.{arith}
@@ -10,20 +9,14 @@ use Rattle.counting.proofs.Facts.{either_parts}
 use Rattle.grid.specs.Tables.{entry, downlink_copies}
 use Rattle.grid.proofs.Rules.{length_bounds, downlink_copies_bounds, downlink_delay_bound, downlink_consecutive_splits, consecutive_pos, consecutive_small_lem}
 use Rattle.cell.specs.declared.CellConfig.{CellConfig}
-use Rattle.cell.specs.declared.Cell.{Cell}
-use Rattle.cell.specs.declared.Verdict.{Verdict}
-use Rattle.cell.specs.Bitmap.{own_buffer, bitmap_in}
-use Rattle.cell.specs.Quick.{VerdictOn}
 use Rattle.cell.specs.Quick.{WellFormed}
 use Rattle.elements.proofs.Laws.{whole_part}
-use Rattle.downlink.specs.declared.Ready.{Ready}
 use Rattle.downlink.specs.Fits.{Fits}
-use Rattle.downlink.specs.Quick.{Judged, ReadyFor}
 use Rattle.grid.specs.Grid.{last_subframe}
 use Rattle.cell.proofs.Accepted.{layout_valid}
-use Rattle.downlink.proofs.Judging.{fields_passed, question_ready}
+use Rattle.downlink.proofs.Judging.{fields_passed}
 use Rattle.npdsch.specs.declared.NpdschGrant.{NpdschGrant}
-use Rattle.npdsch.specs.Refusals.{above_largest, grant_refusal, refusal_of}
+use Rattle.npdsch.specs.Refusals.{above_largest, grant_refusal}
 use Rattle.npdsch.specs.Questions.{burst_of}
 
 pub record Accepted (g : NpdschGrant) : Type 0 where
@@ -64,9 +57,3 @@ burst_fits c g w e =
       copies_small = omega (arith, copies.1);
       consecutive_small = omega (arith, consecutive_small_lem R);
     }
-
--- the question on a cell with verdict v, its grant judged after it
-pub question : (c : Cell) (anchor other : List ℕ) (g : NpdschGrant) (v : Verdict) → VerdictOn c (own_buffer c.config anchor other) v
-    → (q : Ready) → Judged v.no (grant_refusal g) (burst_of c.config g) q
-    → ReadyFor c (bitmap_in c.config (own_buffer c.config anchor other)) (refusal_of c anchor other g) (burst_of c.config g) q v.pattern v.laid
-question c anchor other g v h q j = question_ready c anchor other (grant_refusal g) (burst_of c.config g) v h q j (burst_fits c.config g)
