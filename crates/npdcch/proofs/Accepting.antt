@@ -1,6 +1,5 @@
 -- What an accepted NPDCCH grant says of its numbers.
 use mathlib.Core.Bool.{Bool, true, false, cond, ◌&&◌, ◌||◌}
-use mathlib.Core.List.{List}
 use mathlib.Core.Path.{◌≡◌, refl}
 use Prim.Native.Nat.{ℕ, ◌*◌, ◌≤◌}
 use native.Mathlib.Nat.{mod-one}
@@ -10,23 +9,16 @@ use borrow.Author.Tests.{ltb-false}
 use Rattle.counting.proofs.Facts.{either_parts}
 use Rattle.grid.proofs.Rules.{repetition_bounds}
 use Rattle.cell.specs.declared.CellConfig.{CellConfig}
-use Rattle.cell.specs.declared.Cell.{Cell}
-use Rattle.cell.specs.declared.Verdict.{Verdict}
-use Rattle.cell.specs.Bitmap.{own_buffer, bitmap_in}
-use Rattle.cell.specs.Quick.{VerdictOn}
 use Rattle.cell.specs.Quick.{WellFormed}
 use Rattle.elements.proofs.Laws.{whole_part}
 use Rattle.elements.specs.Elements.{ncce_width}
 use Rattle.elements.specs.Scaffold.{Part}
-use Rattle.downlink.specs.declared.Ready.{Ready}
 use Rattle.downlink.specs.Fits.{Fits}
-use Rattle.downlink.specs.Quick.{Judged, ReadyFor}
 use Rattle.grid.specs.Grid.{last_subframe, subcarriers}
 use Rattle.cell.proofs.Accepted.{layout_valid}
-use Rattle.downlink.proofs.Judging.{fields_passed, question_ready}
+use Rattle.downlink.proofs.Judging.{fields_passed}
 use Rattle.npdcch.specs.declared.NpdcchGrant.{NpdcchGrant}
 use Rattle.npdcch.specs.Refusals.{above_largest, grant_refusal}
-use Rattle.npdcch.specs.Scaffold.{refusal_of}
 use Rattle.npdcch.specs.Questions.{burst_of}
 use Rattle.npdcch.specs.Ncce.{first_subcarrier, used_subcarriers}
 
@@ -75,9 +67,3 @@ burst_fits c g w e =
       copies_small = omega (arith, a.copies.1);
       consecutive_small = omega arith;
     }
-
--- the question on a cell with verdict v, its grant judged after it
-pub question : (c : Cell) (anchor other : List ℕ) (g : NpdcchGrant) (v : Verdict) → VerdictOn c (own_buffer c.config anchor other) v
-    → (q : Ready) → Judged v.no (grant_refusal g) (burst_of c.config g) q
-    → ReadyFor c (bitmap_in c.config (own_buffer c.config anchor other)) (refusal_of c anchor other g) (burst_of c.config g) q v.pattern v.laid
-question c anchor other g v h q j = question_ready c anchor other (grant_refusal g) (burst_of c.config g) v h q j (burst_fits c.config g)

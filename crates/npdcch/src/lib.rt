@@ -3,14 +3,14 @@
 
 ghost use Rattle.std.specs.Prelude.{◌≡◌, ◌≤◌};
 ghost use Rattle.cell.specs.Quick.{lent_cell};
-ghost use Rattle.downlink.specs.Quick.{Judged};
 ghost use Rattle.npdcch.specs.Ncce.{first_subcarrier, used_subcarriers};
 ghost use Rattle.npdcch.specs.Refusals.{above_largest, grant_refusal};
 ghost use Rattle.npdcch.specs.Questions.{burst_of, plan_of, forward_of, backward_of};
 
 use cell::{Cell, CellConfig};
-use downlink::{Burst, DownlinkBack, DownlinkPlace, DownlinkPlan, Ready};
+use downlink::{Burst, DownlinkBack, DownlinkGrant, DownlinkPlace, DownlinkPlan};
 use grid::Grid;
+use refusals::Refusal;
 
 // r copies from subframe n on; format 0 uses the NCCE, format 1 both.
 #[derive(Clone, Copy)]
@@ -68,20 +68,14 @@ fn burst(c: CellConfig, g: NpdcchGrant) -> Burst
     }
 }
 
-// The grant judged, after its cell's number.
-pub fn ready(cell: u64, c: CellConfig, g: NpdcchGrant) -> Ready
-    ensures { Judged cell (grant_refusal g) (burst_of c g) result }
-{
-    if cell != 0 {
-        return downlink::not_ready(cell);
-    }
-    let no = downlink::fields_refusal(g.n, above_largest(g), g.r);
-    if no != 0 {
-        return downlink::not_ready(no);
-    }
-    Ready {
-        no: 0,
-        burst: burst(c, g),
+impl DownlinkGrant for NpdcchGrant {
+    ghost refusal = { grant_refusal };
+
+    ghost burst_of = { burst_of };
+
+    fn judged(self, c: CellConfig) -> Result<Burst, Refusal> {
+        downlink::fields_refusal(self.n, above_largest(self), self.r)?;
+        Ok(burst(c, self))
     }
 }
 
@@ -95,8 +89,7 @@ pub fn plan_lent(
 ) -> DownlinkPlan
     ensures { result ≡ plan_of (lent_cell c si.now) anchor.now other.now g }
 {
-    let v = cell::judged_lent(c, si, anchor, other);
-    downlink::plan(ready(v.no, c, g), v.pattern, v.laid, si)
+    downlink::plan_lent(c, si, anchor, other, g)
 }
 
 // The place of position p, and the symbol there.
@@ -110,8 +103,7 @@ pub fn forward_lent(
 ) -> DownlinkPlace
     ensures { result ≡ forward_of (lent_cell c si.now) anchor.now other.now g p }
 {
-    let v = cell::judged_lent(c, si, anchor, other);
-    downlink::forward(ready(v.no, c, g), v.pattern, v.laid, si, p)
+    downlink::forward_lent(c, si, anchor, other, g, p)
 }
 
 // What stands at symbol l and subcarrier k of a slot of subframe t, and why the subframe was skipped.
@@ -129,24 +121,21 @@ pub fn backward_lent(
     ensures { result
         ≡ backward_of (lent_cell c si.now) anchor.now other.now g t slot l k }
 {
-    let v = cell::judged_lent(c, si, anchor, other);
-    downlink::backward(ready(v.no, c, g), c, v.pattern, v.laid, si, t, slot, l, k)
+    downlink::backward_lent(c, si, anchor, other, g, t, slot, l, k)
 }
 
-// ---- the same on a cell: it lends its messages
+// ---- the same on a cell
 
 pub fn plan(c: Cell, anchor: &[u8], other: &[u8], g: NpdcchGrant) -> DownlinkPlan
     ensures { result ≡ plan_of c anchor.now other.now g }
 {
-    let si = subframes::numbers(c.messages);
-    plan_lent(c.config, &si, anchor, other, g)
+    downlink::plan(c, anchor, other, g)
 }
 
 pub fn forward(c: Cell, anchor: &[u8], other: &[u8], g: NpdcchGrant, p: u64) -> DownlinkPlace
     ensures { result ≡ forward_of c anchor.now other.now g p }
 {
-    let si = subframes::numbers(c.messages);
-    forward_lent(c.config, &si, anchor, other, g, p)
+    downlink::forward(c, anchor, other, g, p)
 }
 
 pub fn backward(
@@ -161,6 +150,5 @@ pub fn backward(
 ) -> DownlinkBack
     ensures { result ≡ backward_of c anchor.now other.now g t slot l k }
 {
-    let si = subframes::numbers(c.messages);
-    backward_lent(c.config, &si, anchor, other, g, t, slot, l, k)
+    downlink::backward(c, anchor, other, g, t, slot, l, k)
 }

@@ -1,11 +1,6 @@
-use Rattle.subframes.specs.Scaffold.{lent_again}
+use Rattle.npdcch.specs.Questions.{backward_of}
 use Rattle.npdcch.proofs.backward.Goals as goal
 
-pub numbers-si-requires : goal.numbers-si-requires
-numbers-si-requires c = tt
-
-pub backward_lent-requires : goal.backward_lent-requires
-backward_lent-requires c = tt
-
 pub returns : goal.returns
-returns c = rw (c.numbers-si.ensures, lent_again _) at c.backward_lent.ensures
+unfolding backward_of
+returns c = c.backward.ensures

@@ -1,11 +1,6 @@
-use Rattle.subframes.specs.Scaffold.{lent_again}
+use Rattle.npdcch.specs.Questions.{forward_of}
 use Rattle.npdcch.proofs.forward.Goals as goal
 
-pub numbers-si-requires : goal.numbers-si-requires
-numbers-si-requires c = tt
-
-pub forward_lent-requires : goal.forward_lent-requires
-forward_lent-requires c = tt
-
 pub returns : goal.returns
-returns c = rw (c.numbers-si.ensures, lent_again _) at c.forward_lent.ensures
+unfolding forward_of
+returns c = c.forward.ensures
