@@ -1,5 +1,5 @@
 -- A call judged: what its refusal says, and what an accepted one has.
-use mathlib.Core.Bool.{Bool, true, false, cond, not, ◌||◌}
+use mathlib.Core.Bool.{Bool, false, not, ◌||◌}
 use mathlib.Core.List.{List}
 use mathlib.Core.Path.{◌≡◌, refl, sym, ap, ap₂, ◌∙◌, subst}
 use Prim.Native.Nat.{ℕ, ◌+◌, ◌*◌, ◌≤◌, ◌<◌, ◌%◌}
@@ -8,28 +8,35 @@ use native.Mathlib.Omega.{arith}
 use lib.Dec.{eqb, leb}
 use lib.Ieee.{Float}
 use lib.ListN.{length}
-use borrow.Author.Tests.{eq-eqb, ne_eqb, eqb-true, leb-false, not-false}
+use borrow.Author.Tests.{eqb-true, leb-false, not-false}
 use Rattle.counting.proofs.Facts.{passed, chained, either_parts}
 use Rattle.grid.specs.Grid.{subcarriers}
 use Rattle.cell.specs.declared.Cell.{Cell}
-use Rattle.cell.specs.Bitmap.{own_buffer, bitmap_in}
+use Rattle.cell.specs.Bitmap.{own_buffer}
+use Rattle.std.specs.Prelude.{Result, Ok, IsErrAnd}
+use Rattle.std.proofs.lemmas.Result.{err_from_is_err_and}
+use Rattle.refusals.specs.declared.Refusal.{Refusal}
+use Rattle.refusals.specs.Refusal.{number_of}
+use Rattle.refusals.proofs.Numbers.{stands}
+use Rattle.cell.specs.declared.Verdict.{Verdict}
+use Rattle.cell.specs.Judge.{cell_refusal}
+use Rattle.cell.specs.Quick.{VerdictOn}
 use Rattle.sending.specs.CopyOrder.{carried}
 use Rattle.sending.proofs.CopyOrder.{carried_below}
 use Rattle.elements.specs.Elements.{count_of}
 use Rattle.elements.proofs.Laws.{count_le}
-use Rattle.spans.specs.declared.Pattern.{Pattern}
 use Rattle.downlink.specs.declared.Burst.{Burst}
-use Rattle.downlink.specs.declared.Ready.{Ready}
 use Rattle.downlink.specs.Fits.{Fits}
 use Rattle.downlink.specs.Mapping.{sent_subframes}
 use Rattle.cell.specs.Layout.{layout_of}
-use Rattle.downlink.specs.Quick.{ReadyFor}
+use Rattle.downlink.specs.Quick.{Judged}
+use Rattle.downlink.proofs.Judging.{by_cell, by_grant, well_formed}
 use Rattle.npdsch.specs.declared.NpdschGrant.{NpdschGrant}
-use Rattle.npdsch.specs.Refusals.{refusal_of}
+use Rattle.npdsch.specs.Refusals.{grant_refusal, refusal_of}
 use Rattle.npdsch.specs.Questions.{burst_of}
 use Rattle.transmitted.specs.declared.Call.{Call}
 use Rattle.transmitted.specs.Refusals.{codeword_bytes, late_refusal, call_refusal}
-use Rattle.transmitted.specs.Quick.{Prepared, CallFor}
+use Rattle.transmitted.specs.Quick.{Accepted, CallFor}
 use Rattle.transmitted.proofs.Going.{going}
 
 -- what 14 and 15 leave
@@ -58,80 +65,85 @@ module _ (c : Cell) (anchor other : List ℕ) (g : NpdschGrant) (i : ℕ) (outsi
   abbrev refusal : ℕ
   refusal = call_refusal c anchor other g i outside bits wrong level
 
-  abbrev Judged : Call → Type 0
-  Judged k = CallFor c anchor other g i outside bits wrong level k
+  -- at the exit of a `?`
+  refused : (e : Refusal) (r : Result Call Refusal) → IsErrAnd r (λ y. y ≡ e) → number_of e ≡ refusal
+      → CallFor c anchor other g i outside bits wrong level r
+  refused e r h f =
+      let p = err_from_is_err_and r h in
+      rw (p.1, p.2) (record { number = f; accepted = tt })
 
-  refused_by : (k : Call) → (k.no ≡ 0 → ⊥) → k.no ≡ refusal → Judged k
-  refused_by k n e = record { number = e; prepared = λ z. absurd (n z); shift = λ z. absurd (n z); going = λ z. absurd (n z) }
+  by_question : (e : Refusal) → number_of e ≡ refusal_of c anchor other g → number_of e ≡ refusal
+  unfolding call_refusal
+  by_question e h = stands e _ _ h
 
-  module _ (q : Ready) (p : Pattern) (laid : Bool) (r : ReadyFor c (bitmap_in c.config (own_buffer c.config anchor other)) (refusal_of c anchor other g) (burst_of c.config g) q p laid) where
-    -- the chain by its first part
-    by_first : (t : Bool) → eqb (refusal_of c anchor other g) 0 ≡ t
-        → refusal ≡ cond t (late_refusal (burst_of c.config g) i outside bits wrong level) (refusal_of c anchor other g)
-    unfolding call_refusal
-    by_first t e = ap (λ (t : Bool). cond t (late_refusal (burst_of c.config g) i outside bits wrong level) (refusal_of c anchor other g)) e
+  pub cell_refused : (e : Refusal) (r : Result Call Refusal) → IsErrAnd r (λ y. y ≡ e)
+      → number_of e ≡ cell_refusal c (own_buffer c.config anchor other) → CallFor c anchor other g i outside bits wrong level r
+  cell_refused e r h f = refused e r h (by_question e (by_cell c anchor other (grant_refusal g) e f))
 
-    by_grant : (q.no ≡ 0 → ⊥) → q.no ≡ refusal
-    by_grant n = r.number ∙ sym (by_first false (ne_eqb (refusal_of c anchor other g) 0 (λ z. n (r.number ∙ z))))
+  module _ (v : Verdict) (j : VerdictOn c (own_buffer c.config anchor other) (Ok v)) where
+    pub grant_refused : (e : Refusal) (r : Result Call Refusal) → IsErrAnd r (λ y. y ≡ e) → number_of e ≡ grant_refusal g
+        → CallFor c anchor other g i outside bits wrong level r
+    grant_refused e r h f = refused e r h (by_question e (f ∙ sym (by_grant c anchor other v j (grant_refusal g))))
 
-    by_late : q.no ≡ 0 → late_refusal (burst_of c.config g) i outside bits wrong level ≡ refusal
-    by_late z = sym (by_first true (eq-eqb (refusal_of c anchor other g) 0 (sym r.number ∙ z)))
+    module _ (d : Burst) (a : Judged c.config (grant_refusal g) (burst_of c.config g) (Ok d)) where
+      fits : Fits d
+      fits = a.fits (well_formed c anchor other v j)
 
-    late_is : (n : ℕ) → n ≡ late_refusal q.burst i outside bits wrong level → q.no ≡ 0 → n ≡ late_refusal (burst_of c.config g) i outside bits wrong level
-    late_is n e z = e ∙ ap (λ (b : Burst). late_refusal b i outside bits wrong level) (r.burst z)
+      late_is : late_refusal d i outside bits wrong level ≡ refusal
+      unfolding call_refusal
+      late_is =
+          let z : refusal_of c anchor other g ≡ 0 = by_grant c anchor other v j (grant_refusal g) ∙ sym a.number in
+          ap (λ (b : Burst). late_refusal b i outside bits wrong level) a.burst ∙ sym (rw z refl)
 
-    pub refused_early : (k : Call) → k.no ≡ q.no → (q.no ≡ 0 → ⊥) → Judged k
-    refused_early k e n = refused_by k (λ z. n (sym e ∙ z)) (e ∙ by_grant n)
+      pub late_refused : (e : Refusal) (r : Result Call Refusal) → IsErrAnd r (λ y. y ≡ e)
+          → number_of e ≡ late_refusal d i outside bits wrong level → CallFor c anchor other g i outside bits wrong level r
+      late_refused e r h f = refused e r h (f ∙ late_is)
 
-    pub refused_late : (k : Call) (n : ℕ) → n ≡ late_refusal q.burst i outside bits wrong level → q.no ≡ 0 → k.no ≡ n → (n ≡ 0 → ⊥) → Judged k
-    refused_late k n e z f h = refused_by k (λ y. h (sym f ∙ y)) (f ∙ late_is n e z ∙ by_late z)
+      abbrev b : Burst
+      b = burst_of c.config g
 
-    module _ (z : q.no ≡ 0) where
-      fits : Fits (burst_of c.config g)
-      fits = subst Fits (r.burst z) (r.answerable.fits z)
+      own_fits : Fits b
+      own_fits = subst Fits a.burst fits
 
       abbrev W : ℕ
       W = count_of (layout_of c.config) 0 subcarriers
 
       abbrev unit : ℕ
-      unit = carried (burst_of c.config g).consecutive 1 (burst_of c.config g).codeword i
+      unit = carried b.consecutive 1 b.codeword i
 
       -- the carried subframe's symbols are some of the codeword's
-      within : unit * W + W ≤ (burst_of c.config g).codeword * W
+      within : unit * W + W ≤ b.codeword * W
       within =
-          let below : unit < (burst_of c.config g).codeword =
-          carried_below (burst_of c.config g).consecutive 1 (burst_of c.config g).codeword i fits.consecutive (omega arith) (mod-one (burst_of c.config g).codeword) fits.codeword in
+          let below : unit < b.codeword = carried_below b.consecutive 1 b.codeword i own_fits.consecutive (omega arith) (mod-one b.codeword) own_fits.codeword in
           omega (arith, suc-mul unit W, mul-le-mul_right W below)
 
-      prepared_by : late_refusal (burst_of c.config g) i outside bits wrong level ≡ 0 → Prepared (layout_of c.config) (unit * W) bits
-      prepared_by e =
-          let p = late_passed (burst_of c.config g) i outside bits wrong level e in
+      accepted_at : late_refusal b i outside bits wrong level ≡ 0 → Accepted c anchor other g i bits (record { first = unit * W; v = c.config.identity % 6 })
+      accepted_at e =
+          let p = late_passed b i outside bits wrong level e in
           record {
-            valid = fits.layout;
-            room = omega (arith, within, p.whole);
-            small = omega (arith, within, mul-le-mul fits.codeword_small (count_le (layout_of c.config) 0 subcarriers));
+            prepared = record {
+              valid = own_fits.layout;
+              room = omega (arith, within, p.whole);
+              small = omega (arith, within, mul-le-mul own_fits.codeword_small (count_le (layout_of c.config) 0 subcarriers));
+            };
+            shift = refl;
+            going = λ x. going c anchor other g v j i x p.sent;
           }
 
-      accepted_at : late_refusal (burst_of c.config g) i outside bits wrong level ≡ 0 → Judged (record { no = 0; first = unit * W; v = c.config.identity % 6 })
-      accepted_at e = record {
-        number = sym e ∙ by_late z;
-        prepared = λ y. prepared_by e;
-        shift = λ y. refl;
-        going = λ y x. going c anchor other g (refusal_of c anchor other g) q p laid r z i x (late_passed (burst_of c.config g) i outside bits wrong level e).sent;
-      }
-
-    pub accepted : (n w u : ℕ) → q.no ≡ 0 → n ≡ late_refusal q.burst i outside bits wrong level → n ≡ 0
-        → w ≡ count_of q.burst.layout q.burst.low q.burst.width → u ≡ carried q.burst.consecutive 1 q.burst.codeword i
-        → Judged (record { no = 0; first = u * w; v = q.burst.layout.v })
-    accepted n w u z e h hw hu =
-        let b = r.burst z in
-        let m : u * w ≡ unit z * W z = ap₂ (λ (x y : ℕ). x * y)
-        (hu ∙ ap (λ (d : Burst). carried d.consecutive 1 d.codeword i) b) (hw ∙ ap (λ (d : Burst). count_of d.layout d.low d.width) b) in
-        subst Judged (sym (λ k. record { no = 0; first = m k; v = (b k).layout.v })) (accepted_at z (sym (late_is n e z) ∙ h))
+      pub accepted : (w u : ℕ) → 0 ≡ late_refusal d i outside bits wrong level → w ≡ count_of d.layout d.low d.width
+          → u ≡ carried d.consecutive 1 d.codeword i → CallFor c anchor other g i outside bits wrong level (Ok (record { first = u * w; v = d.layout.v }))
+      accepted w u e hw hu =
+          let m : u * w ≡ unit * W = ap₂ (λ (x y : ℕ). x * y)
+          (hu ∙ ap (λ (d : Burst). carried d.consecutive 1 d.codeword i) a.burst) (hw ∙ ap (λ (d : Burst). count_of d.layout d.low d.width) a.burst) in
+          record {
+            number = e ∙ late_is;
+            accepted = subst (Accepted c anchor other g i bits) (sym (λ k. record { first = m k; v = (a.burst k).layout.v }))
+                (accepted_at (sym (ap (λ (b : Burst). late_refusal b i outside bits wrong level) a.burst) ∙ sym e));
+          }
 
   -- an accepted call passed 14 and 15
-  pub call_passed : (k : Call) → Judged k → k.no ≡ 0 → Passed (burst_of c.config g) i outside bits wrong
+  pub call_passed : (k : Call) → CallFor c anchor other g i outside bits wrong level (Ok k) → Passed (burst_of c.config g) i outside bits wrong
   unfolding call_refusal
-  call_passed k j z =
+  call_passed k j =
       late_passed (burst_of c.config g) i outside bits wrong level
-      (chained (refusal_of c anchor other g) (late_refusal (burst_of c.config g) i outside bits wrong level) (sym j.number ∙ z)).1
+      (chained (refusal_of c anchor other g) (late_refusal (burst_of c.config g) i outside bits wrong level) (sym j.number)).1

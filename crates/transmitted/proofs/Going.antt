@@ -13,6 +13,9 @@ use Rattle.grid.specs.Grid.{subcarriers}
 use Rattle.cell.specs.declared.Cell.{Cell}
 use Rattle.cell.specs.Bitmap.{own_buffer, bitmap_in}
 use Rattle.cell.specs.Usable.{period, usable}
+use Rattle.std.specs.Prelude.{Ok}
+use Rattle.cell.specs.declared.Verdict.{Verdict}
+use Rattle.cell.specs.Quick.{VerdictOn}
 use Rattle.subframes.proofs.Left.{left_again}
 use Rattle.cell.proofs.Showing.{same_test}
 use Rattle.sending.specs.CopyOrder.{carried}
@@ -20,12 +23,10 @@ use Rattle.sending.specs.Sending.{Content, content_at}
 use Rattle.elements.specs.declared.Layout.{Layout}
 use Rattle.elements.specs.Elements.{count_of, used, number_of, kind_of}
 use Rattle.elements.proofs.Laws.{used_listed}
-use Rattle.spans.specs.declared.Pattern.{Pattern}
 use Rattle.downlink.specs.declared.Burst.{Burst}
-use Rattle.downlink.specs.declared.Ready.{Ready}
 use Rattle.downlink.specs.Mapping.{sent_subframes, first_of, sending_of}
 use Rattle.cell.specs.Layout.{layout_of}
-use Rattle.downlink.specs.Quick.{content_in, ReadyFor}
+use Rattle.downlink.specs.Quick.{content_in}
 use Rattle.npdsch.specs.declared.NpdschGrant.{NpdschGrant}
 use Rattle.npdsch.specs.Questions.{burst_of}
 use Rattle.symbol.specs.declared.Outgoing.{Outgoing}
@@ -52,15 +53,14 @@ module _ (c : Cell) (anchor other : List ℕ) (g : NpdschGrant) where
   unfolding content_in goes_in
   goes_in_lem i x = goes_by (used (layout_of c.config) 0 subcarriers x) _ _
 
-  pub going : (refusal : ℕ) (q : Ready) (p : Pattern) (laid : Bool) → ReadyFor c (bitmap_in c.config (own_buffer c.config anchor other)) refusal (burst_of c.config g) q p laid → q.no ≡ 0
-      → (i x : ℕ) → i < sent_subframes (burst_of c.config g)
+  pub going : (v : Verdict) → VerdictOn c (own_buffer c.config anchor other) (Ok v) → (i x : ℕ) → i < sent_subframes (burst_of c.config g)
       → goes_in (layout_of c.config) (carried (burst_of c.config g).consecutive 1 (burst_of c.config g).codeword i * count_of (layout_of c.config) 0 subcarriers) x ≡ outgoing_of c anchor other g i x
   unfolding outgoing_of
-  going refusal q p laid r z i x h =
+  going v j i x h =
       let m = bitmap_in c.config (own_buffer c.config anchor other) in
-      let s = r.answerable.searchable z in
-      let same = same_test c m p laid (r.shows z) (r.lays z) in
-      let repeats = subst (λ (u : ℕ → Bool). (t : ℕ) → u (t + period) ≡ u t) same (left_again p laid c.messages s.on) in
+      let s = j.accepted.searchable in
+      let same = same_test c m v.pattern v.laid j.accepted.shows j.accepted.laid in
+      let repeats = subst (λ (u : ℕ → Bool). (t : ℕ) → u (t + period) ≡ u t) same (left_again v.pattern v.laid c.messages s.on) in
       sym (ap goes_out
       (use_at (usable c m) period repeats (subst (λ (u : ℕ → Bool). 0 < rank u period) same s.some) (burst_of c.config g) i x h)
       ∙ goes_in_lem i x)

@@ -1,5 +1,8 @@
 -- For the code alone. What the code keeps of a judged call.
 use Rattle.std.specs.Prelude.{Bool, cond, List, ◌≡◌, ℕ, ◌+◌, ◌*◌, ◌%◌, ◌^◌, ◌≤◌, ◌<◌, Float, length}
+use Rattle.std.specs.Prelude.{Result, IfOk}
+use Rattle.refusals.specs.declared.Refusal.{Refusal}
+use Rattle.refusals.specs.Refusal.{refused_by}
 use Rattle.grid.specs.Grid.{subcarriers}
 use Rattle.cell.specs.declared.Cell.{Cell}
 use Rattle.sending.specs.Sending.{Content}
@@ -26,11 +29,15 @@ pub record Prepared (g : Layout) (first : ℕ) (bits : List ℕ) : Type 0 where
   pub room : first + count_of g 0 subcarriers ≤ 4 * length bits
   pub small : first < 2 ^ 32
 
--- a call judged: its refusal, and for an accepted one what goes out
+-- what goes out by an accepted call
+pub record Accepted (c : Cell) (anchor other : List ℕ) (g : NpdschGrant) (i : ℕ) (bits : List ℕ) (k : Call) : Type 0 where
+  pub prepared : Prepared (layout_of c.config) k.first bits
+  pub shift : k.v ≡ c.config.identity % 6
+  pub going : (x : ℕ) → goes_in (layout_of c.config) k.first x ≡ outgoing_of c anchor other g i x
+
+-- a call judged
 pub record CallFor (c : Cell) (anchor other : List ℕ) (g : NpdschGrant) (i : ℕ) (outside : Bool) (bits : List ℕ)
     (wrongOutput : Bool)
-    (level : Float) (r : Call) : Type 0 where
-  pub number : r.no ≡ call_refusal c anchor other g i outside bits wrongOutput level
-  pub prepared : r.no ≡ 0 → Prepared (layout_of c.config) r.first bits
-  pub shift : r.no ≡ 0 → r.v ≡ c.config.identity % 6
-  pub going : r.no ≡ 0 → (x : ℕ) → goes_in (layout_of c.config) r.first x ≡ outgoing_of c anchor other g i x
+    (level : Float) (r : Result Call Refusal) : Type 0 where
+  pub number : refused_by r ≡ call_refusal c anchor other g i outside bits wrongOutput level
+  pub accepted : IfOk r (Accepted c anchor other g i bits)

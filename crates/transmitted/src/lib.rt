@@ -2,6 +2,7 @@
 #![tactic(auto)]
 
 ghost use Rattle.std.specs.Prelude.{◌≡◌, ◌%◌, ◌^◌, ◌<◌};
+ghost use Rattle.refusals.specs.Refusal.{refused_by};
 ghost use Rattle.grid.specs.Grid.{subcarriers, symbols, slots, element_of};
 ghost use Rattle.elements.specs.Elements.{count_of};
 ghost use Rattle.elements.specs.Scaffold.{Valid};
@@ -13,25 +14,18 @@ ghost use Rattle.transmitted.specs.Element.{element_answer};
 ghost use Rattle.transmitted.specs.Quick.{goes_in, CallFor};
 
 use cell::{Cell, CellConfig};
-use downlink::Burst;
+use downlink::{Burst, DownlinkGrant};
 use elements::{ElementUse, Layout};
 use grid::Grid;
 use npdsch::NpdschGrant;
+use refusals::Refusal;
 use symbol::{Element, Outgoing};
 
-// A call judged: the refusal number, and for an accepted one the codeword symbol that goes out first in the subframe,
-// and the shift of the references.
+// An accepted call: the codeword symbol that goes out first in the subframe, and the shift of the references.
 #[derive(Clone, Copy)]
 pub struct Call {
-    pub no: u64,
     pub first: u64,
     pub v: u64,
-}
-
-fn refused(no: u64) -> Call
-    ensures { result.no ≡ no }
-{
-    Call { no, first: 0, v: 0 }
 }
 
 // Refusals 14 to 17; w is the number of used elements.
@@ -43,24 +37,24 @@ fn late_refusal(
     bits: &[u8],
     wrong: bool,
     level: f32,
-) -> u64
+) -> Result<(), Refusal>
     requires { Fits b × (w ≡ count_of b.layout b.low b.width) }
-    ensures { result ≡ late_refusal b i outside bits.now wrong level }
+    ensures { refused_by result ≡ late_refusal b i outside bits.now wrong level }
 {
     if (i >= downlink::sent_subframes(b)) | outside {
-        return sending::NO_SUCH_PLACE;
+        return Err(Refusal::NoSuchPlace);
     }
     let codeword = b.codeword;
     if (bits.len() as u64 != (codeword * w + 3) / 4) | wrong {
-        return 15;
+        return Err(Refusal::Length);
     }
     if !symbol::in_range(level) {
-        return 16;
+        return Err(Refusal::Level);
     }
     if b.layout.nports == 2 {
-        return 17;
+        return Err(Refusal::TwoPorts);
     }
-    0
+    Ok(())
 }
 
 // The call judged, for the fill and for one element alike.
@@ -75,27 +69,19 @@ pub fn judged(
     bits: &[u8],
     wrong: bool,
     level: f32,
-) -> Call
+) -> Result<Call, Refusal>
     ensures { CallFor (lent_cell c si.now) anchor.now other.now g i outside
         bits.now wrong level result }
 {
-    let v = cell::judged_lent(c, si, anchor, other);
-    let q = npdsch::ready(v.no, c, g);
-    if q.no != 0 {
-        return refused(q.no);
-    }
-    let b = q.burst;
+    cell::judged_lent(c, si, anchor, other)?;
+    let b = g.judged(c)?;
     let w = downlink::used_elements(b);
-    let no = late_refusal(b, w, i, outside, bits, wrong, level);
-    if no != 0 {
-        return refused(no);
-    }
+    late_refusal(b, w, i, outside, bits, wrong, level)?;
     let unit = downlink::carried_by(b, i);
-    Call {
-        no: 0,
+    Ok(Call {
         first: unit * w,
         v: b.layout.v,
-    }
+    })
 }
 
 // The layout of a cell by its shift.
@@ -146,13 +132,14 @@ pub fn element_lent(
         ≡ element_answer (lent_cell c si.now) anchor.now other.now
         g i slot l k bits.now level }
 {
-    let inside = (slot < Grid::SLOTS) & ((l < Grid::SYMBOLS) & (k < Grid::SUBCARRIERS));
-    let call = judged(c, si, anchor, other, g, i, !inside, bits, false, level);
-    if call.no != 0 {
-        return Element::Refused(call.no);
+    let inside = downlink::is_inside(slot, l, k);
+    match judged(c, si, anchor, other, g, i, !inside, bits, false, level) {
+        Ok(call) => {
+            let o = outgoing(layout(c, call.v), call.first, slot, l, k);
+            symbol::answer(o, bits, level)
+        }
+        Err(refusal) => Element::Refused(refusal.number()),
     }
-    let o = outgoing(layout(c, call.v), call.first, slot, l, k);
-    symbol::answer(o, bits, level)
 }
 
 // The same on a cell, which lends its messages.

@@ -22,40 +22,25 @@ returns-then-i-sent_subframes c = simp (← c.sent_subframes.ensures.0, c.if-i-s
 pub returns-then-bits-codeword : goal.returns-then-bits-codeword
 unfolding late_refusal
 returns-then-bits-codeword c =
-    let p = c in
-    simp (← p.sent_subframes.ensures.0, p.if-i-sent_subframes.false, ← p.requires.1, c.if-bits-codeword.true)
+    simp (← c.sent_subframes.ensures.0, c.if-i-sent_subframes.false, ← c.requires.1, c.if-bits-codeword.true)
 
 pub returns-then-not-in_range : goal.returns-then-not-in_range
 unfolding late_refusal
 returns-then-not-in_range c =
-    let r = c in
-    let o = r in
-    let p = o in
-    simp (← p.sent_subframes.ensures.0, p.if-i-sent_subframes.false, ← p.requires.1, o.if-bits-codeword.false, ← r.in_range.ensures, c.if-not-in_range.true)
+    simp (← c.sent_subframes.ensures.0, c.if-i-sent_subframes.false, ← c.requires.1, c.if-bits-codeword.false, ← c.in_range.ensures, c.if-not-in_range.true)
 
 pub returns-then-b-eq2 : goal.returns-then-b-eq2
 unfolding late_refusal
 returns-then-b-eq2 c =
-    let e = c in
-    let r = e in
-    let o = r in
-    let p = o in
-    simp (← p.sent_subframes.ensures.0, p.if-i-sent_subframes.false, ← p.requires.1, o.if-bits-codeword.false, ← r.in_range.ensures, e.if-not-in_range.false, eq-eqb _ _ c.if-b-eq2.true)
+    simp (← c.sent_subframes.ensures.0, c.if-i-sent_subframes.false, ← c.requires.1, c.if-bits-codeword.false, ← c.in_range.ensures, c.if-not-in_range.false, eq-eqb _ _ c.if-b-eq2.true)
 
 pub returns : goal.returns
 unfolding late_refusal
 returns c =
-    let e = c in
-    let r = e in
-    let o = r in
-    let p = o in
-    simp (← p.sent_subframes.ensures.0, p.if-i-sent_subframes.false, ← p.requires.1, o.if-bits-codeword.false, ← r.in_range.ensures, e.if-not-in_range.false, ne_eqb _ _ c.if-b-eq2.false)
+    simp (← c.sent_subframes.ensures.0, c.if-i-sent_subframes.false, ← c.requires.1, c.if-bits-codeword.false, ← c.in_range.ensures, c.if-not-in_range.false, ne_eqb _ _ c.if-b-eq2.false)
 
 pub overflow_mul-codeword : goal.overflow_mul-codeword
 overflow_mul-codeword c = omega (arith, symbols c.before.before.before.before)
 
 pub overflow_add-codeword : goal.overflow_add-codeword
 overflow_add-codeword c = omega (arith, symbols c.before.before.before.before)
-
-pub in_range-requires : goal.in_range-requires
-in_range-requires c = tt

@@ -33,10 +33,10 @@ overflow_add-result c =
     omega (arith, c.requires.1, (ours c).1, (used_listed a.layout 0 subcarriers).below (element_of a.slot a.l a.k) (ours c).0, count_le a.layout 0 subcarriers)
 
 pub returns-then-kind-eq0 : goal.returns-then-kind-eq0
-returns-then-kind-eq0 c = let k = c in goes_silent _ _ _ _ (other k.before).0 (sym (other k.before).1) c.if-kind-eq0.true
+returns-then-kind-eq0 c = goes_silent _ _ _ _ (other c.before).0 (sym (other c.before).1) c.if-kind-eq0.true
 
 pub returns-in-Used : goal.returns-in-Used
 returns-in-Used c = goes_ours _ _ _ _ (ours c).0 (sym (ours c).1)
 
 pub returns-else-kind-eq0 : goal.returns-else-kind-eq0
-returns-else-kind-eq0 c = let k = c in goes_reference _ _ _ _ (other k.before).0 (sym (other k.before).1) c.if-kind-eq0.false
+returns-else-kind-eq0 c = goes_reference _ _ _ _ (other c.before).0 (sym (other c.before).1) c.if-kind-eq0.false
