@@ -2,17 +2,16 @@
 use mathlib.Core.Bool.{Bool, true, false, cond, ◌&&◌}
 use mathlib.Core.Path.{◌≡◌, refl}
 use Prim.Native.Nat.{ℕ}
-use lib.Dec.{eqb}
 use Rattle.spans.specs.declared.Pattern.{Pattern}
 use Rattle.spans.specs.Pattern.{allows}
 use Rattle.subframes.specs.Scaffold.{left_in}
 use Rattle.cell.specs.declared.Cell.{Cell}
 use Rattle.cell.specs.declared.Cause.{Cause}
 use Rattle.cell.specs.declared.Cause.TheVariants.{None, Npbch, Npss, Nsss, Sib1, Message, Bitmap}
-use Rattle.cell.specs.Usable.{none, anchor_cause, cause_number}
+use Rattle.cell.specs.Usable.{none, anchor_cause}
 use Rattle.cell.specs.Quick.{why_not_free, why_not, seen}
 
-by : (left message : Bool) (x : Cause) → eqb (cause_number (cond left None (cond message Message (cond (none x) Bitmap x)))) 0 ≡ left
+by : (left message : Bool) (x : Cause) → none (cond left None (cond message Message (cond (none x) Bitmap x))) ≡ left
 by true m x = refl
 by false true x = refl
 by false false None = refl
@@ -23,6 +22,15 @@ by false false Sib1 = refl
 by false false Message = refl
 by false false Bitmap = refl
 
-pub seen_none : (c : Cell) (p : Pattern) (laid : Bool) (t : ℕ) → eqb (cause_number (seen c p laid t)) 0 ≡ left_in p laid c.messages t
+pub seen_none : (c : Cell) (p : Pattern) (laid : Bool) (t : ℕ) → none (seen c p laid t) ≡ left_in p laid c.messages t
 unfolding seen why_not why_not_free
 seen_none c p laid t = by (left_in p laid c.messages t) (laid && allows p t) (anchor_cause c.config t)
+
+pub some_cause : (x : Cause) → (x ≡ None → ⊥) → none x ≡ false
+some_cause None n = absurd (n refl)
+some_cause Npbch n = refl
+some_cause Npss n = refl
+some_cause Nsss n = refl
+some_cause Sib1 n = refl
+some_cause Message n = refl
+some_cause Bitmap n = refl

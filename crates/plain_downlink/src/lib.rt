@@ -5,12 +5,12 @@
 ghost use Rattle.std.specs.Prelude.{Bool, ◌≡◌, ◌+◌, ◌*◌, ◌^◌, ◌≤◌, ◌<◌};
 ghost use Rattle.counting.specs.Counting.{select};
 ghost use Rattle.sending.specs.Answer.{place_at};
-ghost use Rattle.grid.specs.Grid.{subcarriers, symbols, slots, elements, element_of};
+ghost use Rattle.grid.specs.Grid.{elements};
 ghost use Rattle.messages.specs.Messages.{all_periods};
 ghost use Rattle.subframes.specs.Subframes.{messages_in};
 ghost use Rattle.subframes.specs.Scaffold.{left_in, Laid, Searchable};
 ghost use Rattle.cell.specs.Quick.{lent_cell};
-ghost use Rattle.elements.specs.Elements.{nrs_on, crs_on, reference, used, count_of, element_at, number_of};
+ghost use Rattle.elements.specs.Elements.{nrs_on, crs_on, reference, used, count_of, element_at};
 ghost use Rattle.elements.specs.Scaffold.{Valid, Part};
 ghost use Rattle.downlink.specs.Fits.{Fits};
 ghost use Rattle.downlink.specs.Quick.{Answerable, posed};
@@ -20,7 +20,7 @@ ghost use Rattle.npdsch.specs.Questions as npdsch;
 ghost use Rattle.npdcch.specs.Questions as npdcch;
 ghost use Rattle.plain_downlink.specs.Places.{places_in};
 
-use cell::{Cell, CellConfig};
+use cell::{Cause, Cell, CellConfig};
 use downlink::{Burst, DownlinkPlace, Ready};
 use elements::Layout;
 use grid::Grid;
@@ -28,8 +28,8 @@ use npdcch::NpdcchGrant;
 use npdsch::NpdschGrant;
 use spans::Pattern;
 
-// A row is a symbol of a slot.
-const ROWS: u64 = Grid::SLOTS * Grid::SYMBOLS;
+// A time after which the usable subframes repeat; at least one in it is usable.
+const ALL_PERIODS: u64 = 40960;
 
 // Where a walk ends: the refusal number, and how many places there are.
 #[derive(Clone, Copy)]
@@ -82,30 +82,17 @@ fn is_reference(g: Layout, l: u64, k: u64) -> bool
     is_nrs(g, l, near, far) | is_crs(g, l, near, far)
 }
 
-// The element at symbol l and subcarrier k of a slot is used: outside the control region, no reference, and on one of
-// `width` subcarriers from `low` on.
-fn is_used(g: Layout, low: u64, width: u64, slot: u64, l: u64, k: u64) -> bool
-    requires { Valid g × Part low width × (slot < slots) × (l < symbols) × (k < subcarriers) }
-    ensures { result ≡ used g low width (element_of slot l k) }
+// Element x is used: in the grid, outside the control region, no reference, and on one of `width` subcarriers from
+// `low` on.
+fn is_used(g: Layout, low: u64, width: u64, x: u64) -> bool
+    requires { Valid g × Part low width }
+    ensures { result ≡ used g low width x }
 {
-    let control = (slot == 0) & (l < g.control);
-    let eligible = !control & !is_reference(g, l, k);
+    let l = Grid::symbol(x);
+    let k = Grid::subcarrier(x);
+    let control = (Grid::slot(x) == 0) & (l < g.control);
+    let eligible = (x < Grid::ELEMENTS) & (!control & !is_reference(g, l, k));
     eligible & ((low <= k) & (k < low + width))
-}
-
-// How many elements of a row, symbol l of a slot, are used.
-fn count_in_row(g: Layout, low: u64, width: u64, slot: u64, l: u64) -> u64
-    requires { Valid g × Part low width × (slot < slots) × (l < symbols) }
-    ensures { number_of g low width (element_of slot l 0) + result
-        ≡ number_of g low width (element_of slot l subcarriers) }
-{
-    let mut n: u64 = 0;
-    let mut k: u64 = 0;
-    while k < Grid::SUBCARRIERS {
-        n += is_used(g, low, width, slot, l, k) as u64;
-        k += 1;
-    }
-    n
 }
 
 // How many elements of a subframe are used.
@@ -113,50 +100,20 @@ fn count_used(g: Layout, low: u64, width: u64) -> u64
     requires { Valid g × Part low width }
     ensures { (result ≡ count_of g low width) × (0 < result) × (result ≤ elements) }
 {
-    let mut n: u64 = 0;
-    let mut row: u64 = 0;
-    while row < ROWS {
-        n += count_in_row(g, low, width, row / Grid::SYMBOLS, row % Grid::SYMBOLS);
-        row += 1;
-    }
-    n
+    (0..Grid::ELEMENTS)
+        .filter(|&x| is_used(g, low, width, x))
+        .count() as u64
 }
 
-// The j-th used element of a row, which has more than j.
-fn used_in_row(g: Layout, low: u64, width: u64, slot: u64, l: u64, j: u64) -> u64
-    requires { Valid g × Part low width × (slot < slots) × (l < symbols)
-        × (number_of g low width (element_of slot l 0) + j < number_of g low width (element_of slot l subcarriers)) }
-    ensures { result ≡ element_at g low width (number_of g low width (element_of slot l 0) + j) }
-{
-    let mut k: u64 = 0;
-    let mut left = j;
-    loop {
-        let d = is_used(g, low, width, slot, l, k) as u64;
-        if left < d {
-            return Grid::element(slot, l, k);
-        }
-        left -= d;
-        k += 1;
-    }
-}
-
-// The e-th used element of a subframe, row by row.
+// The e-th used element of a subframe.
 fn used_at(g: Layout, low: u64, width: u64, e: u64) -> u64
     requires { Valid g × Part low width × (e < count_of g low width) }
     ensures { result ≡ element_at g low width e }
 {
-    let mut row: u64 = 0;
-    let mut left = e;
-    loop {
-        let slot = row / Grid::SYMBOLS;
-        let l = row % Grid::SYMBOLS;
-        let n = count_in_row(g, low, width, slot, l);
-        if left < n {
-            return used_in_row(g, low, width, slot, l, left);
-        }
-        left -= n;
-        row += 1;
-    }
+    (0..Grid::ELEMENTS)
+        .filter(|&x| is_used(g, low, width, x))
+        .nth(e as usize)
+        .unwrap()
 }
 
 // No cause stands against subframe t.
@@ -164,7 +121,7 @@ fn is_usable(c: CellConfig, si: &[u64], p: Pattern, laid: bool, t: u64) -> bool
     requires { Laid p laid (messages_in si.now) }
     ensures { result ≡ left_in p laid (messages_in si.now) t }
 {
-    cell::cause_number(cell::why(c, si, p, laid, t)) == 0
+    matches!(cell::why(c, si, p, laid, t), Cause::None)
 }
 
 // The usable subframe before which exactly k usable ones lie, counting from `from`.
@@ -172,16 +129,10 @@ fn usable_at(c: CellConfig, si: &[u64], p: Pattern, laid: bool, from: u64, k: u6
     requires { Searchable p laid (messages_in si.now) × (from < 2 ^ 31) × (k ≤ 2 ^ 21) }
     ensures { result ≡ select (left_in p laid (messages_in si.now)) all_periods from k }
 {
-    let mut t = from;
-    let mut ahead = k;
-    loop {
-        let d = is_usable(c, si, p, laid, t) as u64;
-        if ahead < d {
-            return t;
-        }
-        ahead -= d;
-        t += 1;
-    }
+    (from..from + (k + 1) * ALL_PERIODS)
+        .filter(|&t| is_usable(c, si, p, laid, t))
+        .nth(k as usize)
+        .unwrap()
 }
 
 // The place of a position, and the symbol there.

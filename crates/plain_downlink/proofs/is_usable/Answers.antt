@@ -1,19 +1,15 @@
-use mathlib.Core.Path.{ap, ◌∙◌}
-use Prim.Native.Nat.{ℕ}
-use lib.Dec.{eqb}
-use Rattle.cell.specs.Usable.{cause_number}
+use mathlib.Core.Path.{sym, ap, ◌∙◌}
+use Rattle.cell.specs.Usable.{none}
 use Rattle.cell.specs.Quick.{lent_cell}
-use Rattle.plain_downlink.proofs.Seen.{seen_none}
+use Rattle.plain_downlink.proofs.Seen.{seen_none, some_cause}
 use Rattle.plain_downlink.proofs.is_usable.Goals as goal
 
-pub why-requires : goal.why-requires
-why-requires c = c.requires
+pub returns-in-None : goal.returns-in-None
+returns-in-None c =
+    let a = c.args in
+    ap none (sym c.in-None.is ∙ c.why.ensures) ∙ seen_none (lent_cell a.c a.si.now) a.p a.laid a.t
 
-pub cause_number-requires : goal.cause_number-requires
-cause_number-requires c = tt
-
-pub returns : goal.returns
-returns c =
-    let w = c in
-    let a = w.args in
-    ap (λ (n : ℕ). eqb n 0) (c.cause_number.ensures ∙ ap cause_number w.why.ensures) ∙ seen_none (lent_cell a.c a.si.now) a.p a.laid a.t
+pub returns-in_default : goal.returns-in_default
+returns-in_default c =
+    let a = c.args in
+    sym (some_cause c.why.result c.in_default.not-None) ∙ ap none c.why.ensures ∙ seen_none (lent_cell a.c a.si.now) a.p a.laid a.t
