@@ -1,2 +1,1 @@
-pub mod SlotSteps
 pub mod Clear

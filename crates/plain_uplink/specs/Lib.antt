@@ -1,4 +1,3 @@
 -- Interface: none. All of it is for the code alone.
 pub mod Obstacles
-pub mod Elements
 pub mod Places

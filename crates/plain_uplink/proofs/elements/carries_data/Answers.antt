@@ -1,25 +1,14 @@
-use mathlib.Core.Path.{refl, sym, ◌∙◌}
-use borrow.Author.Tests.{lt-ltb}
-use Rattle.grid.specs.Grid.{symbols}
-use Rattle.uplink.proofs.Lines.{data_at}
+use mathlib.Core.Path.{refl}
+use native.Mathlib.Omega.{arith}
+use Rattle.uplink.specs.Elements.{carries_data}
 use Rattle.plain_uplink.proofs.elements.carries_data.Goals as goal
 
-pub is_reference-requires : goal.is_reference-requires
-is_reference-requires c = c.requires.0
+pub nonzero_div-l : goal.nonzero_div-l
+nonzero_div-l c = omega (arith, c.requires.tones, c.requires.within_tones)
 
-pub returns-then-is_reference : goal.returns-then-is_reference
-returns-then-is_reference c =
-    let s = c in
-    sym (data_at s.args.s s.requires.0 s.args.l s.args.k s.requires.2
-    ∙ (rw (lt-ltb s.args.l symbols s.requires.1, sym c.is_reference.ensures ∙ c.if-is_reference.true) refl))
-
-pub is_granted-requires : goal.is_granted-requires
-is_granted-requires c = c.requires.0
+pub nonzero_rem-k : goal.nonzero_rem-k
+nonzero_rem-k c = omega (arith, c.requires.tones, c.requires.within_tones)
 
 pub returns : goal.returns
-returns c =
-    let r = c in
-    let s = r in
-    c.is_granted.ensures
-    ∙ sym (data_at s.args.s s.requires.0 s.args.l s.args.k s.requires.2
-    ∙ (rw (lt-ltb s.args.l symbols s.requires.1, sym r.is_reference.ensures ∙ c.if-is_reference.false) refl))
+unfolding carries_data
+returns c = rw (c.is_reference.ensures, c.is_granted.ensures) refl
