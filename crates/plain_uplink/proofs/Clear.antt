@@ -1,5 +1,5 @@
 -- The obstacles of a shape are the windows that it is asked beside: they block the groups that overlap one.
-use mathlib.Core.Bool.{Bool, true, false, cond, not, ◌&&◌}
+use mathlib.Core.Bool.{Bool, true, false, cond, not, ◌&&◌, ◌||◌}
 use mathlib.Core.Path.{◌≡◌, refl, sym, ap, ap₂, subst, ◌∙◌}
 use Prim.Native.Nat.{ℕ, ◌+◌, ◌*◌}
 use Rattle.uplink.specs.declared.Shape.{Shape}
@@ -12,7 +12,16 @@ use Rattle.nprach.proofs.Spaced.{accepted_windows}
 use Rattle.postponed.specs.Beside.{refusal_beside, open_beside, AtSpacing}
 use Rattle.postponed.proofs.Beside.{open_repeats}
 use Rattle.plain_uplink.specs.declared.obstacles.Obstacles.{Obstacles}
-use Rattle.plain_uplink.specs.Obstacles.{no_obstacle, obstacle_of, obstacles_of, obstacles_on, blocks, clear_of}
+use Rattle.std.specs.Prelude.{Some, None}
+use Rattle.plain_uplink.specs.Obstacles.{obstacle_of, obstacles_of, obstacles_on, blocks, clear_of}
+
+-- none of four, by pairs
+none_of : (x y z w : Bool) → not (x || (y || (z || (w || false)))) ≡ ((not x && not y) && (not z && not w))
+none_of true y z w = refl
+none_of false true z w = refl
+none_of false false true w = refl
+none_of false false false true = refl
+none_of false false false false = refl
 
 module _ (ms a n : ℕ) where
   one_blocks : (read : Bool) (w : Window) (u : ℕ) → blocks (obstacle_of ms a n read w) (ms * u + ms) ≡ meets ms a n read w u
@@ -20,14 +29,15 @@ module _ (ms a n : ℕ) where
   one_blocks read w u = by (read && shares_tone a n w)
     where
       by : (b : Bool)
-          → blocks (cond b (record { stands = true; start = w.start; period = w.period; reach = reach ms w }) no_obstacle) (ms * u + ms) ≡ (b && overlaps ms w u)
+          → blocks (cond b (Some (record { start = w.start; period = w.period; reach = reach ms w })) None) (ms * u + ms) ≡ (b && overlaps ms w u)
       by true = refl
       by false = refl
 
   pub clear_is : (ws : Windows) (u : ℕ) → clear_of (obstacles_of ms a n ws) u ≡ is_clear ms a n ws u
   unfolding clear_of is_clear
   clear_is ws u =
-      ap₂ ◌&&◌
+      none_of _ _ _ _
+      ∙ ap₂ ◌&&◌
       (ap₂ (λ (x y : Bool). not x && not y) (one_blocks (is_read ws 1) ws.w1 u) (one_blocks (is_read ws 2) ws.w2 u))
       (ap₂ (λ (x y : Bool). not x && not y) (one_blocks (is_read ws 3) ws.w3 u) (one_blocks (is_read ws 4) ws.w4 u))
 

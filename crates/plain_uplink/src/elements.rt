@@ -29,7 +29,9 @@ pub fn slot_data(s: Shape) -> u64
     requires { Fits s }
     ensures { (result ≡ slot_data s) × (0 < result) × (result < 2 ^ 19) }
 {
-    (0..UplinkGrid::SYMBOLS * s.subcarriers).filter(|&x| carries_data(s, x)).count() as u64
+    (0..UplinkGrid::SYMBOLS * s.subcarriers)
+        .filter(|&x| carries_data(s, x))
+        .count() as u64
 }
 
 // The e-th element that carries data.

@@ -6,7 +6,7 @@ use native.Mathlib.Omega.{arith}
 use Rattle.grid.specs.Grid.{elements}
 use Rattle.elements.specs.Elements.{used, count_of}
 use Rattle.elements.proofs.Laws.{count_some, count_le}
-use Rattle.ranges.proofs.Ranges.{range_counts}
+use Rattle.chains.proofs.Ranges.{range_counts}
 use Rattle.plain_downlink.proofs.count_used.Goals as goal
 
 pub returns : goal.returns

@@ -16,7 +16,7 @@ use Rattle.messages.specs.Messages.{all_periods}
 use Rattle.subframes.specs.Subframes.{messages_in}
 use Rattle.subframes.specs.Scaffold.{left_in, Searchable}
 use Rattle.subframes.proofs.Left.{left_again}
-use Rattle.ranges.proofs.Ranges.{period_selects}
+use Rattle.chains.proofs.Ranges.{period_selects}
 use Rattle.plain_downlink.proofs.usable_at.Goals as goal
 
 -- the subframe that is searched for

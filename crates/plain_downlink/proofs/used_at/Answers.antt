@@ -7,7 +7,7 @@ use Rattle.std.specs.Prelude.{Some}
 use mathlib.Core.Path.{◌≡◌, refl, sym, ◌∙◌}
 use Rattle.grid.specs.Grid.{elements}
 use Rattle.elements.specs.Elements.{used, element_at}
-use Rattle.ranges.proofs.Ranges.{range_selects}
+use Rattle.chains.proofs.Ranges.{range_selects}
 use Rattle.plain_downlink.proofs.used_at.Goals.{After-nth}
 use Rattle.plain_downlink.proofs.used_at.Goals as goal
 

@@ -8,7 +8,7 @@ use mathlib.Core.Path.{◌≡◌, refl, sym, ap, ◌∙◌}
 use native.Mathlib.Omega.{arith}
 use Rattle.grid.specs.Grid.{uplink_elements, uplink_symbol_of, uplink_subcarrier_of}
 use Rattle.uplink.specs.Elements.{carries_data, slot_data, element_at}
-use Rattle.ranges.proofs.Ranges.{range_selects}
+use Rattle.chains.proofs.Ranges.{range_selects}
 use Rattle.plain_uplink.proofs.elements.nth.Goals.{After-nth}
 use Rattle.plain_uplink.proofs.elements.nth.Goals as goal
 

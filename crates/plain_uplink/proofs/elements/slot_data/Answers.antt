@@ -6,7 +6,7 @@ use native.Mathlib.Omega.{arith}
 use Rattle.grid.specs.Grid.{uplink_elements}
 use Rattle.uplink.specs.Elements.{carries_data, slot_data}
 use Rattle.uplink.proofs.Lines.{some_data, slot_data_small}
-use Rattle.ranges.proofs.Ranges.{range_counts}
+use Rattle.chains.proofs.Ranges.{range_counts}
 use Rattle.plain_uplink.proofs.elements.slot_data.Goals as goal
 
 pub returns : goal.returns

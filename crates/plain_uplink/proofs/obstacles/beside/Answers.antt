@@ -13,12 +13,6 @@ within c =
     let a = c in
     scaled a.args.spacing _ _ _ _ c.narrow_tones-scale.ensures c.group_ms-ms.ensures (omega (arith, a.requires.0.within_tones, a.requires.1.subcarriers))
 
-pub narrow_tones-scale-requires : goal.narrow_tones-scale-requires
-narrow_tones-scale-requires c = tt
-
-pub group_ms-ms-requires : goal.group_ms-ms-requires
-group_ms-ms-requires c = tt
-
 pub overflow_mul-scale : goal.overflow_mul-scale
 overflow_mul-scale c = omega (arith, (within c).2)
 

@@ -26,10 +26,6 @@ ever c =
     (clear_beside a.spacing a.s a.ws b.beside.result b.beside.ensures.0)
     (ap (λ (x : Obstacles). x.ms) b.beside.ensures.0)
 
-pub are_listed-requires : goal.are_listed-requires
-unfolding windows_refusal
-are_listed-requires c = tt
-
 pub returns-then-not-are_listed : goal.returns-then-not-are_listed
 unfolding windows_refusal
 returns-then-not-are_listed c = rw (sym c.are_listed.ensures ∙ c.if-not-are_listed.true) refl

@@ -13,7 +13,7 @@ use Rattle.counting.proofs.Period.{select_below}
 use Rattle.uplink.specs.Timing.{active, period, slot_at}
 use Rattle.uplink.proofs.GapPeriods.{repeats}
 use Rattle.plain_uplink.specs.Obstacles.{clear_of}
-use Rattle.ranges.proofs.Ranges.{period_selects}
+use Rattle.chains.proofs.Ranges.{period_selects}
 use Rattle.plain_uplink.proofs.slots.nth.Goals.{After-nth, After-unwrap}
 use Rattle.plain_uplink.proofs.slots.nth.Goals as goal
 

@@ -1,14 +1,16 @@
 -- What a chain over a range counts and finds: the numbers of the range that pass a test.
-use mathlib.Core.Bool.{Bool, true, false, cond}
+use mathlib.Core.Bool.{Bool, true, false, cond, ◌||◌}
 use mathlib.Core.List.{List, ◌∷◌}
-use mathlib.Core.Path.{◌≡◌, refl, ap, subst, ◌∙◌}
+use mathlib.Core.Path.{◌≡◌, refl, sym, ap, subst, ◌∙◌}
 use Prim.Native.Nat.{ℕ, zero, suc, ◌+◌, ◌*◌, ◌<◌}
 use native.Mathlib.Nat.{mul-le-mul, le_refl}
 use native.Mathlib.Omega.{arith}
+use lib.Dec.{ltb}
+use borrow.Author.Tests.{lt-ltb}
 use mir.Val.{bool_byte}
 use lib.ListN.{length}
 use Rattle.std.specs.Prelude.{Some, slice_get}
-use Rattle.std.specs.List.{filter, range_with_len}
+use Rattle.std.specs.List.{filter, list_any, range_with_len}
 use Rattle.counting.specs.Counting.{rank, count, select}
 use Rattle.counting.specs.Scaffold.{Nth}
 use Rattle.counting.proofs.Rank.{rank_zero, rank_count, rank_yes, rank_no, count_from_zero}
@@ -74,3 +76,18 @@ module _ (u : ℕ → Bool) where
       omega (arith, rank_count u n f, rank_periods u p again (k + 1) f, mul-le-mul (le_refl (k + 1)) some) in
       let r = found f n k enough in
       r.1 ∙ ap Some (is_select u p again some f k r.0 r.2)
+
+  -- whether any does
+  any_counted : (a n : ℕ) → list_any u (range_with_len a n) ≡ ltb 0 (count u a n)
+  unfolding count
+  any_counted a zero = refl
+  any_counted a (suc n) =
+      by (u a) (subst (λ (x : ℕ). list_any u (range_with_len x n) ≡ ltb 0 (count u (suc a) n)) (on a) (any_counted (suc a) n))
+    where
+      by : (b : Bool) → list_any u (range_with_len (a + 1) n) ≡ ltb 0 (count u (suc a) n)
+          → (b || list_any u (range_with_len (a + 1) n)) ≡ ltb 0 (bool_byte b + count u (suc a) n)
+      by true e = sym (lt-ltb 0 (1 + count u (suc a) n) (omega arith))
+      by false e = e ∙ ap (ltb 0) (omega arith)
+
+  pub range_any : (n : ℕ) → list_any u (range_with_len 0 n) ≡ ltb 0 (rank u n)
+  range_any n = any_counted 0 n ∙ ap (ltb 0) (count_from_zero u n)

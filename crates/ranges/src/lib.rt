@@ -1,2 +1,0 @@
-// What an iterator chain over a range counts and finds, in the words of rank, count and select: proofs/ alone. No code.
-#![tactic(auto)]
