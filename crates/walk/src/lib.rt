@@ -4,16 +4,18 @@
 
 ghost use Rattle.std.specs.Prelude.{◌≡◌};
 ghost use Rattle.walk.specs.Step.{from_uplink, from_downlink, refused_step, finished_step, asked_of};
-ghost use Rattle.walk.specs.Quick.{walk_at, is_end, stopped_at};
+ghost use Rattle.walk.specs.Quick.{walk_at, end_of, stopped_at};
 
 use cell::Cell;
-use downlink::DownlinkPlace;
+use downlink::{DownlinkPlace, DownlinkPlan};
 use harq_ack::HarqAckGrant;
 use npdcch::NpdcchGrant;
 use npdsch::NpdschGrant;
 use nprach::Windows;
 use npusch::NpuschGrant;
-use uplink::UplinkPlace;
+use refusals::Refusal;
+use sending::Total;
+use uplink::{UplinkPlace, UplinkPlan};
 
 // Who answers: the quick engine, or the plain one, which goes one subframe or slot at a time. Their answers are equal.
 #[derive(Clone, Copy)]
@@ -41,7 +43,7 @@ pub struct Walk {
 
 // A step's answer: the refusal number; 1 at the end; else the place and the codeword symbol there. In the uplink t is
 // 0.
-#[derive(Clone, Copy)]
+#[derive(Clone, Copy, Default, PartialEq, Eq)]
 pub struct WalkPlace {
     pub no: u64,
     pub finished: u64,
@@ -59,52 +61,41 @@ pub struct Stepped {
     pub walk: Walk,
 }
 
-fn from_uplink(a: UplinkPlace) -> WalkPlace
-    ensures { result ≡ from_uplink a }
-{
-    WalkPlace {
-        no: a.no,
-        finished: 0,
-        t: 0,
-        slot: a.slot,
-        l: a.l,
-        k: a.k,
-        symbol: a.symbol,
+impl From<UplinkPlace> for WalkPlace {
+    ghost from_gives = { λ a r. r ≡ from_uplink a };
+
+    fn from(a: UplinkPlace) -> WalkPlace {
+        WalkPlace {
+            no: a.no,
+            finished: 0,
+            t: 0,
+            slot: a.slot,
+            l: a.l,
+            k: a.k,
+            symbol: a.symbol,
+        }
     }
 }
 
-fn from_downlink(a: DownlinkPlace) -> WalkPlace
-    ensures { result ≡ from_downlink a }
-{
-    WalkPlace {
-        no: a.no,
-        finished: 0,
-        t: a.t,
-        slot: a.slot,
-        l: a.l,
-        k: a.k,
-        symbol: a.symbol,
+impl From<DownlinkPlace> for WalkPlace {
+    ghost from_gives = { λ a r. r ≡ from_downlink a };
+
+    fn from(a: DownlinkPlace) -> WalkPlace {
+        WalkPlace {
+            no: a.no,
+            finished: 0,
+            t: a.t,
+            slot: a.slot,
+            l: a.l,
+            k: a.k,
+            symbol: a.symbol,
+        }
     }
 }
 
-fn refused_step(no: u64) -> WalkPlace
-    ensures { result ≡ refused_step no }
-{
-    WalkPlace {
-        no,
-        finished: 0,
-        t: 0,
-        slot: 0,
-        l: 0,
-        k: 0,
-        symbol: 0,
-    }
-}
-
-fn finished_step() -> WalkPlace
-    ensures { result ≡ finished_step }
-{
-    WalkPlace {
+impl WalkPlace {
+    // The step at the end.
+    pub const FINISHED: WalkPlace = WalkPlace {
         no: 0,
         finished: 1,
         t: 0,
@@ -112,160 +103,93 @@ fn finished_step() -> WalkPlace
         l: 0,
         k: 0,
         symbol: 0,
-    }
+    };
 }
 
-// What forward answers at p, of the quick engine.
-fn forward_quick(w: Walk, anchor: &[u8], other: &[u8]) -> WalkPlace
-    ensures { result ≡ walk_at w anchor.now other.now }
+// A refused step: its number, and zeros.
+pub fn refused_step(no: u64) -> WalkPlace
+    ensures { result ≡ refused_step no }
 {
-    let p = w.p;
-    let c = w.cell;
-    let grant = w.grant;
-    match grant {
-        Grant::Npusch(g, ws) => from_uplink(npusch::forward_beside(g, ws, p)),
-        Grant::HarqAck(g, ws) => from_uplink(harq_ack::forward_beside(g, ws, p)),
-        Grant::Npdsch(g) => from_downlink(npdsch::forward(c, anchor, other, g, p)),
-        Grant::Npdcch(g) => from_downlink(npdcch::forward(c, anchor, other, g, p)),
-    }
-}
-
-// The same of the plain engine.
-fn forward_plain(w: Walk, anchor: &[u8], other: &[u8]) -> WalkPlace
-    ensures { result ≡ walk_at w anchor.now other.now }
-{
-    let p = w.p;
-    let c = w.cell;
-    let grant = w.grant;
-    match grant {
-        Grant::Npusch(g, ws) => from_uplink(plain_uplink::forward_npusch(g, ws, p)),
-        Grant::HarqAck(g, ws) => from_uplink(plain_uplink::forward_harq_ack(g, ws, p)),
-        Grant::Npdsch(g) => from_downlink(plain_downlink::forward_npdsch(c, anchor, other, g, p)),
-        Grant::Npdcch(g) => from_downlink(plain_downlink::forward_npdcch(c, anchor, other, g, p)),
+    WalkPlace {
+        no,
+        ..WalkPlace::default()
     }
 }
 
 // What forward answers at p.
+#[tactic(auto, unfolding(crate::specs::Step::asked))]
 pub fn forward(w: Walk, anchor: &[u8], other: &[u8], engine: Engine) -> WalkPlace
     ensures { result ≡ walk_at w anchor.now other.now }
 {
-    match engine {
-        Engine::Quick => forward_quick(w, anchor, other),
-        Engine::Plain => forward_plain(w, anchor, other),
+    let Walk { cell: c, grant, p } = w;
+    match (engine, grant) {
+        (Engine::Quick, Grant::Npusch(g, ws)) => npusch::forward_beside(g, ws, p).into(),
+        (Engine::Quick, Grant::HarqAck(g, ws)) => harq_ack::forward_beside(g, ws, p).into(),
+        (Engine::Quick, Grant::Npdsch(g)) => npdsch::forward(c, anchor, other, g, p).into(),
+        (Engine::Quick, Grant::Npdcch(g)) => npdcch::forward(c, anchor, other, g, p).into(),
+        (Engine::Plain, Grant::Npusch(g, ws)) => plain_uplink::forward_npusch(g, ws, p).into(),
+        (Engine::Plain, Grant::HarqAck(g, ws)) => plain_uplink::forward_harq_ack(g, ws, p).into(),
+        (Engine::Plain, Grant::Npdsch(g)) => {
+            plain_downlink::forward_npdsch(c, anchor, other, g, p).into()
+        }
+        (Engine::Plain, Grant::Npdcch(g)) => {
+            plain_downlink::forward_npdcch(c, anchor, other, g, p).into()
+        }
     }
 }
 
-// Plan's refusal number and places.
-#[derive(Clone, Copy)]
-struct Total {
-    no: u64,
-    places: u64,
-}
-
-fn plan_of(w: Walk, anchor: &[u8], other: &[u8]) -> Total
-    ensures { (result.no ≡ (asked_of w anchor.now other.now).no)
-        × (result.places ≡ (asked_of w anchor.now other.now).places) }
+// How many places a planned grant has. No From: each type belongs to a crate below.
+pub fn uplink_total(u: UplinkPlan) -> Total
+    ensures { (result.no ≡ u.no) × (result.places ≡ u.places) }
 {
-    let c = w.cell;
-    let grant = w.grant;
-    match grant {
-        Grant::Npusch(g, ws) => {
-            let a = npusch::plan_beside(g, ws);
-            Total {
-                no: a.no,
-                places: a.places,
-            }
-        }
-        Grant::HarqAck(g, ws) => {
-            let a = harq_ack::plan_beside(g, ws);
-            Total {
-                no: a.no,
-                places: a.places,
-            }
-        }
-        Grant::Npdsch(g) => {
-            let a = npdsch::plan(c, anchor, other, g);
-            Total {
-                no: a.no,
-                places: a.places,
-            }
-        }
-        Grant::Npdcch(g) => {
-            let a = npdcch::plan(c, anchor, other, g);
-            Total {
-                no: a.no,
-                places: a.places,
-            }
-        }
+    Total {
+        no: u.no,
+        places: u.places,
     }
 }
 
-// The same of the plain engine, which asks no plan.
-fn places_of(w: Walk, anchor: &[u8], other: &[u8]) -> Total
-    ensures { (result.no ≡ (asked_of w anchor.now other.now).no)
-        × (result.places ≡ (asked_of w anchor.now other.now).places) }
+pub fn downlink_total(d: DownlinkPlan) -> Total
+    ensures { (result.no ≡ d.no) × (result.places ≡ d.places) }
 {
-    let c = w.cell;
-    let grant = w.grant;
-    match grant {
-        Grant::Npusch(g, ws) => {
-            let a = plain_uplink::places_npusch(g, ws);
-            Total {
-                no: a.no,
-                places: a.places,
-            }
-        }
-        Grant::HarqAck(g, ws) => {
-            let a = plain_uplink::places_harq_ack(g, ws);
-            Total {
-                no: a.no,
-                places: a.places,
-            }
-        }
-        Grant::Npdsch(g) => {
-            let a = plain_downlink::places_npdsch(c, anchor, other, g);
-            Total {
-                no: a.no,
-                places: a.places,
-            }
-        }
-        Grant::Npdcch(g) => {
-            let a = plain_downlink::places_npdcch(c, anchor, other, g);
-            Total {
-                no: a.no,
-                places: a.places,
-            }
-        }
+    Total {
+        no: d.no,
+        places: d.places,
     }
 }
 
+// The same of the walk's grant; the plain engine asks no plan.
+#[tactic(auto, unfolding(crate::specs::Step::asked))]
 fn total_of(w: Walk, anchor: &[u8], other: &[u8], engine: Engine) -> Total
     ensures { (result.no ≡ (asked_of w anchor.now other.now).no)
         × (result.places ≡ (asked_of w anchor.now other.now).places) }
 {
-    match engine {
-        Engine::Quick => plan_of(w, anchor, other),
-        Engine::Plain => places_of(w, anchor, other),
+    let c = w.cell;
+    match (engine, w.grant) {
+        (Engine::Quick, Grant::Npusch(g, ws)) => uplink_total(npusch::plan_beside(g, ws)),
+        (Engine::Quick, Grant::HarqAck(g, ws)) => uplink_total(harq_ack::plan_beside(g, ws)),
+        (Engine::Quick, Grant::Npdsch(g)) => downlink_total(npdsch::plan(c, anchor, other, g)),
+        (Engine::Quick, Grant::Npdcch(g)) => downlink_total(npdcch::plan(c, anchor, other, g)),
+        (Engine::Plain, Grant::Npusch(g, ws)) => plain_uplink::places_npusch(g, ws),
+        (Engine::Plain, Grant::HarqAck(g, ws)) => plain_uplink::places_harq_ack(g, ws),
+        (Engine::Plain, Grant::Npdsch(g)) => plain_downlink::places_npdsch(c, anchor, other, g),
+        (Engine::Plain, Grant::Npdcch(g)) => plain_downlink::places_npdcch(c, anchor, other, g),
     }
 }
 
-// Whether p is the end.
-fn is_end(w: Walk, anchor: &[u8], other: &[u8], engine: Engine) -> bool
-    ensures { result ≡ is_end (asked_of w anchor.now other.now) w.p }
+// Position p is the end of an accepted grant.
+pub fn is_end(total: Total, p: u64) -> bool
+    ensures { result ≡ end_of total.no total.places p }
 {
-    let t = total_of(w, anchor, other, engine);
-    (t.no == 0) & (w.p == t.places)
+    (total.no == 0) & (p == total.places)
 }
 
 // The step at a position that forward refuses with a number.
+#[tactic(auto, unfolding(crate::specs::Quick::stopped_at))]
 pub fn stopped(w: Walk, anchor: &[u8], other: &[u8], engine: Engine, no: u64) -> WalkPlace
     ensures { result ≡ stopped_at (asked_of w anchor.now other.now) w.p no }
 {
-    if no != sending::NO_SUCH_PLACE {
-        return refused_step(no);
-    }
-    if is_end(w, anchor, other, engine) {
-        return finished_step();
+    if no == Refusal::NoSuchPlace.number() && is_end(total_of(w, anchor, other, engine), w.p) {
+        return WalkPlace::FINISHED;
     }
     refused_step(no)
 }
