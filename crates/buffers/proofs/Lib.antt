@@ -1,4 +1,3 @@
-pub mod Short
 pub mod Replies
 pub mod Steps
 pub mod Parts

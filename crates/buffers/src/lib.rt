@@ -1,7 +1,7 @@
 // Buffers of numbers: cells and grants read from them, answers put at their front.
 #![tactic(auto)]
 
-ghost use Rattle.std.specs.Prelude.{[], ◌∷◌, ◌≡◌, ◌+◌, ◌^◌, ◌≤◌, ◌<◌, length, get_or, drop};
+ghost use Rattle.std.specs.Prelude.{[], ◌≡◌, ◌+◌, ◌^◌, ◌≤◌, ◌<◌, length, get_or, drop};
 ghost use Rattle.std.proofs.lemmas.List.Edits.{sets};
 ghost use Rattle.nprach.specs.Windows.{none};
 ghost use Rattle.search_space.specs.Candidates.{room};
@@ -12,9 +12,9 @@ ghost use Rattle.buffers.specs.Buffers.{npusch_at, harq_ack_at, npdsch_at, npdcc
 ghost use Rattle.buffers.specs.Buffers.{npusch_walk, harq_ack_walk, npdsch_walk, npdcch_walk};
 ghost use Rattle.buffers.specs.Buffers.{cause_numbers, count_numbers, uplink_plan_numbers, downlink_plan_numbers};
 ghost use Rattle.buffers.specs.Buffers.{uplink_place_numbers, downlink_place_numbers, back_numbers};
-ghost use Rattle.buffers.specs.Buffers.{downlink_back_numbers, candidate_numbers, search_numbers};
-ghost use Rattle.buffers.specs.Buffers.{put, put_stepped, put_element};
-ghost use Rattle.buffers.specs.Scaffold.{Short2, Short3, ShortBeside, put_moved, place_at, moved_by, end_of};
+ghost use Rattle.buffers.specs.Buffers.{downlink_back_numbers, candidate_numbers, search_numbers, step_numbers};
+ghost use Rattle.buffers.specs.Buffers.{windows_short, put, put_stepped, put_element};
+ghost use Rattle.buffers.specs.Scaffold.{put_moved, moved_by};
 
 use cell::{CauseAnswer, Cell, CellConfig, ElementCount};
 use downlink::{DownlinkBack, DownlinkPlace, DownlinkPlan};
@@ -28,40 +28,16 @@ use search_space::{Candidate, SearchAnswer, SearchSpace};
 use sending::Back;
 use symbol::Element;
 use uplink::{UplinkPlace, UplinkPlan};
-use walk::{Grant, Stepped, Walk};
+use walk::{Grant, Stepped, Walk, WalkPlace};
 
 // The numbers of windows: the count, and four of four.
 const WINDOWS: usize = 17;
 
-// ---- buffers too short
-
-// A buffer has fewer numbers than it needs; of two buffers, and of three.
-pub fn short2(m: usize, n: usize, s: usize, t: usize) -> bool
-    ensures { Short2 m n s t result }
+// The windows' buffer has some numbers, and fewer than it needs.
+pub fn windows_short(windows: &[u64]) -> bool
+    ensures { result ≡ windows_short windows.now }
 {
-    if s < m {
-        return true;
-    }
-    t < n
-}
-
-pub fn short3(m: usize, n: usize, k: usize, s: usize, t: usize, u: usize) -> bool
-    ensures { Short3 m n k s t u result }
-{
-    if s < m {
-        return true;
-    }
-    short2(n, k, t, u)
-}
-
-// The same of two buffers beside the windows, which may be none.
-pub fn short_beside(windows: &[u64], m: usize, n: usize, s: usize, t: usize) -> bool
-    ensures { ShortBeside windows.now m n s t result }
-{
-    if (0 < windows.len()) & (windows.len() < WINDOWS) {
-        return true;
-    }
-    short2(m, n, s, t)
+    (0 < windows.len()) & (windows.len() < WINDOWS)
 }
 
 // ---- what is asked: records whose numbers stand from a place of a buffer on
@@ -83,6 +59,7 @@ pub fn config_at(s: &[u64], i: usize) -> CellConfig
 }
 
 // Messages whose numbers stand from a place on; a buffer that ends before has none.
+#[tactic(auto, unfolding(subframes::specs::Subframes::messages_in))]
 fn messages_from(s: &[u64], j: usize) -> Messages
     ensures { result ≡ messages_in (drop j s.now) }
 {
@@ -97,9 +74,10 @@ pub fn cell_in(s: &[u64], i: usize, j: usize) -> Cell
     requires { i + 8 ≤ length s.now }
     ensures { result ≡ cell_in s.now i j }
 {
-    let config = config_at(s, i);
-    let messages = messages_from(s, j);
-    Cell { config, messages }
+    Cell {
+        config: config_at(s, i),
+        messages: messages_from(s, j),
+    }
 }
 
 fn window_at(s: &[u64], i: usize) -> Window
@@ -132,6 +110,7 @@ fn no_windows() -> Windows
     }
 }
 
+#[tactic(auto, unfolding(crate::specs::Buffers::windows_of))]
 pub fn windows_of(windows: &[u64]) -> Windows
     ensures { result ≡ windows_of windows.now }
 {
@@ -221,31 +200,16 @@ pub fn search_space_at(s: &[u64], i: usize) -> SearchSpace
 fn no_cell() -> Cell
     ensures { result ≡ cell_in [] 0 8 }
 {
-    let config = CellConfig {
-        mode: 0,
-        carrier: 0,
-        identity: 0,
-        nports: 0,
-        cports: 0,
-        control: 0,
-        sib1: 0,
-        bits: 0,
-    };
-    Cell {
-        config,
-        messages: messages::none(),
-    }
+    cell_in(&[0; 8], 0, 8)
 }
 
 pub fn npusch_walk(walk: &[u64], windows: &[u64]) -> Walk
     requires { 8 ≤ length walk.now }
     ensures { result ≡ npusch_walk walk.now windows.now }
 {
-    let cell = no_cell();
-    let grant = Grant::Npusch(npusch_at(walk, 1), windows_of(windows));
     Walk {
-        cell,
-        grant,
+        cell: no_cell(),
+        grant: Grant::Npusch(npusch_at(walk, 1), windows_of(windows)),
         p: walk[0],
     }
 }
@@ -254,11 +218,9 @@ pub fn harq_ack_walk(walk: &[u64], windows: &[u64]) -> Walk
     requires { 5 ≤ length walk.now }
     ensures { result ≡ harq_ack_walk walk.now windows.now }
 {
-    let cell = no_cell();
-    let grant = Grant::HarqAck(harq_ack_at(walk, 1), windows_of(windows));
     Walk {
-        cell,
-        grant,
+        cell: no_cell(),
+        grant: Grant::HarqAck(harq_ack_at(walk, 1), windows_of(windows)),
         p: walk[0],
     }
 }
@@ -267,11 +229,9 @@ pub fn npdsch_walk(walk: &[u64]) -> Walk
     requires { 14 ≤ length walk.now }
     ensures { result ≡ npdsch_walk walk.now }
 {
-    let cell = cell_in(walk, 1, 14);
-    let grant = Grant::Npdsch(npdsch_at(walk, 9));
     Walk {
-        cell,
-        grant,
+        cell: cell_in(walk, 1, 14),
+        grant: Grant::Npdsch(npdsch_at(walk, 9)),
         p: walk[0],
     }
 }
@@ -280,98 +240,45 @@ pub fn npdcch_walk(walk: &[u64]) -> Walk
     requires { 13 ≤ length walk.now }
     ensures { result ≡ npdcch_walk walk.now }
 {
-    let cell = cell_in(walk, 1, 13);
-    let grant = Grant::Npdcch(npdcch_at(walk, 9));
     Walk {
-        cell,
-        grant,
+        cell: cell_in(walk, 1, 13),
+        grant: Grant::Npdcch(npdcch_at(walk, 9)),
         p: walk[0],
     }
 }
 
-// ---- numbers at the front of a buffer; the first is returned
+// ---- what is answered, put at the front of a buffer
 
-fn put2(s: &mut [u64], a: u64, b: u64) -> u64
-    requires { 2 ≤ length s.old }
-    ensures { (result, s.new) ≡ put (a ∷ b ∷ []) s.old }
+// Numbers at the front; the first is returned.
+pub fn put<const N: usize>(s: &mut [u64], numbers: [u64; N]) -> u64
+    requires { (1 ≤ N) × (N ≤ length s.old) }
+    ensures { (result, s.new) ≡ put numbers.entry s.old }
 {
-    s[0] = a;
-    s[1] = b;
-    a
+    s[..N].copy_from_slice(&numbers);
+    numbers[0]
 }
-
-pub fn put3(s: &mut [u64], a: u64, b: u64, c: u64) -> u64
-    requires { 3 ≤ length s.old }
-    ensures { (result, s.new) ≡ put (a ∷ b ∷ c ∷ []) s.old }
-{
-    s[0] = a;
-    s[1] = b;
-    s[2] = c;
-    a
-}
-
-fn put5(s: &mut [u64], a: u64, b: u64, c: u64, d: u64, e: u64) -> u64
-    requires { 5 ≤ length s.old }
-    ensures { (result, s.new) ≡ put (a ∷ b ∷ c ∷ d ∷ e ∷ []) s.old }
-{
-    s[0] = a;
-    s[1] = b;
-    s[2] = c;
-    s[3] = d;
-    s[4] = e;
-    a
-}
-
-fn put6(s: &mut [u64], a: u64, b: u64, c: u64, d: u64, e: u64, f: u64) -> u64
-    requires { 6 ≤ length s.old }
-    ensures { (result, s.new) ≡ put (a ∷ b ∷ c ∷ d ∷ e ∷ f ∷ []) s.old }
-{
-    s[0] = a;
-    s[1] = b;
-    s[2] = c;
-    s[3] = d;
-    s[4] = e;
-    s[5] = f;
-    a
-}
-
-fn put7(s: &mut [u64], a: u64, b: u64, c: u64, d: u64, e: u64, f: u64, g: u64) -> u64
-    requires { 7 ≤ length s.old }
-    ensures { (result, s.new) ≡ put (a ∷ b ∷ c ∷ d ∷ e ∷ f ∷ g ∷ []) s.old }
-{
-    s[0] = a;
-    s[1] = b;
-    s[2] = c;
-    s[3] = d;
-    s[4] = e;
-    s[5] = f;
-    s[6] = g;
-    a
-}
-
-// ---- what is answered
 
 pub fn put_count(s: &mut [u64], a: ElementCount) -> u64
     requires { 2 ≤ length s.old }
     ensures { (result, s.new) ≡ put (count_numbers a) s.old }
 {
-    put2(s, a.no, a.e)
+    put(s, [a.no, a.e])
 }
 
 pub fn put_cause(s: &mut [u64], a: CauseAnswer) -> u64
     requires { 2 ≤ length s.old }
     ensures { (result, s.new) ≡ put (cause_numbers a) s.old }
 {
-    let cause = a.cause;
-    put2(s, a.no, cell::cause_number(cause))
+    put(s, [a.no, cell::cause_number(a.cause)])
 }
 
 pub fn put_uplink_plan(s: &mut [u64], a: UplinkPlan) -> u64
     requires { 7 ≤ length s.old }
     ensures { (result, s.new) ≡ put (uplink_plan_numbers a) s.old }
 {
-    put7(
-        s, a.no, a.first, a.last, a.copies, a.places, a.size, a.order,
+    put(
+        s,
+        [a.no, a.first, a.last, a.copies, a.places, a.size, a.order],
     )
 }
 
@@ -379,45 +286,37 @@ pub fn put_downlink_plan(s: &mut [u64], a: DownlinkPlan) -> u64
     requires { 5 ≤ length s.old }
     ensures { (result, s.new) ≡ put (downlink_plan_numbers a) s.old }
 {
-    put5(s, a.no, a.first, a.last, a.copies, a.places)
+    put(s, [a.no, a.first, a.last, a.copies, a.places])
 }
 
 pub fn put_uplink_place(s: &mut [u64], a: UplinkPlace) -> u64
     requires { 5 ≤ length s.old }
     ensures { (result, s.new) ≡ put (uplink_place_numbers a) s.old }
 {
-    put5(s, a.no, a.slot, a.l, a.k, a.symbol)
+    put(s, [a.no, a.slot, a.l, a.k, a.symbol])
 }
 
 pub fn put_downlink_place(s: &mut [u64], a: DownlinkPlace) -> u64
     requires { 6 ≤ length s.old }
     ensures { (result, s.new) ≡ put (downlink_place_numbers a) s.old }
 {
-    put6(s, a.no, a.t, a.slot, a.l, a.k, a.symbol)
+    put(s, [a.no, a.t, a.slot, a.l, a.k, a.symbol])
 }
 
 pub fn put_back(s: &mut [u64], a: Back) -> u64
     requires { 5 ≤ length s.old }
     ensures { (result, s.new) ≡ put (back_numbers a) s.old }
 {
-    put5(s, a.no, a.ours, a.symbol, a.position, a.kind)
+    put(s, [a.no, a.ours, a.symbol, a.position, a.kind])
 }
 
 pub fn put_downlink_back(s: &mut [u64], a: DownlinkBack) -> u64
     requires { 6 ≤ length s.old }
     ensures { (result, s.new) ≡ put (downlink_back_numbers a) s.old }
 {
-    let cause = a.cause;
-    let number = cell::cause_number(cause);
-    put6(
-        s,
-        a.back.no,
-        a.back.ours,
-        a.back.symbol,
-        a.back.position,
-        a.back.kind,
-        number,
-    )
+    let b = a.back;
+    let cause = cell::cause_number(a.cause);
+    put(s, [b.no, b.ours, b.symbol, b.position, b.kind, cause])
 }
 
 // Three numbers of each candidate, from the fourth number on.
@@ -425,14 +324,11 @@ fn put_candidates(s: &mut [u64], list: [Candidate; 15])
     requires { 48 ≤ length s.old }
     ensures { s.new ≡ sets s.old 3 (candidate_numbers list 0 room) }
 {
-    let mut k: usize = 0;
-    while k < 15 {
-        let x = list[k];
+    for (k, x) in list.iter().enumerate() {
         let i = 3 * k + 3;
         s[i] = x.first;
         s[i + 1] = x.r;
         s[i + 2] = x.last;
-        k += 1;
     }
 }
 
@@ -440,9 +336,8 @@ pub fn put_search(s: &mut [u64], a: SearchAnswer) -> u64
     requires { 48 ≤ length s.old }
     ensures { (result, s.new) ≡ put (search_numbers a) s.old }
 {
-    let list = a.list;
-    let no = put3(s, a.no, a.start, a.count);
-    put_candidates(s, list);
+    let no = put(s, [a.no, a.start, a.count]);
+    put_candidates(s, a.list);
     no
 }
 
@@ -455,49 +350,32 @@ pub fn put_element(s: &mut [u64], amplitudes: &mut [f32], e: Element) -> u64
     let a = symbol::numbers(e);
     amplitudes[0] = a.re;
     amplitudes[1] = a.im;
-    put2(s, a.no, a.state)
+    put(s, [a.no, a.state])
 }
 
 // ---- a step
 
-// Position p is the end of the planned grant.
-pub fn uplink_end(a: UplinkPlan, p: u64) -> bool
-    ensures { result ≡ end_of a.no a.places p }
+fn put_answer(s: &mut [u64], a: WalkPlace) -> u64
+    requires { 7 ≤ length s.old }
+    ensures { (result, s.new) ≡ put (step_numbers a) s.old }
 {
-    (a.no == 0) & (p == a.places)
-}
-
-pub fn downlink_end(a: DownlinkPlan, p: u64) -> bool
-    ensures { result ≡ end_of a.no a.places p }
-{
-    (a.no == 0) & (p == a.places)
+    put(s, [a.no, a.finished, a.t, a.slot, a.l, a.k, a.symbol])
 }
 
 // A step by what forward answers at the walk's position, which moves on where that is a place; `end`: it is the end.
-pub fn put_step(
-    walk: &mut [u64],
-    s: &mut [u64],
-    end: bool,
-    no: u64,
-    t: u64,
-    slot: u64,
-    l: u64,
-    k: u64,
-    symbol: u64,
-) -> u64
-    requires { (1 ≤ length walk.old) × (7 ≤ length s.old) × (no ≡ 0 → get_or walk.old 0 0 < 2 ^ 63) }
+pub fn put_step(walk: &mut [u64], s: &mut [u64], end: bool, a: WalkPlace) -> u64
+    requires { (1 ≤ length walk.old) × (7 ≤ length s.old) × (a.no ≡ 0 → get_or walk.old 0 0 < 2 ^ 63) }
     ensures { (result, walk.new, s.new)
-        ≡ put_moved (moved_by end (place_at no t slot l k symbol) (get_or walk.old 0 0)) walk.old
-        s.old }
+        ≡ put_moved (moved_by end a (get_or walk.old 0 0)) walk.old s.old }
 {
-    if no == 0 {
-        walk[0] = walk[0] + 1;
-        return put7(s, no, 0, t, slot, l, k, symbol);
+    if a.no == 0 {
+        walk[0] += 1;
+        return put_answer(s, a);
     }
     if end {
-        return put7(s, 0, 1, 0, 0, 0, 0, 0);
+        return put_answer(s, WalkPlace::FINISHED);
     }
-    put7(s, no, 0, 0, 0, 0, 0, 0)
+    put_answer(s, walk::refused_step(a.no))
 }
 
 // A step's answer, and the position after it.
@@ -505,7 +383,6 @@ pub fn put_stepped(walk: &mut [u64], s: &mut [u64], x: Stepped) -> u64
     requires { (1 ≤ length walk.old) × (7 ≤ length s.old) }
     ensures { (result, walk.new, s.new) ≡ put_stepped x walk.old s.old }
 {
-    let a = x.answer;
     walk[0] = x.walk.p;
-    put7(s, a.no, a.finished, a.t, a.slot, a.l, a.k, a.symbol)
+    put_answer(s, x.answer)
 }
