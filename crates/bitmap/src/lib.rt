@@ -1,7 +1,7 @@
 // The bitmap: a part of the carrier's own buffer, and its forty bits as a number.
 #![tactic(auto)]
 
-ghost use Rattle.std.specs.Prelude.{◌≡◌, cond, ◌<◌, eqb};
+ghost use Rattle.std.specs.Prelude.{◌≡◌, cond, eqb};
 ghost use Rattle.bitmap.specs.Bitmap.{bytes_of, listed_length, bad_bitmap};
 ghost use Rattle.bitmap.specs.Quick.{BitmapFits, Loaded};
 

@@ -1,7 +1,7 @@
--- Listed numbers: tests by lists, and what holds of every number of a list.
-use mathlib.Core.Bool.{Bool, true, false, ◌&&◌, ◌||◌}
+-- What holds of every number of a list.
+use mathlib.Core.Bool.{Bool, true, ◌&&◌}
 use mathlib.Core.List.{List, [], ◌∷◌}
-use mathlib.Core.Path.{◌≡◌, refl, ap, ◌∙◌}
+use mathlib.Core.Path.{◌≡◌, ap, ◌∙◌}
 use mathlib.Core.Logic.{⊎_elim}
 use Prim.Native.Nat.{ℕ}
 use native.Mathlib.Omega.{arith}
@@ -10,28 +10,6 @@ use mir.Val.{bool_byte}
 use borrow.Author.Tests.{eqb-true}
 use Rattle.counting.specs.Listed.{is_one_of}
 use Rattle.counting.proofs.Facts.{both_parts, either_case}
-
--- ---- the code's tests end with the last number, the list's with none
-
-or_none : (b : Bool) → b ≡ (b || false)
-or_none true = refl
-or_none false = refl
-
-pub two : (x a b : ℕ) → (eqb x a || eqb x b) ≡ is_one_of (a ∷ b ∷ []) x
-two x a b = ap (λ (t : Bool). eqb x a || t) (or_none (eqb x b))
-
-pub four : (x a b c d : ℕ) → (eqb x a || (eqb x b || (eqb x c || eqb x d))) ≡ is_one_of (a ∷ b ∷ c ∷ d ∷ []) x
-four x a b c d = ap (λ (t : Bool). eqb x a || (eqb x b || t)) (two x c d)
-
-module _ (x a b c d e f g : ℕ) where
-  abbrev in_seven : Bool → Bool
-  in_seven last = eqb x a || (eqb x b || (eqb x c || (eqb x d || (eqb x e || (eqb x f || last)))))
-
-  pub seven : in_seven (eqb x g) ≡ is_one_of (a ∷ b ∷ c ∷ d ∷ e ∷ f ∷ g ∷ []) x
-  seven = ap in_seven (or_none (eqb x g))
-
-  pub eight : (h : ℕ) → (eqb x h || in_seven (eqb x g)) ≡ is_one_of (h ∷ a ∷ b ∷ c ∷ d ∷ e ∷ f ∷ g ∷ []) x
-  eight h = ap (λ (t : Bool). eqb x h || t) seven
 
 -- ---- a test that every number of a list passes
 

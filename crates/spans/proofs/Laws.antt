@@ -126,9 +126,6 @@ module _ (p : Pattern) (ok : Regular p) where
   -- ---- spans with SIB1 before span s: none, some, or all four of its period
 
   module _ (s : ℕ) where
-    pub sib1_whole_le : s / spans_of p * 4 ≤ s
-    sib1_whole_le = omega (arith, sib1_split s, sib1_le s)
-
     sib1_early : s % spans_of p ≤ p.first → s / spans_of p * 4 ≡ rank (with_sib1 p) s
     sib1_early h = omega (arith, sib1_split s, rank_before p.first 4 (s % spans_of p) h)
 

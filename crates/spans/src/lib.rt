@@ -2,7 +2,7 @@
 // span by its digits.
 #![tactic(auto)]
 
-ghost use Rattle.std.specs.Prelude.{true, ◌≡◌, ◌+◌, ◌*◌, ◌/◌, ◌%◌, ◌<◌, ◌≤◌, ◌^◌, eqb};
+ghost use Rattle.std.specs.Prelude.{true, ◌≡◌, ◌+◌, ◌*◌, ◌/◌, ◌<◌, ◌≤◌, ◌^◌, eqb};
 ghost use Rattle.std.specs.Int.Count.{ones};
 ghost use Rattle.counting.specs.Counting.{rank, select};
 ghost use Rattle.spans.specs.Pattern.{span, with_sib1, mask_at, allows, period_of, Regular, OnesOf, Landed};
