@@ -57,10 +57,6 @@ pub gap_is : (b : Bool) → cond b 20 80 ≡ 2 * 40 / cond b 4 1
 gap_is true = refl
 gap_is false = refl
 
-pub group_ms_is : (b : Bool) → cond b 2 1 ≡ cond b 1 2 * cond b 4 1 / 2
-group_ms_is true = refl
-group_ms_is false = refl
-
 -- ---- what holds of a shape's numbers by spacing
 
 pub record Spaced (spacing t : ℕ) : Type 0 where

@@ -8,21 +8,20 @@ ghost use Rattle.numerology.specs.Numerology.{by_spacing, slots_in, first_after,
 pub fn by_spacing(spacing: u64, narrow: u64, wide: u64) -> u64
     ensures { result ≡ by_spacing spacing narrow wide }
 {
-    if spacing == 0 {
-        return narrow;
-    }
-    wide
+    if spacing == 0 { narrow } else { wide }
 }
 
 // The first slot that begins after the end of a subframe.
+#[tactic(auto, using(crate::proofs::Spacing::first_narrow, crate::proofs::Spacing::first_wide))]
 pub fn first_after(spacing: u64, subframe: u64) -> u64
     requires { subframe < 2 ^ 32 }
     ensures { result ≡ first_after spacing subframe }
 {
     if spacing == 0 {
-        return (subframe + 2) / 2;
+        (subframe + 2) / 2
+    } else {
+        2 * (subframe + 1)
     }
-    2 * (subframe + 1)
 }
 
 // Slots of 256 ms, and of 40 ms.
