@@ -1,7 +1,7 @@
 // Random access windows, which postpone uplink slots: their numbers, and the groups of slots that they close.
 #![tactic(auto)]
 
-ghost use Rattle.std.specs.Prelude.{true, not, ◌&&◌, ◌||◌, ◌≡◌, ◌+◌, ◌/◌, ◌^◌, ◌<◌, ◌≤◌};
+ghost use Rattle.std.specs.Prelude.{true, ◌&&◌, ◌≡◌, ◌+◌, ◌/◌, ◌^◌, ◌<◌, ◌≤◌};
 ghost use Rattle.numerology.specs.Numerology.{group_ms};
 ghost use Rattle.nprach.specs.Windows.{is_one_of, periods, starts, repetitions, is_listed, are_listed, shares_tone};
 ghost use Rattle.nprach.specs.Windows.{open_to};
@@ -21,6 +21,7 @@ pub struct Window {
 }
 
 // How many windows there are, and the windows; those past the count are not read.
+// No array: are_listed, is_clear and closures_of (specs) name the four fields.
 #[derive(Clone, Copy)]
 pub struct Windows {
     pub count: u64,
@@ -49,16 +50,13 @@ pub const NEVER_FREE: u64 = 20;
 fn is_period(x: u64) -> bool
     ensures { result ≡ is_one_of periods x }
 {
-    (x == 40)
-        | ((x == 80) | ((x == 160) | ((x == 320) | ((x == 640) | ((x == 1280) | (x == 2560))))))
+    matches!(x, 40 | 80 | 160 | 320 | 640 | 1280 | 2560)
 }
 
 fn is_start(x: u64) -> bool
     ensures { result ≡ is_one_of starts x }
 {
-    (x == 8)
-        | ((x == 16)
-            | ((x == 32) | ((x == 64) | ((x == 128) | ((x == 256) | ((x == 512) | (x == 1024)))))))
+    matches!(x, 8 | 16 | 32 | 64 | 128 | 256 | 512 | 1024)
 }
 
 // One repetition of a preamble format, or 2, 4, .. 64 of them.
@@ -66,97 +64,90 @@ fn is_repeated(x: u64, one: u64) -> bool
     requires { one < 2 ^ 32 }
     ensures { result ≡ is_one_of (repetitions one) x }
 {
-    (x == one)
-        | ((x == 2 * one)
-            | ((x == 4 * one)
-                | ((x == 8 * one) | ((x == 16 * one) | ((x == 32 * one) | (x == 64 * one))))))
+    (0_u64..7).any(|i| x == one << i)
 }
 
+#[tactic(auto, unfolding(crate::specs::Windows::is_listed))]
 fn is_listed(w: Window) -> bool
     ensures { result ≡ is_listed w }
 {
-    let time = is_period(w.period) & is_start(w.start);
-    let length = is_repeated(w.length, 172_032) | is_repeated(w.length, 196_608);
-    time & (length & (w.tone <= 36))
-}
-
-// A window that is read is listed.
-fn is_sound(read: bool, w: Window) -> bool
-    ensures { result ≡ (not read || is_listed w) }
-{
-    if read {
-        return is_listed(w);
-    }
-    true
+    is_period(w.period)
+        && is_start(w.start)
+        && (is_repeated(w.length, 172_032) || is_repeated(w.length, 196_608))
+        && w.tone <= 36
 }
 
 // At most four windows, and each that is read is listed.
+#[tactic(auto, unfolding(crate::specs::Windows::are_listed))]
 pub fn are_listed(ws: Windows) -> bool
     ensures { result ≡ are_listed ws }
 {
     let count = ws.count;
-    let front = is_sound(1 <= count, ws.w1) & is_sound(2 <= count, ws.w2);
-    let back = is_sound(3 <= count, ws.w3) & is_sound(4 <= count, ws.w4);
-    (count <= 4) & (front & back)
+    let front = (count < 1 || is_listed(ws.w1)) && (count < 2 || is_listed(ws.w2));
+    let back = (count < 3 || is_listed(ws.w3)) && (count < 4 || is_listed(ws.w4));
+    count <= 4 && front && back
 }
 
 // A window that is read has one of `tones` tones from `tone` on.
+// No Option in place of the flag: meets and closure_of (specs) take the flag and the window.
 pub fn concerns(tone: u64, tones: u64, read: bool, w: Window) -> bool
     requires { (tone ≤ 48) × (tones ≤ 48) × (read ≡ true → is_listed w ≡ true) }
     ensures { result ≡ (read && shares_tone tone tones w) }
 {
-    let from = w.tone;
-    if !read {
-        return false;
-    }
-    (tone < from + TONES) & (from < tone + tones)
+    read && tone < w.tone + TONES && w.tone < tone + tones
 }
 
-// x over one ms or two.
-fn over_ms(ms: u64, x: u64) -> u64
-    requires { (1 ≤ ms) × (ms ≤ 2) }
-    ensures { result ≡ x / ms }
-{
-    if ms == 1 {
-        return x;
-    }
-    x / 2
+// The tones of a grant, `tones` of them from `tone` on, counted at 3.75 kHz; a group of its slots lasts `ms` milliseconds.
+#[derive(Clone, Copy)]
+struct Granted {
+    ms: u64,
+    tone: u64,
+    tones: u64,
+    ghost lasting: { (1 ≤ ms) × (ms ≤ 2) },
+    ghost inside: { (tone ≤ 48) × (tones ≤ 48) },
 }
 
-// The groups, of ms milliseconds each, that a window closes to the tones.
-fn closure(ms: u64, tone: u64, tones: u64, read: bool, w: Window) -> Closure
-    requires { (1 ≤ ms) × (ms ≤ 2) × (tone ≤ 48) × (tones ≤ 48) × (read ≡ true → is_listed w ≡ true) }
-    ensures { result ≡ closure_of ms tone tones read w }
-{
-    if !concerns(tone, tones, read, w) {
-        return Closure {
-            period: over_ms(ms, SHORTEST),
-            phase: 0,
-            closed: 0,
-        };
+impl Granted {
+    // x over the milliseconds of a group.
+    fn over_ms(self, x: u64) -> u64
+        ensures { result ≡ x / self.ms }
+    {
+        if self.ms == 1 { x } else { x / 2 }
     }
-    let period = w.period;
-    let start = w.start;
-    let length = w.length;
-    let unit = UNITS_OF_MS * ms;
-    Closure {
-        period: over_ms(ms, period),
-        phase: over_ms(ms, ALL_PERIODS - start),
-        closed: over_ms(ms, (length + (unit - 1)) / UNITS_OF_MS),
-    }
-}
 
-// The groups that the windows close.
-fn closures_by(ms: u64, tone: u64, tones: u64, ws: Windows) -> Closures
-    requires { (1 ≤ ms) × (ms ≤ 2) × (tone ≤ 48) × (tones ≤ 48) × (are_listed ws ≡ true) }
-    ensures { result ≡ closures_of ms tone tones ws }
-{
-    let count = ws.count;
-    Closures {
-        b1: closure(ms, tone, tones, 1 <= count, ws.w1),
-        b2: closure(ms, tone, tones, 2 <= count, ws.w2),
-        b3: closure(ms, tone, tones, 3 <= count, ws.w3),
-        b4: closure(ms, tone, tones, 4 <= count, ws.w4),
+    // The groups that a window closes to the tones.
+    fn closure(self, read: bool, w: Window) -> Closure
+        requires { read ≡ true → is_listed w ≡ true }
+        ensures { result ≡ closure_of self.ms self.tone self.tones read w }
+    {
+        if concerns(self.tone, self.tones, read, w) {
+            let unit = UNITS_OF_MS * self.ms;
+            Closure {
+                period: self.over_ms(w.period),
+                phase: self.over_ms(ALL_PERIODS - w.start),
+                closed: self.over_ms((w.length + (unit - 1)) / UNITS_OF_MS),
+            }
+        } else {
+            Closure {
+                period: self.over_ms(SHORTEST),
+                phase: 0,
+                closed: 0,
+            }
+        }
+    }
+
+    // The groups that the windows close.
+    fn closures(self, ws: Windows) -> Closures
+        requires { are_listed ws ≡ true }
+        ensures { result ≡ closures_of self.ms self.tone self.tones ws }
+    {
+        let count = ws.count;
+        Closures {
+            b1: self.closure(1 <= count, ws.w1),
+            b2: self.closure(2 <= count, ws.w2),
+            b3: self.closure(3 <= count, ws.w3),
+            b4: self.closure(4 <= count, ws.w4),
+        }
     }
 }
 
@@ -166,6 +157,10 @@ pub fn nested_closures(spacing: u64, tone: u64, tones: u64, ws: Windows) -> Nest
     ensures { NestedFor (group_ms spacing) (open_to spacing tone tones ws) result }
 {
     let scale = numerology::narrow_tones(spacing);
-    let ms = numerology::group_ms(spacing);
-    closures::nest(closures_by(ms, scale * tone, scale * tones, ws))
+    let granted = Granted {
+        ms: numerology::group_ms(spacing),
+        tone: scale * tone,
+        tones: scale * tones,
+    };
+    closures::nest(granted.closures(ws))
 }

@@ -1,22 +1,18 @@
 use Rattle.nprach.specs.Quick.{closures_of}
 use Rattle.nprach.proofs.Listing.{listed_1, listed_2, listed_3, listed_4}
-use Rattle.nprach.proofs.closures_by.Goals as goal
+use Rattle.nprach.proofs.Granted.closures.Goals as goal
 
 pub closure-requires : goal.closure-requires
-unfolding closures_of
-closure-requires c = let p = c.requires in (p.0, p.1, p.2, p.3, listed_1 c.args.ws p.4)
+closure-requires c = listed_1 c.args.ws c.requires
 
 pub closure-requires-2 : goal.closure-requires-2
-unfolding closures_of
-closure-requires-2 c = let p = c.requires in (p.0, p.1, p.2, p.3, listed_2 c.args.ws p.4)
+closure-requires-2 c = listed_2 c.args.ws c.requires
 
 pub closure-requires-3 : goal.closure-requires-3
-unfolding closures_of
-closure-requires-3 c = let p = c.requires in (p.0, p.1, p.2, p.3, listed_3 c.args.ws p.4)
+closure-requires-3 c = listed_3 c.args.ws c.requires
 
 pub closure-requires-4 : goal.closure-requires-4
-unfolding closures_of
-closure-requires-4 c = let p = c.requires in (p.0, p.1, p.2, p.3, listed_4 c.args.ws p.4)
+closure-requires-4 c = listed_4 c.args.ws c.requires
 
 pub returns : goal.returns
 unfolding closures_of
