@@ -2,7 +2,7 @@
 use mathlib.Core.Bool.{Bool, true, false, not, cond, ◌&&◌, ◌||◌, and-true}
 use mathlib.Core.Path.{◌≡◌, refl, sym, ap, ◌∙◌}
 use mathlib.Core.Logic.{⊎_elim}
-use Prim.Native.Nat.{ℕ, ◌+◌, ◌≤◌, ◌<◌}
+use Prim.Native.Nat.{ℕ, zero, suc, ◌+◌, ◌≤◌, ◌<◌}
 use native.Mathlib.Omega.{arith}
 use lib.Dec.{ltb, leb}
 use borrow.Author.Tests.{ltb-true, leb-true, le-leb, lt-ltb, ne_eqb}
@@ -14,10 +14,10 @@ use Rattle.counting.proofs.Rank.{rank_le, rank_same, rank_strict}
 use Rattle.counting.proofs.Select.{lists_below}
 use Rattle.grid.specs.Grid.{subcarriers, elements, element_of, slot_of, symbol_of, subcarrier_of}
 use Rattle.elements.specs.declared.Layout.{Layout}
-use Rattle.elements.specs.declared.ElementUse.{ElementUse}
+use Rattle.elements.specs.declared.ElementKind.{ElementKind}
 use Rattle.elements.specs.declared.ElementUse.TheVariants.{Used, Unused}
 use Rattle.elements.specs.Elements.{nrs, crs, reference, control_region, eligible, used, kind_of, count_of, element_at, number_of}
-use Rattle.elements.specs.Scaffold.{element_use_of, Part}
+use Rattle.elements.specs.Scaffold.{kind_number, kind_with, element_use_of, Part}
 use Rattle.elements.proofs.Marked.{and_false}
 use Rattle.elements.proofs.Rows.{row_used}
 
@@ -109,26 +109,31 @@ module _ (g : Layout) (from width : ℕ) where
 
 -- ---- what an answer says of its element
 
-abbrev number_in : ElementUse → ℕ
-number_in (Used e) = e
-number_in (Unused kind) = kind
+used_by : (b : Bool) (n e : ℕ) (k : ElementKind) → cond b (Used n) (Unused k) ≡ Used e → (b ≡ true) × (n ≡ e)
+used_by true n e k h = (refl, cc)
+used_by false n e k h = let z : ◌≡◌ {A = ℕ} 0 1 = cc in absurd (omega arith)
 
-used_by : (b : Bool) (n k e : ℕ) → cond b (Used n) (Unused k) ≡ Used e → (b ≡ true) × (n ≡ e)
-used_by true n k e h = (refl, ap number_in h)
-used_by false n k e h = let z : ◌≡◌ {A = ℕ} 0 1 = cc in absurd (omega arith)
-
-other_by : (b : Bool) (n k e : ℕ) → cond b (Used n) (Unused k) ≡ Unused e → (b ≡ false) × (k ≡ e)
+other_by : (b : Bool) (n : ℕ) (k e : ElementKind) → cond b (Used n) (Unused k) ≡ Unused e → (b ≡ false) × (k ≡ e)
 other_by true n k e h = let z : ◌≡◌ {A = ℕ} 0 1 = cc in absurd (omega arith)
-other_by false n k e h = (refl, ap number_in h)
+other_by false n k e h = (refl, cc)
 
-module _ (g : Layout) (from width x e : ℕ) where
-  pub use_used : element_use_of g from width x ≡ Used e → (used g from width x ≡ true) × (number_of g from width x ≡ e)
-  unfolding element_use_of
-  use_used h = used_by (used g from width x) (number_of g from width x) (kind_of g x) e h
+-- the kind with a number has it
+kind_back : (n : ℕ) → n ≤ 2 → kind_number (kind_with n) ≡ n
+kind_back zero h = refl
+kind_back (suc zero) h = refl
+kind_back (suc (suc zero)) h = refl
+kind_back (suc (suc (suc n))) h = absurd (omega arith)
 
-  pub use_unused : element_use_of g from width x ≡ Unused e → (used g from width x ≡ false) × (kind_of g x ≡ e)
+module _ (g : Layout) (from width x : ℕ) where
+  pub use_used : (e : ℕ) → element_use_of g from width x ≡ Used e → (used g from width x ≡ true) × (number_of g from width x ≡ e)
   unfolding element_use_of
-  use_unused h = other_by (used g from width x) (number_of g from width x) (kind_of g x) e h
+  use_used e h = used_by (used g from width x) (number_of g from width x) e (kind_with (kind_of g x)) h
+
+  pub use_unused : (kind : ElementKind) → element_use_of g from width x ≡ Unused kind → (used g from width x ≡ false) × (kind_of g x ≡ kind_number kind)
+  unfolding element_use_of
+  use_unused kind h =
+      let o = other_by (used g from width x) (number_of g from width x) (kind_with (kind_of g x)) kind h in
+      (o.0, sym (kind_back (kind_of g x) (kind_small g x)) ∙ ap kind_number o.1)
 
 -- ---- the parts that grants use
 

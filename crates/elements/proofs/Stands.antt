@@ -7,9 +7,10 @@ use borrow.Author.Tests.{le-leb, lt-ltb}
 use Rattle.counting.specs.Counting.{in_range}
 use Rattle.grid.specs.Grid.{subcarriers, symbols, slots, element_of}
 use Rattle.elements.specs.declared.Layout.{Layout}
+use Rattle.elements.specs.declared.ElementKind.TheVariants.{Plain}
 use Rattle.elements.specs.declared.ElementUse.TheVariants.{Used, Unused}
 use Rattle.elements.specs.Elements.{reference, control_region, used, kind_of, number_of}
-use Rattle.elements.specs.Scaffold.{element_use_of, Valid, Part}
+use Rattle.elements.specs.Scaffold.{kind_with, element_use_of, Valid, Part}
 use Rattle.elements.specs.Quick.{free_of, is_free, place_in, reference_kind, RowOf}
 use Rattle.elements.proofs.Marked.{and_false, marks_in, free_some, row_place, reference_marked}
 use Rattle.elements.proofs.Rows.{row_used, row_open, open_part, row_kind}
@@ -35,17 +36,17 @@ module _ (g : Layout) (v : Valid g) (from width : ℕ) (p : Part from width) (sl
   abbrev plain : Bool
   plain = is_free (marks_in g v l hl) (k % 6)
 
-  other : (n : ℕ) → used g from width x ≡ false → kind_of g x ≡ n → Unused n ≡ element_use_of g from width x
+  other : (n : ℕ) → used g from width x ≡ false → kind_of g x ≡ n → Unused (kind_with n) ≡ element_use_of g from width x
   unfolding element_use_of
   other n e f = rw (e, f) refl
 
-  pub stands_reference : plain ≡ false → Unused (reference_kind l) ≡ element_use_of g from width x
+  pub stands_reference : plain ≡ false → Unused (kind_with (reference_kind l)) ≡ element_use_of g from width x
   stands_reference e =
       other (reference_kind l)
       (row_used g from width slot l hs hl k hk ∙ (rw (reference_marked g v l hl k, e, and_false (not (control_region g slot l))) refl))
       (row_kind g from width slot l hs hl v k hk ∙ (rw e refl))
 
-  pub stands_plain : plain ≡ true → (control_region g slot l || not (in_range from width k)) ≡ true → Unused 0 ≡ element_use_of g from width x
+  pub stands_plain : plain ≡ true → (control_region g slot l || not (in_range from width k)) ≡ true → Unused Plain ≡ element_use_of g from width x
   stands_plain e f =
       other 0
       (row_used g from width slot l hs hl k hk ∙ shut_or (control_region g slot l) (in_range from width k) (not (reference g l k)) f)

@@ -1,13 +1,13 @@
 // Which elements of a downlink subframe carry data, counted row by row.
 #![tactic(auto)]
 
-ghost use Rattle.std.specs.Prelude.{false, ◌≡◌, ◌+◌, ◌*◌, ◌/◌, ◌^◌, ◌<◌, ◌≤◌};
+ghost use Rattle.std.specs.Prelude.{false, ◌≡◌, ◌+◌, ◌/◌, ◌^◌, ◌<◌, ◌≤◌};
 ghost use Rattle.grid.specs.Grid.{subcarriers, symbols, slots, elements, element_of};
 ghost use Rattle.counting.specs.Counting.{in_range};
 ghost use Rattle.elements.specs.Elements.{ncce_width};
 ghost use Rattle.elements.specs.Elements.{control_region, count_of, element_at, number_of};
-ghost use Rattle.elements.specs.Scaffold.{element_use_of, Valid, Part};
-ghost use Rattle.elements.specs.Quick.{rows, sums_of, byte_of, six_before, free_of, six_in_rows, nth_free, nth_in};
+ghost use Rattle.elements.specs.Scaffold.{kind_number, kind_with, element_use_of, Valid, Part};
+ghost use Rattle.elements.specs.Quick.{rows, sums_of, six_before, free_of, six_in_rows, nth_free, nth_in};
 ghost use Rattle.elements.specs.Quick.{place_in, reference_kind, SpotOf, RowOf, has_in};
 
 use grid::Grid;
@@ -26,11 +26,28 @@ pub struct Layout {
     pub control: u64,
 }
 
+// The kind of an element: none of the references, a narrowband reference, or a cell reference.
+#[derive(Clone, Copy, PartialEq, Eq)]
+pub enum ElementKind {
+    Plain = 0,
+    Narrowband = 1,
+    Cell = 2,
+}
+
+impl ElementKind {
+    // The number that answers carry.
+    pub fn number(self) -> u64
+        ensures { result ≡ kind_number self }
+    {
+        self as u64
+    }
+}
+
 // What an element of a subframe is: used, by its number among the used ones; or not, by its kind.
 #[derive(Clone, Copy)]
 pub enum ElementUse {
     Used(u64),
-    Unused(u64),
+    Unused(ElementKind),
 }
 
 // A layout, and by bytes l = 0 to 7: how many of six subcarriers carry no reference, in all symbols of a slot before l.
@@ -234,13 +251,17 @@ fn before_in(m: Marks, free: u64, from: u64, k: u64, six: u64) -> u64
 }
 
 // Narrowband references lie on symbols 5 and 6, cell references before.
-fn reference_kind(l: u64) -> u64
-    ensures { result ≡ reference_kind l }
+fn reference_kind(l: u64) -> ElementKind
+    ensures { result ≡ kind_with (reference_kind l) }
 {
-    if l < 5 { 2 } else { 1 }
+    if l < 5 {
+        ElementKind::Cell
+    } else {
+        ElementKind::Narrowband
+    }
 }
 
-// An element: used, with its number; or not, with its kind: 0 plain, 1 narrowband reference, 2 cell reference.
+// An element: used, with its number; or not, with its kind.
 pub fn use_at(g: Layout, from: u64, width: u64, slot: u64, l: u64, k: u64) -> ElementUse
     requires { Valid g × Part from width × (slot < slots) × (l < symbols) × (k < subcarriers) }
     ensures { result ≡ element_use_of g from width (element_of slot l k) }
@@ -257,7 +278,7 @@ pub fn use_at(g: Layout, from: u64, width: u64, slot: u64, l: u64, k: u64) -> El
         return ElementUse::Unused(reference_kind(l));
     }
     if in_control(g, slot, l) | !ncces.has(k) {
-        return ElementUse::Unused(0);
+        return ElementUse::Unused(ElementKind::Plain);
     }
     let start = summed.row_start(ncces, slot, l);
     ElementUse::Used(start + before_in(m, free, from, k, six))
