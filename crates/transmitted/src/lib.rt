@@ -15,7 +15,7 @@ ghost use Rattle.transmitted.specs.Quick.{goes_in, CallFor};
 
 use cell::{Cell, CellConfig};
 use downlink::{Burst, DownlinkGrant};
-use elements::{ElementUse, Layout};
+use elements::{ElementKind, ElementUse, Layout};
 use grid::Grid;
 use npdsch::NpdschGrant;
 use refusals::Refusal;
@@ -105,12 +105,8 @@ fn outgoing(layout: Layout, first: u64, slot: u64, l: u64, k: u64) -> Outgoing
     let at = elements::use_at(layout, 0, Grid::SUBCARRIERS, slot, l, k);
     match at {
         ElementUse::Used(e) => Outgoing::Ours(first + e),
-        ElementUse::Unused(kind) => {
-            if kind == 0 {
-                return Outgoing::Silent;
-            }
-            Outgoing::Reference(kind)
-        }
+        ElementUse::Unused(ElementKind::Plain) => Outgoing::Silent,
+        ElementUse::Unused(kind) => Outgoing::Reference(kind.number()),
     }
 }
 

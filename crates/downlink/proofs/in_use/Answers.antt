@@ -17,7 +17,7 @@ pub returns-in-Unused : goal.returns-in-Unused
 returns-in-Unused c =
     λ x e.
     let o = use_unused c.args.b.layout c.args.b.low c.args.b.width x c.in-Unused.kind (sym e ∙ c.in-Unused.is) in
-    c.not_ours.ensures ∙ ap back_of (content_unused c.args.b c.args.i x _ o.0 (sym o.1))
+    c.not_ours.ensures ∙ ap back_of (content_unused c.args.b c.args.i x _ o.0 (c.number.ensures ∙ sym o.1))
 
 pub used_elements-w-requires : goal.used_elements-w-requires
 used_elements-w-requires c = c.requires.0
