@@ -1,4 +1,5 @@
 -- The search over periods: a scan of one period finds the subframe, or says how many a period has.
+use Rattle.std.specs.Prelude.{List}
 use mathlib.Core.Bool.{Bool, true}
 use mathlib.Core.Path.{◌≡◌, refl, sym, ap, subst, ◌∙◌}
 use mathlib.Core.Logic.{⊎_elim}
@@ -16,7 +17,6 @@ use Rattle.spans.specs.Pattern.{allows, Regular}
 use Rattle.messages.specs.declared.Messages.{Messages}
 use Rattle.units.specs.declared.Timetable.{Timetable}
 use Rattle.units.specs.declared.Sight.{Sight}
-use Rattle.units.specs.declared.Wants.{Wants}
 use Rattle.units.specs.declared.Spot.{Spot}
 use Rattle.timetable.specs.declared.Sought.{Sought}
 use Rattle.timetable.specs.declared.Hit.{Hit}
@@ -79,7 +79,7 @@ module _ (ms : Messages) (p : Pattern) (reg : Regular p) (table : Timetable) (S 
   walked = walk_exact ms u (far p reg) table S
 
   -- what remains of a unit's first y subframes
-  pub first_count : (n y : ℕ) (w : Wants) → Exact ms u table n w → y ≤ table.unit
+  pub first_count : (n y : ℕ) (w : List ℕ) → Exact ms u table n w → y ≤ table.unit
       → rank rest (begin_of table n) + (count u (begin_of table n) y - unit_need table n w) ≡ rank rest (begin_of table n + y)
   first_count n y w X l = omega (arith, unit_remaining ms u (far p reg) table S n w X y l, rank_count rest y (begin_of table n))
 
@@ -168,7 +168,7 @@ module _ (ms : Messages) (p : Pattern) (reg : Regular p) (table : Timetable) (S 
 
   -- and from there on
   pub hits_on : (s : Sight) (j more : ℕ) (a b : Hit) → Hits ms u table (moved s j) a → Hits ms u table (moved a.sight more) b
-      → Hits ms u table (moved s (j + more)) (record { sight = b.sight; later = a.later + b.later; kept = b.kept })
+      → Hits ms u table (moved s (j + more)) (record { sight = b.sight; later = b.later + a.later })
   hits_on s j more a b A B = record {
     exact = B.exact;
     here = B.here;
@@ -213,7 +213,7 @@ module _ (ms : Messages) (ok : are_listed ms ≡ true) (p : Pattern) (reg : Regu
 -- ---- from where a search began
 
 module _ (ms : Messages) (p : Pattern) (from : ℕ) (r : Sought) (B : SoughtAt ms p from r) where
-  pub sighted : (n : ℕ) (w : Wants) → Exact ms (allows p) r.table n w → Sighted r.table (allows p) n w
+  pub sighted : (n : ℕ) (w : List ℕ) → Exact ms (allows p) r.table n w → Sighted r.table (allows p) n w
   sighted n w X = record { ms = ms; serves = B.serves; exact = X; some = B.some }
 
   pub struck : (h : Hit) (j : ℕ) → Hits ms (allows p) r.table (moved r.sight j) h → Struck r.table (allows p) from h

@@ -1,10 +1,9 @@
 -- For the code alone. What the quick search works out on the way.
-use Rattle.std.specs.Prelude.{Bool, true, ◌≡◌, ℕ, ◌+◌, ◌*◌, ◌%◌, ◌^◌, ◌≤◌, ◌<◌}
+use Rattle.std.specs.Prelude.{List, Bool, true, ◌≡◌, ℕ, ◌+◌, ◌*◌, ◌%◌, ◌^◌, ◌≤◌, ◌<◌}
 use Rattle.counting.specs.Counting.{rank}
 use Rattle.spans.specs.declared.Pattern.{Pattern}
 use Rattle.spans.specs.Pattern.{allows}
 use Rattle.units.specs.declared.Timetable.{Timetable}
-use Rattle.units.specs.declared.Wants.{Wants}
 use Rattle.units.specs.declared.Sight.{Sight}
 use Rattle.timetable.specs.declared.Sought.{Sought}
 use Rattle.timetable.specs.declared.Hit.{Hit}
@@ -22,7 +21,7 @@ pub record Scanned (ms : Messages) (u : ℕ → Bool) (table : Timetable) (s : S
   pub here : even ≡ true → r.n < end → Here ms u table r.n r.wants r.k
 
 -- what is wanted at unit n is that of messages that leave some
-pub record Sighted (table : Timetable) (u : ℕ → Bool) (n : ℕ) (w : Wants) : Type 0 where
+pub record Sighted (table : Timetable) (u : ℕ → Bool) (n : ℕ) (w : List ℕ) : Type 0 where
   pub ms : Messages
   pub serves : Serves ms table
   pub exact : Exact ms u table n w
@@ -69,7 +68,7 @@ pub record Struck (table : Timetable) (u : ℕ → Bool) (from : ℕ) (h : Hit) 
   pub hits : Hits ms u table (moved s j) h
 
 -- what is wanted at unit n is that of some messages
-pub record Exactly (table : Timetable) (u : ℕ → Bool) (n : ℕ) (w : Wants) : Type 0 where
+pub record Exactly (table : Timetable) (u : ℕ → Bool) (n : ℕ) (w : List ℕ) : Type 0 where
   pub ms : Messages
   pub serves : Serves ms table
   pub exact : Exact ms u table n w

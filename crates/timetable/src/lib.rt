@@ -15,23 +15,14 @@ ghost use Rattle.timetable.specs.Quick.{Struck, SoughtAt, moved, Parted};
 
 use messages::Messages;
 use spans::{Ends, Found, Pattern};
-use strides::Kept;
-use units::{Sight, Timetable, Wants};
+use strides::{Kept, Leap, Reached};
+use units::{Sight, Timetable};
 
-// A sight, and what was counted on the way to it; whether its subframe is at hand.
-#[derive(Clone, Copy)]
-struct Reached {
-    sight: Sight,
-    kept: Kept,
-    even: bool,
-}
-
-// The same so many subframes later, and what was counted on the way.
+// The subframe that is at hand where a sight is, so many subframes later.
 #[derive(Clone, Copy)]
 struct Hit {
     sight: Sight,
     later: u64,
-    kept: Kept,
 }
 
 // Where a search begins.
@@ -41,7 +32,7 @@ struct Sought {
     sight: Sight,
 }
 
-// How many remain before a subframe, and whether it remains.
+// How many remain before a subframe, and whether it remains. No Option: `before` counts for one that doesn't too.
 #[derive(Clone, Copy)]
 struct Count {
     before: u64,
@@ -61,80 +52,57 @@ pub fn is_remaining(ms: Messages, p: Pattern, t: u64) -> bool
     requires { (are_listed ms ≡ true) × Regular p }
     ensures { result ≡ remaining ms (allows p) t }
 {
-    if spans::is_allowed(p, t) {
-        let table = units::timetable_of(ms);
-        let period = table.unit * table.units;
-        let spot = units::spot_of(table, t % period);
-        let s = units::sight_at(table, p, spot.n);
-        let needed = units::all_need(table, s.n, s.wants);
-        let free = units::free_first(table, p, s.n, s.free, spot.y);
-        return needed <= free;
+    if !spans::is_allowed(p, t) {
+        return false;
     }
-    false
+    let table = units::timetable_of(ms);
+    let period = table.unit * table.units;
+    let spot = units::spot_of(table, t % period);
+    let s = units::sight_at(table, p, spot.n);
+    let needed = units::all_need(table, s.n, s.wants);
+    let free = units::free_first(table, p, s.n, s.free, spot.y);
+    needed <= free
 }
 
 // By strides to where the k-th is, or to `end`.
-fn scan(table: Timetable, p: Pattern, s: Sight, seen: Kept, end: u64, far: bool) -> Reached
+fn scan(table: Timetable, p: Pattern, s: Sight, kept: &mut Kept, end: u64, far: bool) -> Reached
     requires { Sized table × Allowing p × Seen table (allows p) s × (s.n ≤ end) × (end < 2 ^ 19)
-        × Keeps table (allows p) seen }
+        × Keeps table (allows p) kept.old }
     ensures { (result.sight.n ≤ end) × Seen table (allows p) result.sight × (result.sight.k ≤ s.k)
         × (result.sight.n < end → result.sight.k < 2 ^ 29)
         × ((ms : Messages) → Serves ms table → Exact ms (allows p) table s.n s.wants
         → Scanned ms (allows p) table s end result.even result.sight)
-        × Keeps table (allows p) result.kept × (far ≡ false → result.even ≡ true) }
+        × Keeps table (allows p) kept.new × (far ≡ false → result.even ≡ true) }
 {
-    let mut n = s.n;
-    let mut w1 = s.wants.w1;
-    let mut w2 = s.wants.w2;
-    let mut w3 = s.wants.w3;
-    let mut w4 = s.wants.w4;
-    let mut free = s.free;
-    let mut k = s.k;
-    let mut kept = seen;
-    while n < end {
-        let wants = Wants { w1, w2, w3, w4 };
-        let f = strides::leap_from(table, p, Sight { n, wants, free, k }, kept, end, far);
-        let r = f.sight;
-        let found = f.found;
-        kept = f.kept;
-        if found {
-            return Reached {
-                sight: r,
-                kept,
-                even: f.even,
-            };
+    let mut at = s;
+    // No for: a step is as long as the stretch that is passed.
+    while at.n < end {
+        match strides::leap_from(table, p, at, kept, end, far) {
+            Leap::To(reached) => return reached,
+            Leap::Past(sight) => at = sight,
         }
-        n = r.n;
-        w1 = r.wants.w1;
-        w2 = r.wants.w2;
-        w3 = r.wants.w3;
-        w4 = r.wants.w4;
-        free = r.free;
-        k = r.k;
     }
-    let wants = Wants { w1, w2, w3, w4 };
     Reached {
-        sight: Sight { n, wants, free, k },
-        kept,
+        sight: at,
         even: true,
     }
 }
 
 // To where the k-th is, or to `end`: by windows, then by units.
-fn reach(table: Timetable, p: Pattern, s: Sight, kept: Kept, end: u64) -> Reached
+fn reach(table: Timetable, p: Pattern, s: Sight, kept: &mut Kept, end: u64) -> Sight
     requires { Sized table × Allowing p × Seen table (allows p) s × (s.n ≤ end) × (end < 2 ^ 19)
-        × Keeps table (allows p) kept }
-    ensures { (result.sight.n ≤ end) × Seen table (allows p) result.sight × (result.sight.k ≤ s.k)
-        × (result.sight.n < end → result.sight.k < 2 ^ 29)
+        × Keeps table (allows p) kept.old }
+    ensures { (result.n ≤ end) × Seen table (allows p) result × (result.k ≤ s.k) × (result.n < end → result.k < 2 ^ 29)
         × ((ms : Messages) → Serves ms table → Exact ms (allows p) table s.n s.wants
-        → Scanned ms (allows p) table s end true result.sight)
-        × Keeps table (allows p) result.kept }
+        → Scanned ms (allows p) table s end true result)
+        × Keeps table (allows p) kept.new }
 {
     let far = scan(table, p, s, kept, end, true);
     if far.even {
-        return far;
+        far.sight
+    } else {
+        scan(table, p, far.sight, kept, end, false).sight
     }
-    scan(table, p, far.sight, far.kept, end, false)
 }
 
 // The k-th remaining subframe, in the units at hand.
@@ -151,39 +119,32 @@ fn land(table: Timetable, p: Pattern, s: Sight) -> u64
 }
 
 // To where the subframe is at hand that follows the sight's after j more: in one period, or whole periods by division.
-fn find(table: Timetable, p: Pattern, s: Sight, j: u64, seen: Kept) -> Hit
+fn find(table: Timetable, p: Pattern, s: Sight, j: u64, kept: &mut Kept) -> Hit
     requires { Sized table × Allowing p × Seen table (allows p) s × (s.n < 2 ^ 15) × (s.k < 2 ^ 30)
-        × (j < 2 ^ 31) × Sighted table (allows p) s.n s.wants × Keeps table (allows p) seen }
+        × (j < 2 ^ 31) × Sighted table (allows p) s.n s.wants × Keeps table (allows p) kept.old }
     ensures { Seen table (allows p) result.sight × (result.sight.n < s.n + table.units)
         × (result.sight.k < 2 ^ 29) × (result.later ≤ 2 ^ 49)
         × ((ms : Messages) → Serves ms table → Exact ms (allows p) table s.n s.wants
         → Hits ms (allows p) table (moved s j) result)
-        × Keeps table (allows p) result.kept }
+        × Keeps table (allows p) kept.new }
 {
     let mut from = s;
     from.k = s.k + j;
     let k = from.k;
     let end = s.n + table.units;
-    let r = reach(table, p, from, seen, end);
-    let once = r.sight;
-    let kept = r.kept;
-    let left = once.k;
+    let once = reach(table, p, from, kept, end);
     if once.n < end {
         return Hit {
             sight: once,
             later: 0,
-            kept,
         };
     }
+    let left = once.k;
     let whole = counting::quotient(left, k - left);
     from.k = left - whole * (k - left);
-    let again = reach(table, p, from, kept, end);
-    let sight = again.sight;
-    let kept = again.kept;
     Hit {
-        sight,
+        sight: reach(table, p, from, kept, end),
         later: (whole + 1) * (table.unit * table.units),
-        kept,
     }
 }
 
@@ -198,7 +159,7 @@ fn sight_of(table: Timetable, p: Pattern, t: u64) -> Sight
     let spot = units::spot_of(table, t);
     let mut s = units::sight_at(table, p, spot.n);
     let free = units::free_first(table, p, s.n, s.free, spot.y);
-    s.k = units::monus(free, units::all_need(table, s.n, s.wants));
+    s.k = free.saturating_sub(units::all_need(table, s.n, s.wants));
     s
 }
 
@@ -212,8 +173,7 @@ fn hit_of(table: Timetable, p: Pattern, h: Hit, from: u64) -> u64
 {
     let period = table.unit * table.units;
     let whole = counting::quotient(from, period);
-    let later = h.later;
-    land(table, p, h.sight) + later + whole * period - 5 * period
+    land(table, p, h.sight) + h.later + whole * period - 5 * period
 }
 
 // The table of the messages, and the sight of a subframe in it.
@@ -234,12 +194,8 @@ pub fn nth(ms: Messages, p: Pattern, from: u64, j: u64) -> u64
     ensures { result ≡ select (remaining ms (allows p)) all_periods from j }
 {
     let g = seek_from(ms, p, from);
-    hit_of(
-        g.table,
-        p,
-        find(g.table, p, g.sight, j, strides::none_kept()),
-        from,
-    )
+    let hit = find(g.table, p, g.sight, j, &mut [None; 4]);
+    hit_of(g.table, p, hit, from)
 }
 
 // The first remaining subframe from a given one on.
@@ -259,12 +215,14 @@ pub fn first_and_last(ms: Messages, p: Pattern, from: u64, j: u64, more: u64) ->
         × (result.last ≡ select (remaining ms (allows p)) all_periods from (j + more)) }
 {
     let g = seek_from(ms, p, from);
-    let a = find(g.table, p, g.sight, j, strides::none_kept());
-    let mut b = find(g.table, p, a.sight, more, a.kept);
-    b.later = a.later + b.later;
-    let first = hit_of(g.table, p, a, from);
-    let last = hit_of(g.table, p, b, from);
-    Ends { first, last }
+    let mut kept = [None; 4];
+    let a = find(g.table, p, g.sight, j, &mut kept);
+    let mut b = find(g.table, p, a.sight, more, &mut kept);
+    b.later += a.later;
+    Ends {
+        first: hit_of(g.table, p, a, from),
+        last: hit_of(g.table, p, b, from),
+    }
 }
 
 // No subframe remains.
@@ -276,11 +234,11 @@ pub fn is_empty(ms: Messages, p: Pattern) -> bool
         return true;
     }
     let table = units::timetable_of(ms);
-    let n = 4 * table.units + ms.count * table.l1.window;
+    let n = 4 * table.units + ms.count * table.lanes[0].window;
     let mut s = units::sight_at(table, p, n);
     s.k = 0;
     let end = s.n + table.units;
-    scan(table, p, s, strides::none_kept(), end, false).sight.n == end
+    scan(table, p, s, &mut [None; 4], end, false).sight.n == end
 }
 
 // The sight of unit `end`: how many remain before it from the sight's unit on, as k.
@@ -293,7 +251,7 @@ fn counted(table: Timetable, p: Pattern, s: Sight, end: u64) -> Sight
 {
     let mut from = s;
     from.k = 0x8000_0000;
-    let mut r = scan(table, p, from, strides::none_kept(), end, true).sight;
+    let mut r = scan(table, p, from, &mut [None; 4], end, true).sight;
     r.k = 0x8000_0000 - r.k;
     r
 }
@@ -311,11 +269,9 @@ fn part_of(table: Timetable, p: Pattern, s: Sight, t: u64) -> Part
     let here = counted(table, p, s, spot.n);
     let free = units::free_first(table, p, here.n, here.free, spot.y);
     let needed = units::all_need(table, here.n, here.wants);
-    let last = units::monus(free, needed);
-    let allowed = spans::is_allowed(p, t);
     Part {
-        before: here.k + last - s.k,
-        remains: allowed & (needed <= free),
+        before: here.k + free.saturating_sub(needed) - s.k,
+        remains: spans::is_allowed(p, t) & (needed <= free),
         here,
     }
 }
@@ -346,11 +302,12 @@ fn count_from(table: Timetable, p: Pattern, from: u64, t: u64) -> Count
     let before = part.before;
     let remains = part.remains;
     if whole == 0 {
-        return Count { before, remains };
-    }
-    Count {
-        before: before + whole * in_period(table, p, s.n, part.here),
-        remains,
+        Count { before, remains }
+    } else {
+        Count {
+            before: before + whole * in_period(table, p, s.n, part.here),
+            remains,
+        }
     }
 }
 
@@ -364,20 +321,16 @@ pub fn locate(ms: Messages, p: Pattern, from: u64, skip: u64, many: u64, t: u64)
         return Found::Nothing;
     }
     let part = count_from(units::timetable_of(ms), p, from, t);
-    let i = part.before;
-    let remains = part.remains;
-    if i < skip {
-        return Found::Nothing;
+    match part.before.checked_sub(skip) {
+        Some(index) if index < many => {
+            if part.remains {
+                Found::At(index)
+            } else if index == 0 {
+                Found::Nothing
+            } else {
+                Found::Between
+            }
+        }
+        _ => Found::Nothing,
     }
-    let index = i - skip;
-    if index >= many {
-        return Found::Nothing;
-    }
-    if remains {
-        return Found::At(index);
-    }
-    if index == 0 {
-        return Found::Nothing;
-    }
-    Found::Between
 }
