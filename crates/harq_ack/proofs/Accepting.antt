@@ -1,7 +1,7 @@
 -- What acceptance says of an acknowledgement's numbers, and that its shape then fits.
 use mathlib.Core.Bool.{Bool, true, false, cond, ◌&&◌}
 use mathlib.Core.List.{List, [], ◌∷◌}
-use mathlib.Core.Path.{◌≡◌, refl, sym, ap, ◌∙◌}
+use mathlib.Core.Path.{◌≡◌, refl, sym, subst}
 use Prim.Native.Nat.{ℕ, zero, suc, ◌+◌, ◌-◌, ◌/◌, ◌%◌, ◌≤◌}
 use native.Mathlib.Nat.{mod-one}
 use native.Mathlib.Omega.{arith}
@@ -170,12 +170,6 @@ module _ (g : HarqAckGrant) (ws : Windows) (e : refusal g ws ≡ 0) where
 pub plain_open : (g : HarqAckGrant) (u : ℕ) → all_open u ≡ open_of g none u
 plain_open g u = none_closes g.spacing _ _ none refl u
 
--- ---- the grant got number n, and if that is 0 its shape is s
-
-module _ (g : HarqAckGrant) (n : ℕ) (e : n ≡ fields_refusal g) (z : n ≡ 0) (s : Shape) (own : s ≡ shape_of g) where
-  pub ready : Fits s × AtSpacing g.spacing s
-  ready = let a = ranged g (sym e ∙ z) in rw own (fits_in g a, spaced_of g a)
-
-  pub subcarriers_own : s.subcarriers ≡ uplink_subcarriers g.spacing
-  unfolding shape_of
-  subcarriers_own = ap (λ (x : Shape). x.subcarriers) own
+-- what every uplink grant shows of its shape
+pub shown : (g : HarqAckGrant) → fields_refusal g ≡ 0 → (s : Shape) → s ≡ shape_of g → (s ≡ shape_of g) × Fits s × AtSpacing g.spacing s
+shown g e s own = let a = ranged g e in (own, subst Fits (sym own) (fits_in g a), subst (AtSpacing g.spacing) (sym own) (spaced_of g a))

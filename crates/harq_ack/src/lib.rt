@@ -6,13 +6,15 @@ ghost use Rattle.nprach.specs.Windows.{none};
 ghost use Rattle.harq_ack.specs.Fields.{tone_of, delay_of};
 ghost use Rattle.harq_ack.specs.Refusals.{above_largest, fields_refusal};
 ghost use Rattle.harq_ack.specs.Shaping.{reference_of, shape_of};
-ghost use Rattle.harq_ack.specs.Scaffold.{start_of};
+ghost use Rattle.harq_ack.specs.Scaffold.{start_of, grant_size, grant_order};
 ghost use Rattle.harq_ack.specs.Questions.{plan_of, forward_of, backward_of};
 
 use grid::UplinkGrid;
 use nprach::Windows;
+use refusals::Refusal;
 use sending::Back;
 use uplink::{Shape, UplinkPlace, UplinkPlan};
+use uplink_grant::{Block, UplinkGrant};
 
 // The NPDSCH that is acknowledged ends in subframe n; the rest are fields, one of them the 4-bit field of tone and
 // delay.
@@ -36,24 +38,7 @@ const WIDE_DELAYS: [u8; 4] = [13, 15, 17, 18];
 fn above_largest(g: HarqAckGrant) -> bool
     ensures { result ≡ above_largest g }
 {
-    let spacing = g.spacing;
-    let field = g.field;
-    let copies = g.copies;
-    (spacing > 1) | ((field > 15) | (copies > 7))
-}
-
-// The number with which the grant is refused, or 0.
-pub fn judge(g: HarqAckGrant) -> u64
-    ensures { result ≡ fields_refusal g }
-{
-    let n = g.n;
-    if n > LAST_NPDSCH_SUBFRAME {
-        return 9;
-    }
-    if above_largest(g) {
-        return 10;
-    }
-    0
+    (g.spacing > 1) | ((g.field > 15) | (g.copies > 7))
 }
 
 // The tone that the field names.
@@ -81,9 +66,7 @@ fn start(g: HarqAckGrant) -> u64
     requires { fields_refusal g ≡ 0 }
     ensures { result ≡ start_of g }
 {
-    let n = g.n;
-    let spacing = g.spacing;
-    numerology::first_after(spacing, n + delay(spacing, g.field) - 1)
+    numerology::first_after(g.spacing, g.n + delay(g.spacing, g.field) - 1)
 }
 
 // The first reference symbol.
@@ -93,25 +76,52 @@ fn reference(spacing: u64) -> u64
     numerology::by_spacing(spacing, 0, 2)
 }
 
-// The shape of an accepted grant.
-pub fn shape(g: HarqAckGrant) -> Shape
-    requires { fields_refusal g ≡ 0 }
-    ensures { result ≡ shape_of g }
-{
-    let spacing = g.spacing;
-    Shape {
-        first: start(g),
-        subcarriers: UplinkGrid::subcarriers(spacing),
-        block: numerology::block(spacing),
-        gap: numerology::gap(spacing),
-        tone: tone(spacing, g.field),
-        tones: 1,
-        codeword: 4,
-        copies: grid::uplink_copies(g.copies),
-        consecutive: 1,
-        group: numerology::group(spacing),
-        reference: reference(spacing),
-        references: 3,
+impl UplinkGrant for HarqAckGrant {
+    ghost refusal_of = { fields_refusal };
+
+    ghost spacing_of = { λ g. g.spacing };
+
+    ghost shape_of = { shape_of };
+
+    ghost size_of = { λ _. grant_size };
+
+    ghost order_of = { λ _. grant_order };
+
+    #[tactic(auto, unfolding(crate::specs::Refusals::fields_refusal))]
+    fn judge(self) -> Result<(), Refusal> {
+        if self.n > LAST_NPDSCH_SUBFRAME {
+            return Err(Refusal::LateSubframe);
+        }
+        if above_largest(self) {
+            return Err(Refusal::LargeField);
+        }
+        Ok(())
+    }
+
+    fn spacing(self) -> u64 {
+        self.spacing
+    }
+
+    fn shape(self) -> Shape {
+        let spacing = self.spacing;
+        Shape {
+            first: start(self),
+            subcarriers: UplinkGrid::subcarriers(spacing),
+            block: numerology::block(spacing),
+            gap: numerology::gap(spacing),
+            tone: tone(spacing, self.field),
+            tones: 1,
+            codeword: 4,
+            copies: grid::uplink_copies(self.copies),
+            consecutive: 1,
+            group: numerology::group(spacing),
+            reference: reference(spacing),
+            references: 3,
+        }
+    }
+
+    fn block(self) -> Block {
+        Block { size: 1, order: 1 }
     }
 }
 
@@ -119,64 +129,37 @@ pub fn shape(g: HarqAckGrant) -> Shape
 pub fn plan(g: HarqAckGrant) -> UplinkPlan
     ensures { result ≡ plan_of g none }
 {
-    let no = judge(g);
-    if no != 0 {
-        return uplink::refused_plan(no);
-    }
-    uplink::plan(shape(g), 1, 1)
+    uplink_grant::plan(g)
 }
 
 pub fn plan_beside(g: HarqAckGrant, ws: Windows) -> UplinkPlan
     ensures { result ≡ plan_of g ws }
 {
-    let no = judge(g);
-    if no != 0 {
-        return uplink::refused_plan(no);
-    }
-    postponed::plan(g.spacing, shape(g), ws, 1, 1)
+    uplink_grant::plan_beside(g, ws)
 }
 
 // The place of position p, and the symbol there.
 pub fn forward(g: HarqAckGrant, p: u64) -> UplinkPlace
     ensures { result ≡ forward_of g none p }
 {
-    let no = judge(g);
-    if no != 0 {
-        return uplink::refused_place(no);
-    }
-    let s = shape(g);
-    let at = uplink::taken_apart(s, p);
-    uplink::forward(s, p, at, uplink::slot_at(s, at.i))
+    uplink_grant::forward(g, p)
 }
 
 pub fn forward_beside(g: HarqAckGrant, ws: Windows, p: u64) -> UplinkPlace
     ensures { result ≡ forward_of g ws p }
 {
-    let no = judge(g);
-    if no != 0 {
-        return uplink::refused_place(no);
-    }
-    postponed::forward(g.spacing, shape(g), ws, p)
+    uplink_grant::forward_beside(g, ws, p)
 }
 
 // What stands at symbol l and subcarrier k of a slot.
 pub fn backward(g: HarqAckGrant, slot: u64, l: u64, k: u64) -> Back
     ensures { result ≡ backward_of g none slot l k }
 {
-    let no = judge(g);
-    if no != 0 {
-        return sending::refused(no);
-    }
-    let s = shape(g);
-    uplink::backward(s, slot, uplink::locate(s, slot), l, k)
+    uplink_grant::backward(g, slot, l, k)
 }
 
 pub fn backward_beside(g: HarqAckGrant, ws: Windows, slot: u64, l: u64, k: u64) -> Back
     ensures { result ≡ backward_of g ws slot l k }
 {
-    let no = judge(g);
-    if no != 0 {
-        return sending::refused(no);
-    }
-    postponed::backward(g.spacing, shape(g), ws, slot, l, k)
+    uplink_grant::backward_beside(g, ws, slot, l, k)
 }

@@ -1,12 +1,11 @@
 -- What acceptance says of a grant's numbers, and that its shape then fits.
-use mathlib.Core.Path.{◌≡◌, refl, sym, ap, ◌∙◌}
+use mathlib.Core.Path.{◌≡◌, refl, sym, subst}
 use Prim.Native.Nat.{ℕ, ◌+◌, ◌≤◌, ◌<◌}
 use native.Mathlib.Nat.{mul-pos, mul-le-mul}
 use native.Mathlib.Omega.{arith}
 use lib.Dec.{ltb}
 use borrow.Author.Tests.{ltb-false, leb-false, le-ltb, lt-leb}
 use Rattle.counting.proofs.Facts.{passed, after_first, either_parts}
-use Rattle.grid.specs.Grid.{uplink_subcarriers}
 use Rattle.grid.specs.Tables.{entry, lengths, uplink_delays}
 use Rattle.grid.proofs.Rules.{length_bounds, uplink_copies_bounds, uplink_delay_bound}
 use Rattle.numerology.specs.Numerology.{group_of}
@@ -149,12 +148,6 @@ module _ (g : NpuschGrant) (ws : Windows) (e : refusal g ws ≡ 0) where
 pub plain_open : (g : NpuschGrant) (u : ℕ) → all_open u ≡ open_of g none u
 plain_open g u = none_closes g.spacing _ _ none refl u
 
--- ---- the grant got number n, and if that is 0 its shape is s
-
-module _ (g : NpuschGrant) (n : ℕ) (e : n ≡ fields_refusal g) (z : n ≡ 0) (s : Shape) (own : s ≡ shape_of g) where
-  pub ready : Fits s × AtSpacing g.spacing s
-  ready = let a = ranged g (sym e ∙ z) in rw own (fits_in g a, spaced_of g a)
-
-  pub subcarriers_own : s.subcarriers ≡ uplink_subcarriers g.spacing
-  unfolding shape_of
-  subcarriers_own = ap (λ (x : Shape). x.subcarriers) own
+-- what every uplink grant shows of its shape
+pub shown : (g : NpuschGrant) → fields_refusal g ≡ 0 → (s : Shape) → s ≡ shape_of g → (s ≡ shape_of g) × Fits s × AtSpacing g.spacing s
+shown g e s own = let a = ranged g e in (own, subst Fits (sym own) (fits_in g a), subst (AtSpacing g.spacing) (sym own) (spaced_of g a))

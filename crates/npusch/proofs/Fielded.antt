@@ -14,21 +14,6 @@ use Rattle.npusch.specs.Fields.{tones_of, first_tone, unit_slots, consecutive_of
 use Rattle.npusch.specs.Scaffold.{tone_fields}
 use Rattle.npusch.specs.Quick.{first_field}
 
--- a choice is below what both are below
-pub chosen_below : (b : Bool) (x y n : ℕ) → x < n → y < n → cond b x y < n
-chosen_below true x y n h k = h
-chosen_below false x y n h k = k
-
-pub slots_small_lem : (tones : ℕ) → unit_slots tones ≤ 16
-unfolding unit_slots
-slots_small_lem tones = by (eqb tones 1) (eqb tones 3) (eqb tones 6)
-  where
-    by : (a b c : Bool) → cond a 16 (cond b 8 (cond c 4 2)) ≤ 16
-    by true b c = omega arith
-    by false true c = omega arith
-    by false false true = omega arith
-    by false false false = omega arith
-
 -- ---- what holds of every field that names tones, by one computed test for each spacing
 
 -- the first tone by the first field of as many tones; some tones, inside the grid, and a resource unit of whole groups

@@ -1,10 +1,7 @@
 -- For the code alone. What the quick code takes a field apart into.
 use Rattle.std.specs.Prelude.{cond, ℕ, ltb}
 use Rattle.grid.specs.Grid.{uplink_subcarriers}
-use Rattle.npusch.specs.declared.NpuschGrant.{NpuschGrant}
-use Rattle.npusch.specs.declared.Sizes.{Sizes}
 use Rattle.npusch.specs.Scaffold.{three_tones, six_tones, all_tones}
-use Rattle.npusch.specs.Shaping.{grant_size, grant_order}
 
 -- the first field that names as many tones
 unfoldable pub first_field : ℕ → ℕ → ℕ
@@ -13,7 +10,3 @@ first_field spacing field =
     (cond (ltb field six_tones) three_tones
     (cond (ltb field all_tones) six_tones
     all_tones))
-
--- size and order of a grant
-abbrev pub sizes_of : NpuschGrant → Sizes
-sizes_of g = record { size = grant_size g; order = grant_order g }

@@ -1,5 +1,5 @@
 // What an uplink grant's fields name.
-ghost use Rattle.std.specs.Prelude.{cond, ◌≡◌, ◌+◌, ◌*◌, ◌^◌, ◌<◌, ◌≤◌};
+ghost use Rattle.std.specs.Prelude.{◌≡◌, ◌+◌, ◌*◌, ◌^◌, ◌<◌, ◌≤◌};
 ghost use Rattle.grid.specs.Tables.{entry, lengths, uplink_delays};
 ghost use Rattle.numerology.specs.Numerology.{first_after};
 ghost use Rattle.npusch.specs.Fields.{tones_of, first_tone, unit_slots, consecutive_of, reference_of, block_size};
@@ -15,16 +15,6 @@ const SIX_TONES: u64 = 16;
 
 const ALL_TONES: u64 = 18;
 
-// a where the test holds, else b.
-fn choose(test: bool, a: u64, b: u64) -> u64
-    ensures { result ≡ cond test a b }
-{
-    if test {
-        return a;
-    }
-    b
-}
-
 // How many subcarrier fields name tones.
 pub fn tone_fields(spacing: u64) -> u64
     ensures { result ≡ tone_fields spacing }
@@ -33,16 +23,20 @@ pub fn tone_fields(spacing: u64) -> u64
 }
 
 // How many tones the subcarrier field names, and the first of them.
+#[tactic(auto, unfolding(crate::specs::Fields::tones_of))]
 pub fn tones(spacing: u64, field: u64) -> u64
     ensures { result ≡ tones_of spacing field }
 {
     let subcarriers = UplinkGrid::subcarriers(spacing);
-    let several = choose(field < ALL_TONES, 6, subcarriers);
-    choose(
-        field < subcarriers,
-        1,
-        choose(field < SIX_TONES, 3, several),
-    )
+    if field < subcarriers {
+        1
+    } else if field < SIX_TONES {
+        3
+    } else if field < ALL_TONES {
+        6
+    } else {
+        subcarriers
+    }
 }
 
 pub fn first_tone(spacing: u64, field: u64) -> u64
@@ -54,16 +48,19 @@ pub fn first_tone(spacing: u64, field: u64) -> u64
 }
 
 // The first field that names as many tones.
+#[tactic(auto, unfolding(crate::specs::Quick::first_field))]
 fn first_field(spacing: u64, field: u64) -> u64
     ensures { result ≡ first_field spacing field }
 {
-    let subcarriers = UplinkGrid::subcarriers(spacing);
-    let several = choose(field < ALL_TONES, SIX_TONES, ALL_TONES);
-    choose(
-        field < subcarriers,
-        0,
-        choose(field < SIX_TONES, THREE_TONES, several),
-    )
+    if field < UplinkGrid::subcarriers(spacing) {
+        0
+    } else if field < SIX_TONES {
+        THREE_TONES
+    } else if field < ALL_TONES {
+        SIX_TONES
+    } else {
+        ALL_TONES
+    }
 }
 
 // The slot that a grant first names.
@@ -75,11 +72,16 @@ pub fn start(spacing: u64, n: u64, delay: u64) -> u64
 }
 
 // Slots of a resource unit.
+#[tactic(auto, unfolding(crate::specs::Fields::unit_slots))]
 fn unit_slots(tones: u64) -> u64
     ensures { (result ≡ unit_slots tones) × (result ≤ 16) }
 {
-    let several = choose(tones == 6, 4, 2);
-    choose(tones == 1, 16, choose(tones == 3, 8, several))
+    match tones {
+        1 => 16,
+        3 => 8,
+        6 => 4,
+        _ => 2,
+    }
 }
 
 // Slots of the codeword.
@@ -91,12 +93,16 @@ pub fn codeword(tones: u64, units: u64) -> u64
 }
 
 // How often a group of slots goes out in a row.
+#[tactic(auto, unfolding(crate::specs::Fields::consecutive_of))]
 pub fn consecutive(tones: u64, copies: u64) -> u64
     requires { copies < 2 ^ 16 }
     ensures { result ≡ consecutive_of tones copies }
 {
     let half = (copies + 1) / 2;
-    choose(tones == 1, 1, grid::up_to_four(half))
+    match tones {
+        1 => 1,
+        _ => grid::up_to_four(half),
+    }
 }
 
 // The reference symbol.
@@ -107,17 +113,27 @@ pub fn reference(spacing: u64) -> u64
 }
 
 // The size of the transport block, and the modulation order.
+#[tactic(auto, unfolding(crate::specs::Fields::block_size))]
 pub fn block_size(tones: u64, mcs: u64, units: u64) -> u64
     requires { (mcs < 5) × (units < 8) }
     ensures { result ≡ block_size tones mcs units }
 {
-    let row = choose(tones == 1, grid::single_tone_row(mcs), mcs);
+    let row = if tones == 1 {
+        grid::single_tone_row(mcs)
+    } else {
+        mcs
+    };
     grid::size(row, units)
 }
 
+#[tactic(auto, unfolding(crate::specs::Fields::order_of))]
 pub fn order(tones: u64, mcs: u64) -> u64
     requires { mcs < 5 }
     ensures { result ≡ order_of tones mcs }
 {
-    choose(tones == 1, grid::single_tone_order(mcs), 2)
+    if tones == 1 {
+        grid::single_tone_order(mcs)
+    } else {
+        2
+    }
 }

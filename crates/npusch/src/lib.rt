@@ -3,15 +3,16 @@
 
 ghost use Rattle.std.specs.Prelude.{◌≡◌};
 ghost use Rattle.nprach.specs.Windows.{none};
-ghost use Rattle.npusch.specs.Quick.{sizes_of};
 ghost use Rattle.npusch.specs.Refusals.{above_largest, fields_refusal};
-ghost use Rattle.npusch.specs.Shaping.{shape_of};
+ghost use Rattle.npusch.specs.Shaping.{shape_of, grant_size, grant_order};
 ghost use Rattle.npusch.specs.Questions.{plan_of, forward_of, backward_of};
 
 use grid::UplinkGrid;
 use nprach::Windows;
+use refusals::Refusal;
 use sending::Back;
 use uplink::{Shape, UplinkPlace, UplinkPlan};
+use uplink_grant::{Block, UplinkGrant};
 
 mod fields;
 
@@ -31,145 +32,108 @@ pub struct NpuschGrant {
 fn above_largest(g: NpuschGrant) -> bool
     ensures { result ≡ above_largest g }
 {
-    let spacing = g.spacing;
-    let subcarrier = g.subcarrier;
-    let units = g.units;
-    let copies = g.copies;
-    let delay = g.delay;
-    let mcs = g.mcs;
-    (spacing > 1)
-        | ((subcarrier > 63) | ((units > 7) | ((copies > 7) | ((delay > 3) | (mcs > 15)))))
+    (g.spacing > 1)
+        | ((g.subcarrier > 63)
+            | ((g.units > 7) | ((g.copies > 7) | ((g.delay > 3) | (g.mcs > 15)))))
 }
 
-// The number with which the grant is refused, or 0.
-pub fn judge(g: NpuschGrant) -> u64
-    ensures { result ≡ fields_refusal g }
-{
-    let n = g.n;
-    let subcarrier = g.subcarrier;
-    let mcs = g.mcs;
-    if n > grid::LAST_SUBFRAME {
-        return 9;
-    }
-    if above_largest(g) {
-        return 10;
-    }
-    if subcarrier >= fields::tone_fields(g.spacing) {
-        return 11;
-    }
-    if mcs > 4 {
-        return 13;
-    }
-    0
-}
+impl UplinkGrant for NpuschGrant {
+    ghost refusal_of = { fields_refusal };
 
-// The shape of an accepted grant.
-pub fn shape(g: NpuschGrant) -> Shape
-    requires { fields_refusal g ≡ 0 }
-    ensures { result ≡ shape_of g }
-{
-    let spacing = g.spacing;
-    let units = g.units;
-    let tones = fields::tones(spacing, g.subcarrier);
-    let copies = grid::uplink_copies(g.copies);
-    Shape {
-        first: fields::start(spacing, g.n, g.delay),
-        subcarriers: UplinkGrid::subcarriers(spacing),
-        block: numerology::block(spacing),
-        gap: numerology::gap(spacing),
-        tone: fields::first_tone(spacing, g.subcarrier),
-        tones,
-        codeword: fields::codeword(tones, units),
-        copies,
-        consecutive: fields::consecutive(tones, copies),
-        group: numerology::group(spacing),
-        reference: fields::reference(spacing),
-        references: 1,
+    ghost spacing_of = { λ g. g.spacing };
+
+    ghost shape_of = { shape_of };
+
+    ghost size_of = { grant_size };
+
+    ghost order_of = { grant_order };
+
+    #[tactic(auto, unfolding(crate::specs::Refusals::fields_refusal))]
+    fn judge(self) -> Result<(), Refusal> {
+        if self.n > grid::LAST_SUBFRAME {
+            return Err(Refusal::LateSubframe);
+        }
+        if above_largest(self) {
+            return Err(Refusal::LargeField);
+        }
+        if self.subcarrier >= fields::tone_fields(self.spacing) {
+            return Err(Refusal::SubcarrierField);
+        }
+        if self.mcs > 4 {
+            return Err(Refusal::Mcs);
+        }
+        Ok(())
     }
-}
 
-// The size of the transport block, and the modulation order.
-#[derive(Clone, Copy)]
-struct Sizes {
-    size: u64,
-    order: u64,
-}
+    fn spacing(self) -> u64 {
+        self.spacing
+    }
 
-// Those of an accepted grant.
-fn sizes_of(g: NpuschGrant) -> Sizes
-    requires { fields_refusal g ≡ 0 }
-    ensures { result ≡ sizes_of g }
-{
-    let tones = fields::tones(g.spacing, g.subcarrier);
-    let size = fields::block_size(tones, g.mcs, g.units);
-    let order = fields::order(tones, g.mcs);
-    Sizes { size, order }
+    fn shape(self) -> Shape {
+        let spacing = self.spacing;
+        let units = self.units;
+        let tones = fields::tones(spacing, self.subcarrier);
+        let copies = grid::uplink_copies(self.copies);
+        Shape {
+            first: fields::start(spacing, self.n, self.delay),
+            subcarriers: UplinkGrid::subcarriers(spacing),
+            block: numerology::block(spacing),
+            gap: numerology::gap(spacing),
+            tone: fields::first_tone(spacing, self.subcarrier),
+            tones,
+            codeword: fields::codeword(tones, units),
+            copies,
+            consecutive: fields::consecutive(tones, copies),
+            group: numerology::group(spacing),
+            reference: fields::reference(spacing),
+            references: 1,
+        }
+    }
+
+    fn block(self) -> Block {
+        let tones = fields::tones(self.spacing, self.subcarrier);
+        Block {
+            size: fields::block_size(tones, self.mcs, self.units),
+            order: fields::order(tones, self.mcs),
+        }
+    }
 }
 
 // First and last slot, copies, places, size and order.
 pub fn plan(g: NpuschGrant) -> UplinkPlan
     ensures { result ≡ plan_of g none }
 {
-    let no = judge(g);
-    if no != 0 {
-        return uplink::refused_plan(no);
-    }
-    let own = sizes_of(g);
-    uplink::plan(shape(g), own.size, own.order)
+    uplink_grant::plan(g)
 }
 
 pub fn plan_beside(g: NpuschGrant, ws: Windows) -> UplinkPlan
     ensures { result ≡ plan_of g ws }
 {
-    let no = judge(g);
-    if no != 0 {
-        return uplink::refused_plan(no);
-    }
-    let own = sizes_of(g);
-    postponed::plan(g.spacing, shape(g), ws, own.size, own.order)
+    uplink_grant::plan_beside(g, ws)
 }
 
 // The place of position p, and the symbol there.
 pub fn forward(g: NpuschGrant, p: u64) -> UplinkPlace
     ensures { result ≡ forward_of g none p }
 {
-    let no = judge(g);
-    if no != 0 {
-        return uplink::refused_place(no);
-    }
-    let s = shape(g);
-    let at = uplink::taken_apart(s, p);
-    uplink::forward(s, p, at, uplink::slot_at(s, at.i))
+    uplink_grant::forward(g, p)
 }
 
 pub fn forward_beside(g: NpuschGrant, ws: Windows, p: u64) -> UplinkPlace
     ensures { result ≡ forward_of g ws p }
 {
-    let no = judge(g);
-    if no != 0 {
-        return uplink::refused_place(no);
-    }
-    postponed::forward(g.spacing, shape(g), ws, p)
+    uplink_grant::forward_beside(g, ws, p)
 }
 
 // What stands at symbol l and subcarrier k of a slot.
 pub fn backward(g: NpuschGrant, slot: u64, l: u64, k: u64) -> Back
     ensures { result ≡ backward_of g none slot l k }
 {
-    let no = judge(g);
-    if no != 0 {
-        return sending::refused(no);
-    }
-    let s = shape(g);
-    uplink::backward(s, slot, uplink::locate(s, slot), l, k)
+    uplink_grant::backward(g, slot, l, k)
 }
 
 pub fn backward_beside(g: NpuschGrant, ws: Windows, slot: u64, l: u64, k: u64) -> Back
     ensures { result ≡ backward_of g ws slot l k }
 {
-    let no = judge(g);
-    if no != 0 {
-        return sending::refused(no);
-    }
-    postponed::backward(g.spacing, shape(g), ws, slot, l, k)
+    uplink_grant::backward_beside(g, ws, slot, l, k)
 }

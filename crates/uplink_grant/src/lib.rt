@@ -42,16 +42,14 @@ pub trait UplinkGrant: Copy {
     fn spacing(self) -> u64
         ensures { result ≡ spacing_of self };
 
+    // The shape of an accepted grant, which can be asked.
     fn shape(self) -> Shape
         requires { refusal_of self ≡ 0 }
-        ensures { result ≡ shape_of self };
+        ensures { (result ≡ shape_of self) × Fits result × AtSpacing (spacing_of self) result };
 
     fn block(self) -> Block
         requires { refusal_of self ≡ 0 }
         ensures { (result.size ≡ size_of self) × (result.order ≡ order_of self) };
-
-    // The shape of an accepted grant can be asked.
-    ghost fits: { (g : Self) → refusal_of g ≡ 0 → Fits (shape_of g) × AtSpacing (spacing_of g) (shape_of g) };
 }
 
 // First and last slot, copies, places, size and order.

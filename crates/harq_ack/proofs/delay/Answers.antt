@@ -13,12 +13,3 @@ returns c =
     let s = narrow in
     c.by_spacing.ensures
     ∙ ap₂ (λ (x y : ℕ). by_spacing s.args.spacing x y) (narrow.byte.ensures ∙ by_fours_lem s.args.field s.requires) wide.byte-2.ensures
-
-pub byte-requires : goal.byte-requires
-byte-requires c = tt
-
-pub byte-requires-2 : goal.byte-requires-2
-byte-requires-2 c = tt
-
-pub by_spacing-requires : goal.by_spacing-requires
-by_spacing-requires c = tt

@@ -12,5 +12,5 @@ returns-in-Err g c =
 
 pub returns : goal.returns
 returns g c =
-    c.backward.ensures _ c.locate.ensures ∙ rw c.shape-s.ensures
+    c.backward.ensures _ c.locate.ensures ∙ rw c.shape-s.ensures.0
     (asked_alone refused_back (λ S. back_in (g.G.UplinkGrant.shape_of c.args.g).subcarriers S c.args.slot c.args.l c.args.k) (g.G.UplinkGrant.refusal_of c.args.g) (g.G.UplinkGrant.spacing_of c.args.g) (g.G.UplinkGrant.shape_of c.args.g) c.in_default.ensures)

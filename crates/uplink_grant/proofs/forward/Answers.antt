@@ -12,5 +12,5 @@ returns-in-Err g c =
 
 pub returns : goal.returns
 returns g c =
-    c.forward.ensures _ c.slot_at.ensures ∙ rw c.shape-s.ensures
+    c.forward.ensures _ c.slot_at.ensures ∙ rw c.shape-s.ensures.0
     (asked_alone refused_place (λ S. place_in (g.G.UplinkGrant.shape_of c.args.g).subcarriers S c.args.p) (g.G.UplinkGrant.refusal_of c.args.g) (g.G.UplinkGrant.spacing_of c.args.g) (g.G.UplinkGrant.shape_of c.args.g) c.in_default.ensures)

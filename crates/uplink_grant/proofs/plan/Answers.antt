@@ -12,5 +12,5 @@ returns-in-Err g c =
 
 pub returns : goal.returns
 returns g c =
-    c.plan.ensures ∙ rw (c.block-block.ensures.0, c.block-block.ensures.1, c.shape.ensures)
+    c.plan.ensures ∙ rw (c.block-block.ensures.0, c.block-block.ensures.1, c.shape.ensures.0)
     (asked_alone refused_plan (λ S. plan_shown (g.G.UplinkGrant.size_of c.args.g) (g.G.UplinkGrant.order_of c.args.g) (extent_of S)) (g.G.UplinkGrant.refusal_of c.args.g) (g.G.UplinkGrant.spacing_of c.args.g) (g.G.UplinkGrant.shape_of c.args.g) c.in_default.ensures)

@@ -18,12 +18,6 @@ made c =
     let a = c in
     ap₂ (λ (x y : ℕ). x * (a.args.field - y)) c.tones.ensures c.first_field-from.ensures ∙ (field a.before.before).first
 
-pub first_field-from-requires : goal.first_field-from-requires
-first_field-from-requires c = tt
-
-pub tones-requires : goal.tones-requires
-tones-requires c = tt
-
 pub overflow_sub-result : goal.overflow_sub-result
 overflow_sub-result c = omega (arith, c.first_field-from.ensures, (field c.before.before).from)
 
