@@ -1,6 +1,6 @@
 -- For the code alone. Two of plan's numbers.
 use Rattle.uplink.specs.declared.UplinkPlan.{UplinkPlan}
-use Rattle.plain_uplink.specs.declared.Places.{Places}
+use Rattle.sending.specs.declared.Total.{Total}
 
-abbrev pub of_plan : UplinkPlan → Places
+abbrev pub of_plan : UplinkPlan → Total
 of_plan a = record { no = a.no; places = a.places }

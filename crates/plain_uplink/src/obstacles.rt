@@ -1,6 +1,7 @@
 // Random access windows that stand in a grant's way, asked one group at a time.
 ghost use Rattle.std.specs.Prelude.{true, ◌≡◌, ◌/◌, ◌^◌, ◌<◌, ◌≤◌, ltb};
 ghost use Rattle.counting.specs.Counting.{rank};
+ghost use Rattle.refusals.specs.Refusal.{refused_by};
 ghost use Rattle.uplink.specs.Fits.{Fits};
 ghost use Rattle.nprach.specs.Windows.{is_listed, are_listed, all_periods};
 ghost use Rattle.postponed.specs.Beside.{refusal_beside, AtSpacing};
@@ -8,6 +9,7 @@ ghost use Rattle.plain_uplink.specs.Obstacles.{obstacle_of, obstacles_of, obstac
 ghost use Rattle.plain_uplink.specs.Obstacles.{Sound, AllSound};
 
 use nprach::{Window, Windows};
+use refusals::Refusal;
 use uplink::Shape;
 
 // A window that stands in the way: its start and period; in units, how long before a group's end it begins at most if
@@ -100,16 +102,16 @@ fn is_ever_clear(os: Obstacles) -> bool
     (0..many).any(|u| is_clear(os, u))
 }
 
-// The number with which the windows refuse, or 0.
-pub fn refusal(spacing: u64, s: Shape, ws: Windows) -> u64
+// Whether the windows refuse.
+pub fn judge(spacing: u64, s: Shape, ws: Windows) -> Result<(), Refusal>
     requires { Fits s × AtSpacing spacing s }
-    ensures { result ≡ refusal_beside spacing s ws }
+    ensures { refused_by result ≡ refusal_beside spacing s ws }
 {
     if !nprach::are_listed(ws) {
-        return nprach::NOT_LISTED;
+        return Err(Refusal::WindowsNotListed);
     }
     if !is_ever_clear(beside(spacing, s, ws)) {
-        return nprach::NEVER_FREE;
+        return Err(Refusal::NeverFree);
     }
-    0
+    Ok(())
 }

@@ -8,8 +8,8 @@ use Rattle.numerology.specs.Numerology.{group_ms}
 use Rattle.postponed.specs.Beside.{open_beside}
 use Rattle.plain_uplink.specs.declared.obstacles.Obstacles.{Obstacles}
 use Rattle.plain_uplink.proofs.Clear.{clear_beside}
-use Rattle.plain_uplink.proofs.obstacles.refusal.Goals.{Else-not-are_listed, After-is_ever_clear}
-use Rattle.plain_uplink.proofs.obstacles.refusal.Goals as goal
+use Rattle.plain_uplink.proofs.obstacles.judge.Goals.{Else-not-are_listed, After-is_ever_clear}
+use Rattle.plain_uplink.proofs.obstacles.judge.Goals as goal
 
 listed : (c : Else-not-are_listed) → are_listed c.args.ws ≡ true
 listed c = sym c.are_listed.ensures ∙ c.if-not-are_listed.false
