@@ -1,13 +1,13 @@
 -- What an accepted search space says of its numbers, and the answer by the branch that gave it.
 use mathlib.Core.Bool.{Bool, true, cond}
 use mathlib.Core.List.{List}
-use mathlib.Core.Path.{◌≡◌, refl, sym, ap, ◌∙◌, subst}
+use mathlib.Core.Path.{◌≡◌, sym, ap, ◌∙◌, subst}
 use Prim.Native.Nat.{ℕ, ◌*◌, ◌/◌, ◌≤◌, ◌<◌}
 use native.Mathlib.Nat.{mul-le-mul_right}
 use native.Mathlib.Omega.{arith}
-use lib.Dec.{eqb, ltb, leb}
+use lib.Dec.{ltb, leb}
 use lib.ListN.{length, get_or}
-use borrow.Author.Tests.{eq-eqb, ne_eqb, ltb-false, leb-false}
+use borrow.Author.Tests.{ltb-false, leb-false}
 use Rattle.counting.specs.Counting.{select}
 use Rattle.counting.proofs.Facts.{passed, chained, either_parts}
 use Rattle.grid.specs.Grid.{last_subframe}
@@ -17,12 +17,16 @@ use Rattle.cell.specs.declared.Cell.{Cell}
 use Rattle.cell.specs.declared.Verdict.{Verdict}
 use Rattle.cell.specs.Bitmap.{own_buffer, bitmap_in}
 use Rattle.cell.specs.Usable.{period}
-use Rattle.cell.specs.Judge.{judge_of}
 use Rattle.cell.specs.Quick.{VerdictOn}
 use Rattle.cell.proofs.Showing.{same_test}
+use Rattle.std.specs.Prelude.{Result, Ok, IsErrAnd}
+use Rattle.std.proofs.lemmas.Result.{err_from_is_err_and}
+use Rattle.refusals.specs.declared.Refusal.{Refusal}
+use Rattle.refusals.specs.Refusal.{number_of}
+use Rattle.refusals.proofs.Numbers.{never_0}
+use Rattle.cell.specs.Judge.{cell_refusal}
 use Rattle.sending.proofs.Answer.{accepted, refused}
-use Rattle.downlink.specs.Cells.{question_refusal}
-use Rattle.downlink.proofs.Judging.{fields_passed}
+use Rattle.downlink.proofs.Judging.{by_cell, by_grant, fields_passed}
 use Rattle.search_space.specs.declared.SearchSpace.{SearchSpace}
 use Rattle.search_space.specs.declared.Candidate.{Candidate}
 use Rattle.search_space.specs.declared.Cut.{Cut}
@@ -31,7 +35,7 @@ use Rattle.search_space.specs.Starts.{hyperframe, doubled_period, part_of, start
 use Rattle.search_space.specs.Refusals.{above_largest, early_refusal, space_refusal, refusal_of}
 use Rattle.search_space.specs.Candidates.{labels_of, room, blank, list_of}
 use Rattle.search_space.specs.Questions.{refused_search, monitored_in, search_of}
-use Rattle.search_space.specs.Quick.{cut_of, BlocksOf, entry_in}
+use Rattle.search_space.specs.Quick.{cut_of, BlocksOf, entry_in, JudgedSpace}
 use Rattle.search_space.proofs.Labels.{counted}
 use Rattle.search_space.proofs.Listing.{list_is}
 
@@ -84,29 +88,36 @@ module _ (u : ℕ → Bool) (s : SearchSpace) (h : is_repetition s.rmax ≡ true
       ∙ ap (λ (t : ℕ). list_of (select u period t) s.rmax) e in
       λ i. record { no = 0; start = e i; count = many i; list = same i }
 
--- ---- the question, on a cell with verdict v
+-- ---- the question, judged
 
-module _ (c : Cell) (anchor other : List ℕ) (s : SearchSpace) (v : Verdict) (h : VerdictOn c (own_buffer c.config anchor other) v) where
-  judged_as : judge_of c anchor other ≡ v.no
-  unfolding judge_of
-  judged_as = sym h.number
+module _ (c : Cell) (anchor other : List ℕ) (s : SearchSpace) where
+  -- at the exit of a `?`
+  refused_as : (e : Refusal) (r : Result Verdict Refusal) → IsErrAnd r (λ y. y ≡ e) → number_of e ≡ refusal_of c anchor other s
+      → JudgedSpace c anchor other s r
+  refused_as e r h f =
+      let p = err_from_is_err_and r h in
+      rw (p.1, p.2) (record { number = f; accepted = tt })
 
-  chain : (b : Bool) → eqb v.no 0 ≡ b → refusal_of c anchor other s ≡ cond b (space_refusal s) v.no
-  unfolding question_refusal
-  chain b e = rw (judged_as, e) refl
+  pub cell_refused : (e : Refusal) (r : Result Verdict Refusal) → IsErrAnd r (λ y. y ≡ e)
+      → number_of e ≡ cell_refusal c (own_buffer c.config anchor other) → JudgedSpace c anchor other s r
+  cell_refused e r h f = refused_as e r h (by_cell c anchor other (space_refusal s) e f)
 
-  told : (n : ℕ) → refusal_of c anchor other s ≡ n → (n ≡ 0 → ⊥) → refused_search n ≡ search_of c anchor other s
+  module _ (v : Verdict) (j : VerdictOn c (own_buffer c.config anchor other) (Ok v)) where
+    pub space_refused : (e : Refusal) (r : Result Verdict Refusal) → IsErrAnd r (λ y. y ≡ e) → number_of e ≡ space_refusal s
+        → JudgedSpace c anchor other s r
+    space_refused e r h f = refused_as e r h (f ∙ sym (by_grant c anchor other v j (space_refusal s)))
+
+    pub neither : 0 ≡ space_refusal s → JudgedSpace c anchor other s (Ok v)
+    neither e = record { number = e ∙ sym (by_grant c anchor other v j (space_refusal s)); accepted = (j.accepted, sym e) }
+
+  pub told_refusal : (e : Refusal) → number_of e ≡ refusal_of c anchor other s → refused_search (number_of e) ≡ search_of c anchor other s
   unfolding search_of
-  told n e z = sym (refused refused_search _ _ (λ y. z (sym e ∙ y)) ∙ ap refused_search e)
+  told_refusal e f = ap refused_search f ∙ sym (refused refused_search _ _ (λ z. never_0 e (f ∙ z)))
 
-  pub by_cell : (v.no ≡ 0 → ⊥) → refused_search v.no ≡ search_of c anchor other s
-  by_cell n = told v.no (chain _ (ne_eqb v.no 0 n)) n
-
-  pub by_space : (n : ℕ) → n ≡ space_refusal s → v.no ≡ 0 → (n ≡ 0 → ⊥) → refused_search n ≡ search_of c anchor other s
-  by_space n e z w = told n (chain _ (eq-eqb v.no 0 z) ∙ sym e) w
-
-  pub by_none : v.no ≡ 0 → space_refusal s ≡ 0 → monitored_in (left_in v.pattern v.laid c.messages) s ≡ search_of c anchor other s
+  pub told_starts : (v : Verdict) → JudgedSpace c anchor other s (Ok v)
+      → monitored_in (left_in v.pattern v.laid c.messages) s ≡ search_of c anchor other s
   unfolding search_of
-  by_none z w =
-      ap (λ (u : ℕ → Bool). monitored_in u s) (same_test c (bitmap_in c.config (own_buffer c.config anchor other)) v.pattern v.laid (h.shows z) (h.laid z))
-      ∙ sym (accepted refused_search _ _ (chain _ (eq-eqb v.no 0 z) ∙ w))
+  told_starts v j =
+      let a = j.accepted.0 in
+      ap (λ (u : ℕ → Bool). monitored_in u s) (same_test c (bitmap_in c.config (own_buffer c.config anchor other)) v.pattern v.laid a.shows a.laid)
+      ∙ sym (accepted refused_search _ _ (sym j.number))

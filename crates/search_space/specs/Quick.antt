@@ -1,6 +1,15 @@
 -- For the code alone. What the quick code chooses: Rmax cut into blocks of the smallest R, and rows that name each
 -- candidate's blocks.
 use Rattle.std.specs.Prelude.{cond, List, [], ◌∷◌, ◌≡◌, ℕ, ◌+◌, ◌-◌, ◌*◌, ◌/◌, ◌%◌, ◌^◌, ◌≤◌, ◌<◌, ltb, get_or}
+use Rattle.std.specs.Prelude.{Result, IfOk}
+use Rattle.refusals.specs.declared.Refusal.{Refusal}
+use Rattle.refusals.specs.Refusal.{refused_by}
+use Rattle.cell.specs.declared.Cell.{Cell}
+use Rattle.cell.specs.declared.Verdict.{Verdict}
+use Rattle.cell.specs.Bitmap.{own_buffer}
+use Rattle.cell.specs.Quick.{Accepted}
+use Rattle.search_space.specs.declared.SearchSpace.{SearchSpace}
+use Rattle.search_space.specs.Refusals.{space_refusal, refusal_of}
 use Rattle.search_space.specs.declared.Candidate.{Candidate}
 use Rattle.search_space.specs.declared.Cut.{Cut}
 use Rattle.search_space.specs.declared.Blocks.{Blocks}
@@ -54,3 +63,8 @@ entry_in b x k =
       r = (last_block x.row k + 1 - first_block x.row k) * x.size;
       last = get_or b.last (last_block x.row k) 0;
     }) blank
+
+-- a search space judged after its cell: the refusal of the first that refuses
+pub record JudgedSpace (c : Cell) (anchor other : List ℕ) (s : SearchSpace) (r : Result Verdict Refusal) : Type 0 where
+  pub number : refused_by r ≡ refusal_of c anchor other s
+  pub accepted : IfOk r (λ v. Accepted c (own_buffer c.config anchor other) v × (space_refusal s ≡ 0))

@@ -2,6 +2,7 @@
 #![tactic(auto)]
 
 ghost use Rattle.std.specs.Prelude.{◌≡◌, true, ℕ, ◌*◌, ◌+◌, ◌≤◌, ◌<◌, ◌^◌, length, get_or};
+ghost use Rattle.refusals.specs.Refusal.{number_of, refused_by};
 ghost use Rattle.counting.specs.Counting.{next, rank, select};
 ghost use Rattle.grid.specs.Grid.{last_subframe};
 ghost use Rattle.grid.specs.Tables.{is_repetition};
@@ -13,10 +14,11 @@ ghost use Rattle.search_space.specs.Starts.{hyperframe, doubled_period, is_start
 ghost use Rattle.search_space.specs.Refusals.{space_refusal};
 ghost use Rattle.search_space.specs.Candidates.{blank};
 ghost use Rattle.search_space.specs.Questions.{refused_search, monitored_in, search_of};
-ghost use Rattle.search_space.specs.Quick.{FirstFrom, cut_of, CutFits, BlocksOf, digit_of, entry_in};
+ghost use Rattle.search_space.specs.Quick.{FirstFrom, cut_of, CutFits, BlocksOf, digit_of, entry_in, JudgedSpace};
 
-use cell::{Cell, CellConfig};
+use cell::{Cell, CellConfig, Verdict};
 use messages::Messages;
+use refusals::Refusal;
 use spans::{Ends, Pattern};
 
 // Subframes of a hyperframe.
@@ -253,28 +255,25 @@ fn listed(b: Blocks, x: Cut) -> [Candidate; 15]
 }
 
 // 9, 10, 12, 22 and 23.
-fn space_refusal(s: SearchSpace) -> u64
-    ensures { result ≡ space_refusal s }
+fn space_refusal(s: SearchSpace) -> Result<(), Refusal>
+    ensures { refused_by result ≡ space_refusal s }
 {
-    let no = downlink::fields_refusal(s.n, (s.g > 7) | (s.alpha > 3), s.rmax);
-    if no != 0 {
-        return no;
-    }
+    downlink::fields_refusal(s.n, (s.g > 7) | (s.alpha > 3), s.rmax)?;
     let doubled = doubled_period(s);
     if doubled < 8 {
-        return 22;
+        return Err(Refusal::ShortPeriod);
     }
     if HYPERFRAME <= s.alpha * (doubled / 2) / 8 {
-        return 23;
+        return Err(Refusal::LateOffset);
     }
-    0
+    Ok(())
 }
 
-fn refused(no: u64) -> SearchAnswer
-    ensures { result ≡ refused_search no }
+fn refused(refusal: Refusal) -> SearchAnswer
+    ensures { result ≡ refused_search (number_of refusal) }
 {
     SearchAnswer {
-        no,
+        no: refusal.number(),
         start: 0,
         count: 0,
         list: [BLANK; 15],
@@ -298,6 +297,21 @@ fn monitored(p: Pattern, laid: bool, ms: Messages, s: SearchSpace) -> SearchAnsw
     }
 }
 
+// A search space judged: by the cell, then by itself.
+fn judged(
+    c: CellConfig,
+    si: &[u64],
+    anchor: &[u8],
+    other: &[u8],
+    s: SearchSpace,
+) -> Result<Verdict, Refusal>
+    ensures { JudgedSpace (lent_cell c si.now) anchor.now other.now s result }
+{
+    let v = cell::judged_lent(c, si, anchor, other)?;
+    space_refusal(s)?;
+    Ok(v)
+}
+
 // Where control may start: the first start from subframe n on, and all candidates by first subframe, then R.
 pub fn search_lent(
     c: CellConfig,
@@ -308,15 +322,10 @@ pub fn search_lent(
 ) -> SearchAnswer
     ensures { result ≡ search_of (lent_cell c si.now) anchor.now other.now s }
 {
-    let v = cell::judged_lent(c, si, anchor, other);
-    if v.no != 0 {
-        return refused(v.no);
+    match judged(c, si, anchor, other, s) {
+        Ok(v) => monitored(v.pattern, v.laid, subframes::messages_in(si), s),
+        Err(refusal) => refused(refusal),
     }
-    let no = space_refusal(s);
-    if no != 0 {
-        return refused(no);
-    }
-    monitored(v.pattern, v.laid, subframes::messages_in(si), s)
 }
 
 // The same on a cell, which lends its messages.

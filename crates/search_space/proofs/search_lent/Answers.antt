@@ -1,44 +1,12 @@
-use mathlib.Core.Path.{sym, ◌∙◌}
-use Rattle.search_space.proofs.Accepting.{by_cell, by_space, by_none}
+use mathlib.Core.Path.{◌∙◌}
+use Rattle.search_space.proofs.Accepting.{told_refusal, told_starts}
 use Rattle.search_space.proofs.search_lent.Goals as goal
 
-pub judged_lent-v-requires : goal.judged_lent-v-requires
-judged_lent-v-requires c = tt
-
-pub refused-requires : goal.refused-requires
-refused-requires c = tt
-
-pub returns-then-v-ne0 : goal.returns-then-v-ne0
-returns-then-v-ne0 c =
-    let j = c.judged_lent-v in
-    c.refused.ensures ∙ by_cell _ _ _ _ j.result j.ensures c.if-v-ne0.true
-
-pub space_refusal-no-requires : goal.space_refusal-no-requires
-space_refusal-no-requires c = tt
-
-pub refused-requires-then-no-ne0 : goal.refused-requires-then-no-ne0
-refused-requires-then-no-ne0 c = tt
-
-pub returns-then-no-ne0 : goal.returns-then-no-ne0
-returns-then-no-ne0 c =
-    let s = c in
-    let j = s.judged_lent-v in
-    c.refused-then-no-ne0.ensures ∙ by_space _ _ _ _ j.result j.ensures _ s.space_refusal-no.ensures s.if-v-ne0.false c.if-no-ne0.true
-
-pub messages_in-requires : goal.messages_in-requires
-messages_in-requires c = tt
-
 pub monitored-requires : goal.monitored-requires
-monitored-requires c =
-    let s = c in (
-      rw c.messages_in.ensures (s.judged_lent-v.ensures.searchable s.if-v-ne0.false),
-      sym s.space_refusal-no.ensures ∙ c.if-no-ne0.false,
-    )
+monitored-requires c = (rw c.messages_in.ensures c.in-Ok.ensures.accepted.0.searchable, c.in-Ok.ensures.accepted.1)
 
-pub returns : goal.returns
-returns c =
-    let m = c in
-    let s = m in
-    let j = s.judged_lent-v in
-    rw m.messages_in.ensures at c.monitored.ensures
-    ∙ by_none _ _ _ _ j.result j.ensures s.if-v-ne0.false (sym s.space_refusal-no.ensures ∙ m.if-no-ne0.false)
+pub returns-in-Ok : goal.returns-in-Ok
+returns-in-Ok c = rw c.messages_in.ensures at c.monitored.ensures ∙ told_starts _ _ _ _ _ c.in-Ok.ensures
+
+pub returns-in-Err : goal.returns-in-Err
+returns-in-Err c = c.refused.ensures ∙ told_refusal _ _ _ _ _ c.in-Err.ensures.number
