@@ -1,13 +1,14 @@
 -- For the code alone. Where a walk over a question judged ends: the plan's number and places.
-use Rattle.std.specs.Prelude.{ℕ}
-use Rattle.sending.specs.Answer.{answer_of}
-use Rattle.downlink.specs.declared.Ready.{Ready}
-use Rattle.downlink.specs.Mapping as mapping
-use Rattle.plain_downlink.specs.declared.Places.{Places}
+use Rattle.std.specs.Prelude.{ℕ, Result, Ok, Err}
+use Rattle.refusals.specs.declared.Refusal.{Refusal}
+use Rattle.refusals.specs.Refusal.{number_of}
+use Rattle.sending.specs.declared.Total.{Total}
+use Rattle.downlink.specs.declared.DownlinkPlan.{DownlinkPlan}
 
-abbrev pub refused_places : ℕ → Places
-refused_places refusal = record { no = refusal; places = 0 }
+-- a refusal has its number and no places
+abbrev pub total_of : Result ℕ Refusal → Total
+total_of (Ok places) = record { no = 0; places = places }
+total_of (Err refusal) = record { no = number_of refusal; places = 0 }
 
--- the refusal, or the places of the burst
-unfoldable pub places_in : Ready → Places
-places_in q = answer_of refused_places q.no (record { no = 0; places = mapping.places q.burst })
+abbrev pub total_in : DownlinkPlan → Total
+total_in plan = record { no = plan.no; places = plan.places }

@@ -13,30 +13,26 @@ ghost use Rattle.cell.specs.Quick.{lent_cell};
 ghost use Rattle.elements.specs.Elements.{nrs_on, crs_on, reference, used, count_of, element_at};
 ghost use Rattle.elements.specs.Scaffold.{Valid, Part};
 ghost use Rattle.downlink.specs.Fits.{Fits};
-ghost use Rattle.downlink.specs.Quick.{Answerable, posed};
+ghost use Rattle.downlink.specs.Cells.{question_on};
+ghost use Rattle.downlink.specs.Quick.{told};
 ghost use Rattle.downlink.specs.Mapping.{sending_of};
-ghost use Rattle.downlink.specs.Answers.{refused_place, place_of, forward_answer};
+ghost use Rattle.downlink.specs.Answers.{refused_place, place_of, plan_answer, forward_answer};
 ghost use Rattle.npdsch.specs.Questions as npdsch;
 ghost use Rattle.npdcch.specs.Questions as npdcch;
-ghost use Rattle.plain_downlink.specs.Places.{places_in};
+ghost use Rattle.plain_downlink.specs.Places.{total_of, total_in};
 
 use cell::{Cause, Cell, CellConfig};
-use downlink::{Burst, DownlinkPlace, Ready};
+use downlink::{Burst, DownlinkGrant, DownlinkPlace};
 use elements::Layout;
 use grid::Grid;
 use npdcch::NpdcchGrant;
 use npdsch::NpdschGrant;
+use refusals::Refusal;
+use sending::Total;
 use spans::Pattern;
 
 // A time after which the usable subframes repeat; at least one in it is usable.
 const ALL_PERIODS: u64 = 40960;
-
-// Where a walk ends: the refusal number, and how many places there are.
-#[derive(Clone, Copy)]
-pub struct Places {
-    pub no: u64,
-    pub places: u64,
-}
 
 // A narrowband reference stands at symbol l of a slot: port 2000 at l = 5 near and at l = 6 far, port 2001 the other
 // way round. Near: k mod 6 is v; far: it is (v + 3) mod 6.
@@ -152,7 +148,7 @@ fn burst_forward(
     let w = count_used(b.layout, b.low, b.width);
     let total = downlink::sent_subframes(b) * w;
     if position >= total {
-        return downlink::refused_place(sending::NO_SUCH_PLACE);
+        return downlink::refused_place(Refusal::NoSuchPlace);
     }
     let i = position / w;
     let e = position % w;
@@ -162,104 +158,99 @@ fn burst_forward(
     downlink::place(t, x, sending::item(unit, w, e))
 }
 
-// The refusal, or the place of a position and the symbol there.
-fn forward(
-    q: Ready,
-    c: CellConfig,
-    si: &[u64],
-    p: Pattern,
-    laid: bool,
-    position: u64,
-) -> DownlinkPlace
-    requires { Answerable q p laid (messages_in si.now) }
-    ensures { result ≡ forward_answer (posed q p laid (messages_in si.now)) position }
-{
-    if q.no != 0 {
-        return downlink::refused_place(q.no);
-    }
-    burst_forward(c, si, p, laid, q.burst, position)
-}
-
-// The refusal, or how many places there are.
-fn total(q: Ready) -> Places
-    requires { q.no ≡ 0 → Fits q.burst }
-    ensures { result ≡ places_in q }
-{
-    if q.no != 0 {
-        return Places {
-            no: q.no,
-            places: 0,
-        };
-    }
-    Places {
-        no: 0,
-        places: downlink::sent_subframes(q.burst)
-            * count_used(q.burst.layout, q.burst.low, q.burst.width),
-    }
-}
-
-// Forward of an NPDSCH, the cell's messages lent.
-fn npdsch_lent(
+// The place of a position of a grant's, and the symbol there; the cell's messages are lent.
+fn forwarded<G: DownlinkGrant>(
     c: CellConfig,
     si: &[u64],
     anchor: &[u8],
     other: &[u8],
-    g: NpdschGrant,
+    g: G,
+    p: u64,
+) -> Result<DownlinkPlace, Refusal>
+    ensures { told refused_place result
+        ≡ forward_answer
+        (question_on (lent_cell c si.now) anchor.now other.now (G.refusal g) (G.burst_of c g)) p }
+{
+    let v = cell::judged_lent(c, si, anchor, other)?;
+    let b = g.judged(c)?;
+    Ok(burst_forward(c, si, v.pattern, v.laid, b, p))
+}
+
+fn forward_lent<G: DownlinkGrant>(
+    c: CellConfig,
+    si: &[u64],
+    anchor: &[u8],
+    other: &[u8],
+    g: G,
     p: u64,
 ) -> DownlinkPlace
     ensures { result
-        ≡ npdsch.forward_of (lent_cell c si.now) anchor.now other.now g p }
+        ≡ forward_answer
+        (question_on (lent_cell c si.now) anchor.now other.now (G.refusal g) (G.burst_of c g)) p }
 {
-    let v = cell::judged_lent(c, si, anchor, other);
-    forward(npdsch::ready(v.no, c, g), c, si, v.pattern, v.laid, p)
+    forwarded(c, si, anchor, other, g, p).unwrap_or_else(downlink::refused_place)
+}
+
+// The same on a cell, which lends its messages.
+fn forward<G: DownlinkGrant>(c: Cell, anchor: &[u8], other: &[u8], g: G, p: u64) -> DownlinkPlace
+    ensures { result
+        ≡ forward_answer (question_on c anchor.now other.now (G.refusal g) (G.burst_of c.config g)) p }
+{
+    let si = subframes::numbers(c.messages);
+    forward_lent(c.config, &si, anchor, other, g, p)
+}
+
+// How many places a grant has.
+fn counted<G: DownlinkGrant>(c: Cell, anchor: &[u8], other: &[u8], g: G) -> Result<u64, Refusal>
+    ensures { total_of result
+        ≡ total_in
+        (plan_answer (question_on c anchor.now other.now (G.refusal g) (G.burst_of c.config g))) }
+{
+    cell::judged(c, anchor, other)?;
+    let b = g.judged(c.config)?;
+    Ok(downlink::sent_subframes(b) * count_used(b.layout, b.low, b.width))
+}
+
+fn total<G: DownlinkGrant>(c: Cell, anchor: &[u8], other: &[u8], g: G) -> Total
+    ensures { result
+        ≡ total_in
+        (plan_answer (question_on c anchor.now other.now (G.refusal g) (G.burst_of c.config g))) }
+{
+    match counted(c, anchor, other, g) {
+        Ok(places) => Total { no: 0, places },
+        Err(refusal) => Total {
+            no: refusal.number(),
+            places: 0,
+        },
+    }
 }
 
 // Forward of an NPDSCH.
 pub fn forward_npdsch(c: Cell, anchor: &[u8], other: &[u8], g: NpdschGrant, p: u64) -> DownlinkPlace
     ensures { result ≡ npdsch.forward_of c anchor.now other.now g p }
 {
-    let si = subframes::numbers(c.messages);
-    npdsch_lent(c.config, &si, anchor, other, g, p)
-}
-
-// Forward of an NPDCCH, the cell's messages lent.
-fn npdcch_lent(
-    c: CellConfig,
-    si: &[u64],
-    anchor: &[u8],
-    other: &[u8],
-    g: NpdcchGrant,
-    p: u64,
-) -> DownlinkPlace
-    ensures { result
-        ≡ npdcch.forward_of (lent_cell c si.now) anchor.now other.now g p }
-{
-    let v = cell::judged_lent(c, si, anchor, other);
-    forward(npdcch::ready(v.no, c, g), c, si, v.pattern, v.laid, p)
+    forward(c, anchor, other, g, p)
 }
 
 // Forward of an NPDCCH.
 pub fn forward_npdcch(c: Cell, anchor: &[u8], other: &[u8], g: NpdcchGrant, p: u64) -> DownlinkPlace
     ensures { result ≡ npdcch.forward_of c anchor.now other.now g p }
 {
-    let si = subframes::numbers(c.messages);
-    npdcch_lent(c.config, &si, anchor, other, g, p)
+    forward(c, anchor, other, g, p)
 }
 
 // The refusal of an NPDSCH, and its places.
-pub fn places_npdsch(c: Cell, anchor: &[u8], other: &[u8], g: NpdschGrant) -> Places
+pub fn places_npdsch(c: Cell, anchor: &[u8], other: &[u8], g: NpdschGrant) -> Total
     ensures { (result.no ≡ (npdsch.plan_of c anchor.now other.now g).no)
         × (result.places ≡ (npdsch.plan_of c anchor.now other.now g).places) }
 {
-    let v = cell::judged(c, anchor, other);
-    total(npdsch::ready(v.no, c.config, g))
+    total(c, anchor, other, g)
 }
 
 // The refusal of an NPDCCH, and its places.
-pub fn places_npdcch(c: Cell, anchor: &[u8], other: &[u8], g: NpdcchGrant) -> Places
+pub fn places_npdcch(c: Cell, anchor: &[u8], other: &[u8], g: NpdcchGrant) -> Total
     ensures { (result.no ≡ (npdcch.plan_of c anchor.now other.now g).no)
         × (result.places ≡ (npdcch.plan_of c anchor.now other.now g).places) }
 {
-    let v = cell::judged(c, anchor, other);
-    total(npdcch::ready(v.no, c.config, g))
+    total(c, anchor, other, g)
 }
