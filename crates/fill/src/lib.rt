@@ -95,15 +95,16 @@ pub fn fill_lent(
         g i bits.now level out.old) }
 {
     let wrong = out.len() as u64 != Grid::NUMBERS;
-    let call = transmitted::judged(c, si, anchor, other, g, i, false, bits, wrong, level);
-    if call.no != 0 {
-        return call.no;
+    match transmitted::judged(c, si, anchor, other, g, i, false, bits, wrong, level) {
+        Ok(call) => {
+            let layout = transmitted::layout(c, call.v);
+            let four = symbol::symbols(level);
+            let next = write_slot(&mut out[0..SLOT_NUMBERS], layout, 0, call.first, bits, four);
+            write_slot(&mut out[SLOT_NUMBERS..], layout, 1, next, bits, four);
+            0
+        }
+        Err(refusal) => refusal.number(),
     }
-    let layout = transmitted::layout(c, call.v);
-    let four = symbol::symbols(level);
-    let next = write_slot(&mut out[0..SLOT_NUMBERS], layout, 0, call.first, bits, four);
-    write_slot(&mut out[SLOT_NUMBERS..], layout, 1, next, bits, four);
-    0
 }
 
 // The same on a cell, which lends its messages.
