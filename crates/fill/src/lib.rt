@@ -41,12 +41,10 @@ fn write_row(out: &mut [f32], start: u64, row: Row, c: u64, bits: &[u8], four: [
         ≡ take (2 * start) out.old ++ laid (written_in_row row c bits.now four) subcarriers) }
 {
     let mut n = c;
-    let mut k: u64 = 0;
-    while k < Grid::SUBCARRIERS {
+    for k in 0..Grid::SUBCARRIERS {
         let ours = elements::has(row, k);
         put(out, start + k, symbol::written(ours, four, bits, n));
         n += ours as u64;
-        k += 1;
     }
     n
 }
@@ -66,11 +64,9 @@ fn write_slot(
         × (out.new ≡ laid (written_in layout c bits.now four (slot * slot_elements)) slot_elements) }
 {
     let mut n = c;
-    let mut l: u64 = 0;
-    while l < Grid::SYMBOLS {
+    for l in 0..Grid::SYMBOLS {
         let row = elements::used_row(layout, slot, l);
         n = write_row(out, Grid::SUBCARRIERS * l, row, n, bits, four);
-        l += 1;
     }
     n
 }
