@@ -42,7 +42,7 @@ pub struct Walk {
 }
 
 // A step's answer: the refusal number; 1 at the end; else the place and the codeword symbol there. In the uplink t is
-// 0.
+// 0. No Result: the theorem `course`, and C, speak of these numbers.
 #[derive(Clone, Copy, Default, PartialEq, Eq)]
 pub struct WalkPlace {
     pub no: u64,
