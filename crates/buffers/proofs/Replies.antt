@@ -1,5 +1,4 @@
 -- Laws of what a call replies.
-use mathlib.Core.Bool.{Bool, true, false, cond}
 use mathlib.Core.List.{List, [], ◌∷◌, ◌++◌}
 use mathlib.Core.Path.{◌≡◌, refl, sym, ap, ap₂, ◌∙◌}
 use Prim.Native.Nat.{ℕ, zero, suc, ◌+◌, ◌*◌, ◌≤◌}
@@ -16,9 +15,6 @@ pub stored : {A : Type 0} (vs s : List A) → length vs ≤ length s → sets s 
 stored vs s h =
     let e : 0 + length vs ≡ length vs = omega arith in
     sets-eq vs s 0 (omega arith) ∙ ap (λ (n : ℕ). vs ++ drop n s) e
-
-pub put_stored : (a : ℕ) (vs s : List ℕ) → length (a ∷ vs) ≤ length s → ◌≡◌ {A = ℕ × List ℕ} (a, sets s 0 (a ∷ vs)) (put (a ∷ vs) s)
-put_stored a vs s h = ap (λ (l : List ℕ). (a, l)) (stored (a ∷ vs) s h)
 
 -- a run of stores, and one that follows it
 pub sets_on : {A : Type 0} (vs ws s : List A) (i : ℕ) → sets s i (vs ++ ws) ≡ sets (sets s i vs) (i + length vs) ws
@@ -68,22 +64,3 @@ laid_next list s t n e =
     ∙ ap (λ (j : ℕ). sets s 3 (xs ++ candidate_numbers list j 1)) (sym z)
     ∙ ap (sets s 3) (sym (one_more list 0 n))
     ∙ ap (λ (j : ℕ). sets s 3 (candidate_numbers list 0 j)) (sym m)
-
--- numbers put beside what is left of another buffer
-pub put_beside : {A : Type 0} {r : ℕ} {left : List ℕ} {given : ℕ × List ℕ} {after laid : List A} → ◌≡◌ {A = ℕ × List ℕ} (r, left) given → after ≡ laid
-    → ◌≡◌ {A = ℕ × List A × List ℕ} (r, after, left) (given.0, laid, given.1)
-put_beside {A} e f = ap₂ (λ (x : ℕ × List ℕ) (l : List A). (x.0, l, x.1)) e f
-
--- a walk's record whose position stays
-pub kept : (walk : List ℕ) → 1 ≤ length walk → walk ≡ laid (get_or walk 0 0 ∷ []) walk
-kept [] h = absurd (omega arith)
-kept (p ∷ walk) h = refl
-
--- a buffer is too short: what is kept
-pub unread : {A : Type 0} {said short : Bool} (kept reply : A) → said ≡ short → said ≡ true → kept ≡ cond short kept reply
-unread kept reply says h = rw (sym says ∙ h) refl
-
--- else the reply
-pub replied : {A : Type 0} {said short : Bool} {given reply : A} (kept : A) → said ≡ short → said ≡ false → given ≡ reply
-    → given ≡ cond short kept reply
-replied kept says h e = rw (sym says ∙ h) e

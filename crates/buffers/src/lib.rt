@@ -37,10 +37,12 @@ const WINDOWS: usize = 17;
 pub fn windows_short(windows: &[u64]) -> bool
     ensures { result ≡ windows_short windows.now }
 {
-    (0 < windows.len()) & (windows.len() < WINDOWS)
+    !windows.is_empty() && windows.len() < WINDOWS
 }
 
 // ---- what is asked: records whose numbers stand from a place of a buffer on
+
+// No slice patterns: each wants an arm for a shorter buffer, which the contract rules out.
 
 pub fn config_at(s: &[u64], i: usize) -> CellConfig
     requires { i + 8 ≤ length s.now }
@@ -195,6 +197,8 @@ pub fn search_space_at(s: &[u64], i: usize) -> SearchSpace
 }
 
 // ---- a walk's record
+
+// No generic one: each kind of grant has its variant, and its count of numbers.
 
 // An uplink walk's cell, which is not looked at.
 fn no_cell() -> Cell
