@@ -34,7 +34,7 @@ StepReply = ℕ × List ℕ × List ℕ
 
 -- ---- a cell
 
-unfoldable pub judge : List ℕ → List ℕ → List ℕ → ℕ
+abbrev pub judge : List ℕ → List ℕ → List ℕ → ℕ
 judge cell anchor other = cond (lacks 8 cell) too_short (judge_of (cell_in cell 0 8) anchor other)
 
 -- the bitmap in force is the first bytes of one of the two buffers: 0 the anchor's, 1 the other; a refused cell has 0
@@ -44,127 +44,127 @@ bitmap_numbers c anchor other =
     judge_of c anchor other ∷ cond (eqb (judge_of c anchor other) 0) c.config.carrier 0
     ∷ length (in_force_of c anchor other) ∷ []
 
-unfoldable pub bitmap : List ℕ → List ℕ → List ℕ → List ℕ → Reply
+abbrev pub bitmap : List ℕ → List ℕ → List ℕ → List ℕ → Reply
 bitmap cell anchor other answer =
     cond (lacks 8 cell || lacks 3 answer) (too_short, answer)
     (put (bitmap_numbers (cell_in cell 0 8) anchor other) answer)
 
-unfoldable pub cause : List ℕ → List ℕ → List ℕ → ℕ → List ℕ → Reply
+abbrev pub cause : List ℕ → List ℕ → List ℕ → ℕ → List ℕ → Reply
 cause cell anchor other t answer =
     cond (lacks 8 cell || lacks 2 answer) (too_short, answer)
     (put (cause_numbers (cause_of (cell_in cell 0 8) anchor other t)) answer)
 
-unfoldable pub count : List ℕ → List ℕ → List ℕ → List ℕ → Reply
+abbrev pub count : List ℕ → List ℕ → List ℕ → List ℕ → Reply
 count cell anchor other answer =
     cond (lacks 8 cell || lacks 2 answer) (too_short, answer)
     (put (count_numbers (element_count_of (cell_in cell 0 8) anchor other)) answer)
 
 -- ---- NPUSCH format 1
 
-unfoldable pub plan_up : List ℕ → List ℕ → List ℕ → Reply
+abbrev pub plan_up : List ℕ → List ℕ → List ℕ → Reply
 plan_up grant windows answer =
     cond (windows_short windows || (lacks 7 grant || lacks 7 answer)) (too_short, answer)
     (put (uplink_plan_numbers (up.plan_of (npusch_at grant 0) (windows_of windows))) answer)
 
-unfoldable pub forward_up : List ℕ → List ℕ → ℕ → List ℕ → Reply
+abbrev pub forward_up : List ℕ → List ℕ → ℕ → List ℕ → Reply
 forward_up grant windows p answer =
     cond (windows_short windows || (lacks 7 grant || lacks 5 answer)) (too_short, answer)
     (put (uplink_place_numbers (up.forward_of (npusch_at grant 0) (windows_of windows) p)) answer)
 
-unfoldable pub backward_up : List ℕ → List ℕ → ℕ → ℕ → ℕ → List ℕ → Reply
+abbrev pub backward_up : List ℕ → List ℕ → ℕ → ℕ → ℕ → List ℕ → Reply
 backward_up grant windows slot l k answer =
     cond (windows_short windows || (lacks 7 grant || lacks 5 answer)) (too_short, answer)
     (put (back_numbers (up.backward_of (npusch_at grant 0) (windows_of windows) slot l k)) answer)
 
-unfoldable pub step_up : List ℕ → List ℕ → List ℕ → StepReply
+abbrev pub step_up : List ℕ → List ℕ → List ℕ → StepReply
 step_up walk windows answer =
     cond (windows_short windows || (lacks 8 walk || lacks 7 answer)) (too_short, walk, answer)
     (put_stepped (stepped_of (npusch_walk walk windows) [] []) walk answer)
 
 -- ---- acknowledgements on NPUSCH format 2
 
-unfoldable pub plan_ack : List ℕ → List ℕ → List ℕ → Reply
+abbrev pub plan_ack : List ℕ → List ℕ → List ℕ → Reply
 plan_ack grant windows answer =
     cond (windows_short windows || (lacks 4 grant || lacks 7 answer)) (too_short, answer)
     (put (uplink_plan_numbers (ack.plan_of (harq_ack_at grant 0) (windows_of windows))) answer)
 
-unfoldable pub forward_ack : List ℕ → List ℕ → ℕ → List ℕ → Reply
+abbrev pub forward_ack : List ℕ → List ℕ → ℕ → List ℕ → Reply
 forward_ack grant windows p answer =
     cond (windows_short windows || (lacks 4 grant || lacks 5 answer)) (too_short, answer)
     (put (uplink_place_numbers (ack.forward_of (harq_ack_at grant 0) (windows_of windows) p)) answer)
 
-unfoldable pub backward_ack : List ℕ → List ℕ → ℕ → ℕ → ℕ → List ℕ → Reply
+abbrev pub backward_ack : List ℕ → List ℕ → ℕ → ℕ → ℕ → List ℕ → Reply
 backward_ack grant windows slot l k answer =
     cond (windows_short windows || (lacks 4 grant || lacks 5 answer)) (too_short, answer)
     (put (back_numbers (ack.backward_of (harq_ack_at grant 0) (windows_of windows) slot l k)) answer)
 
-unfoldable pub step_ack : List ℕ → List ℕ → List ℕ → StepReply
+abbrev pub step_ack : List ℕ → List ℕ → List ℕ → StepReply
 step_ack walk windows answer =
     cond (windows_short windows || (lacks 5 walk || lacks 7 answer)) (too_short, walk, answer)
     (put_stepped (stepped_of (harq_ack_walk walk windows) [] []) walk answer)
 
 -- ---- NPDSCH
 
-unfoldable pub plan_down : List ℕ → List ℕ → List ℕ → List ℕ → List ℕ → Reply
+abbrev pub plan_down : List ℕ → List ℕ → List ℕ → List ℕ → List ℕ → Reply
 plan_down cell anchor other grant answer =
     cond (lacks 8 cell || (lacks 5 grant || lacks 5 answer)) (too_short, answer)
     (put (downlink_plan_numbers (down.plan_of (cell_in cell 0 8) anchor other (npdsch_at grant 0))) answer)
 
-unfoldable pub forward_down : List ℕ → List ℕ → List ℕ → List ℕ → ℕ → List ℕ → Reply
+abbrev pub forward_down : List ℕ → List ℕ → List ℕ → List ℕ → ℕ → List ℕ → Reply
 forward_down cell anchor other grant p answer =
     cond (lacks 8 cell || (lacks 5 grant || lacks 6 answer)) (too_short, answer)
     (put (downlink_place_numbers (down.forward_of (cell_in cell 0 8) anchor other (npdsch_at grant 0) p)) answer)
 
-unfoldable pub backward_down : List ℕ → List ℕ → List ℕ → List ℕ → ℕ → ℕ → ℕ → ℕ → List ℕ → Reply
+abbrev pub backward_down : List ℕ → List ℕ → List ℕ → List ℕ → ℕ → ℕ → ℕ → ℕ → List ℕ → Reply
 backward_down cell anchor other grant t slot l k answer =
     cond (lacks 8 cell || (lacks 5 grant || lacks 6 answer)) (too_short, answer)
     (put (downlink_back_numbers (down.backward_of (cell_in cell 0 8) anchor other (npdsch_at grant 0) t slot l k))
     answer)
 
-unfoldable pub step_down : List ℕ → List ℕ → List ℕ → List ℕ → StepReply
+abbrev pub step_down : List ℕ → List ℕ → List ℕ → List ℕ → StepReply
 step_down walk anchor other answer =
     cond (lacks 14 walk || lacks 7 answer) (too_short, walk, answer)
     (put_stepped (stepped_of (npdsch_walk walk) anchor other) walk answer)
 
 -- ---- NPDCCH
 
-unfoldable pub plan_control : List ℕ → List ℕ → List ℕ → List ℕ → List ℕ → Reply
+abbrev pub plan_control : List ℕ → List ℕ → List ℕ → List ℕ → List ℕ → Reply
 plan_control cell anchor other grant answer =
     cond (lacks 8 cell || (lacks 4 grant || lacks 5 answer)) (too_short, answer)
     (put (downlink_plan_numbers (control.plan_of (cell_in cell 0 8) anchor other (npdcch_at grant 0))) answer)
 
-unfoldable pub forward_control : List ℕ → List ℕ → List ℕ → List ℕ → ℕ → List ℕ → Reply
+abbrev pub forward_control : List ℕ → List ℕ → List ℕ → List ℕ → ℕ → List ℕ → Reply
 forward_control cell anchor other grant p answer =
     cond (lacks 8 cell || (lacks 4 grant || lacks 6 answer)) (too_short, answer)
     (put (downlink_place_numbers (control.forward_of (cell_in cell 0 8) anchor other (npdcch_at grant 0) p)) answer)
 
-unfoldable pub backward_control : List ℕ → List ℕ → List ℕ → List ℕ → ℕ → ℕ → ℕ → ℕ → List ℕ → Reply
+abbrev pub backward_control : List ℕ → List ℕ → List ℕ → List ℕ → ℕ → ℕ → ℕ → ℕ → List ℕ → Reply
 backward_control cell anchor other grant t slot l k answer =
     cond (lacks 8 cell || (lacks 4 grant || lacks 6 answer)) (too_short, answer)
     (put (downlink_back_numbers (control.backward_of (cell_in cell 0 8) anchor other (npdcch_at grant 0) t slot l k))
     answer)
 
-unfoldable pub step_control : List ℕ → List ℕ → List ℕ → List ℕ → StepReply
+abbrev pub step_control : List ℕ → List ℕ → List ℕ → List ℕ → StepReply
 step_control walk anchor other answer =
     cond (lacks 13 walk || lacks 7 answer) (too_short, walk, answer)
     (put_stepped (stepped_of (npdcch_walk walk) anchor other) walk answer)
 
 -- ---- where NPDCCH may start
 
-unfoldable pub search : List ℕ → List ℕ → List ℕ → List ℕ → List ℕ → Reply
+abbrev pub search : List ℕ → List ℕ → List ℕ → List ℕ → List ℕ → Reply
 search cell anchor other space answer =
     cond (lacks 8 cell || (lacks 4 space || lacks 48 answer)) (too_short, answer)
     (put (search_numbers (search_of (cell_in cell 0 8) anchor other (search_space_at space 0))) answer)
 
 -- ---- the broadcast: a channel of the cell
 
-unfoldable pub forward_on : (CellConfig → Channel) → List ℕ → List ℕ → List ℕ → ℕ → List ℕ → Reply
+abbrev pub forward_on : (CellConfig → Channel) → List ℕ → List ℕ → List ℕ → ℕ → List ℕ → Reply
 forward_on channel cell anchor other p answer =
     cond (lacks 8 cell || lacks 6 answer) (too_short, answer)
     (put (downlink_place_numbers
     (broadcast.forward_of (cell_in cell 0 8) anchor other (channel (config_at cell 0)) p)) answer)
 
-unfoldable pub backward_on : (CellConfig → Channel) → List ℕ → List ℕ → List ℕ → ℕ → ℕ → ℕ → ℕ → List ℕ → Reply
+abbrev pub backward_on : (CellConfig → Channel) → List ℕ → List ℕ → List ℕ → ℕ → ℕ → ℕ → ℕ → List ℕ → Reply
 backward_on channel cell anchor other t slot l k answer =
     cond (lacks 8 cell || lacks 5 answer) (too_short, answer)
     (put (back_numbers
@@ -172,7 +172,7 @@ backward_on channel cell anchor other t slot l k answer =
 
 -- ---- the numbers of a transmitted subframe: an output that is no subframe's is refused by 15
 
-unfoldable pub fill : List ℕ → List ℕ → List ℕ → List ℕ → ℕ → List ℕ → Float → List Float → ℕ × List Float
+abbrev pub fill : List ℕ → List ℕ → List ℕ → List ℕ → ℕ → List ℕ → Float → List Float → ℕ × List Float
 fill cell anchor other grant i bits level output =
     cond (lacks 8 cell || lacks 5 grant) (too_short, output) (
       fill_refusal (cell_in cell 0 8) anchor other (npdsch_at grant 0) i bits level output,
@@ -180,7 +180,7 @@ fill cell anchor other grant i bits level output =
     )
 
 -- one element: its state, and its two amplitudes
-unfoldable pub element : List ℕ → List ℕ → List ℕ → List ℕ → ℕ → ℕ → ℕ → ℕ → List ℕ → Float → List ℕ → List Float
+abbrev pub element : List ℕ → List ℕ → List ℕ → List ℕ → ℕ → ℕ → ℕ → ℕ → List ℕ → Float → List ℕ → List Float
     → ℕ × List ℕ × List Float
 element cell anchor other grant i slot l k bits level answer amplitudes =
     cond ((lacks 8 cell || lacks 5 grant) || (lacks 2 answer || lacks 2 amplitudes)) (too_short, answer, amplitudes)

@@ -1,6 +1,7 @@
 // The public questions for C: numbers and slices in, answers into lent buffers, in the order of
 // include/nbiot_numbers.h. What follows a cell's eight numbers is lent on as its messages.
 // A buffer that is too short gets 255, before anything else is judged, and nothing is written.
+// An exported function is C's, with no type parameter: so each question stands once for each kind of grant.
 #![tactic(auto)]
 
 ghost use Rattle.std.specs.Prelude.{[], ◌≡◌};
@@ -12,10 +13,15 @@ ghost use Rattle.nbiot_c.specs.Calls as calls;
 
 use harq_ack::HarqAckGrant;
 use npusch::NpuschGrant;
+use refusals::Refusal;
 use uplink::{UplinkPlace, UplinkPlan};
-use walk::Engine;
+use walk::{Engine, WalkPlace};
 
+// The interface's own number: a buffer is too short.
 const TOO_SHORT: u64 = 255;
+
+// Where forward answers this, a walk may be at its end.
+const NO_SUCH_PLACE: u64 = Refusal::NoSuchPlace as u64;
 
 // ---- a cell
 
@@ -36,16 +42,16 @@ pub extern "C" fn nbiot_bitmap(cell: &[u64], anchor: &[u8], other: &[u8], answer
     ensures { (result, answer.new)
         ≡ calls.bitmap cell.now anchor.now other.now answer.old }
 {
-    if buffers::short2(8, 3, cell.len(), answer.len()) {
+    if cell.len() < 8 || answer.len() < 3 {
         return TOO_SHORT;
     }
     let c = buffers::config_at(cell, 0);
     let no = cell::judge_lent(c, &cell[8..], anchor, other);
     if no != 0 {
-        return buffers::put3(answer, no, 0, 0);
+        return buffers::put(answer, [no, 0, 0]);
     }
     let n = cell::bitmap_bytes(c.bits);
-    buffers::put3(answer, 0, c.carrier, n as u64)
+    buffers::put(answer, [0, c.carrier, n as u64])
 }
 
 // Why subframe t is not usable.
@@ -60,7 +66,7 @@ pub extern "C" fn nbiot_cause(
     ensures { (result, answer.new)
         ≡ calls.cause cell.now anchor.now other.now t answer.old }
 {
-    if buffers::short2(8, 2, cell.len(), answer.len()) {
+    if cell.len() < 8 || answer.len() < 2 {
         return TOO_SHORT;
     }
     let a = cell::cause_lent(buffers::config_at(cell, 0), &cell[8..], anchor, other, t);
@@ -73,7 +79,7 @@ pub extern "C" fn nbiot_count(cell: &[u64], anchor: &[u8], other: &[u8], answer:
     ensures { (result, answer.new)
         ≡ calls.count cell.now anchor.now other.now answer.old }
 {
-    if buffers::short2(8, 2, cell.len(), answer.len()) {
+    if cell.len() < 8 || answer.len() < 2 {
         return TOO_SHORT;
     }
     let a = cell::count_lent(buffers::config_at(cell, 0), &cell[8..], anchor, other);
@@ -101,7 +107,7 @@ fn forward_up_beside(g: NpuschGrant, windows: &[u64], p: u64) -> UplinkPlace
 pub extern "C" fn nbiot_plan_up(grant: &[u64], answer: &mut [u64]) -> u64
     ensures { (result, answer.new) ≡ calls.plan_up grant.now [] answer.old }
 {
-    if buffers::short2(7, 7, grant.len(), answer.len()) {
+    if grant.len() < 7 || answer.len() < 7 {
         return TOO_SHORT;
     }
     let a = nbiot::plan_up(buffers::npusch_at(grant, 0));
@@ -114,7 +120,7 @@ pub extern "C" fn nbiot_plan_up_windows(grant: &[u64], windows: &[u64], answer: 
     ensures { (result, answer.new)
         ≡ calls.plan_up grant.now windows.now answer.old }
 {
-    if buffers::short_beside(windows, 7, 7, grant.len(), answer.len()) {
+    if buffers::windows_short(windows) || grant.len() < 7 || answer.len() < 7 {
         return TOO_SHORT;
     }
     let a = plan_up_beside(buffers::npusch_at(grant, 0), windows);
@@ -126,7 +132,7 @@ pub extern "C" fn nbiot_plan_up_windows(grant: &[u64], windows: &[u64], answer: 
 pub extern "C" fn nbiot_forward_up(grant: &[u64], p: u64, answer: &mut [u64]) -> u64
     ensures { (result, answer.new) ≡ calls.forward_up grant.now [] p answer.old }
 {
-    if buffers::short2(7, 5, grant.len(), answer.len()) {
+    if grant.len() < 7 || answer.len() < 5 {
         return TOO_SHORT;
     }
     let a = nbiot::forward_up(buffers::npusch_at(grant, 0), p);
@@ -144,7 +150,7 @@ pub extern "C" fn nbiot_forward_up_windows(
     ensures { (result, answer.new)
         ≡ calls.forward_up grant.now windows.now p answer.old }
 {
-    if buffers::short_beside(windows, 7, 5, grant.len(), answer.len()) {
+    if buffers::windows_short(windows) || grant.len() < 7 || answer.len() < 5 {
         return TOO_SHORT;
     }
     let a = forward_up_beside(buffers::npusch_at(grant, 0), windows, p);
@@ -163,7 +169,7 @@ pub extern "C" fn nbiot_backward_up(
     ensures { (result, answer.new)
         ≡ calls.backward_up grant.now [] slot l k answer.old }
 {
-    if buffers::short2(7, 5, grant.len(), answer.len()) {
+    if grant.len() < 7 || answer.len() < 5 {
         return TOO_SHORT;
     }
     let a = nbiot::backward_up(buffers::npusch_at(grant, 0), slot, l, k);
@@ -183,7 +189,7 @@ pub extern "C" fn nbiot_backward_up_windows(
     ensures { (result, answer.new)
         ≡ calls.backward_up grant.now windows.now slot l k answer.old }
 {
-    if buffers::short_beside(windows, 7, 5, grant.len(), answer.len()) {
+    if buffers::windows_short(windows) || grant.len() < 7 || answer.len() < 5 {
         return TOO_SHORT;
     }
     let a = nbiot::backward_up_beside(
@@ -202,14 +208,14 @@ pub extern "C" fn nbiot_step_up(walk: &mut [u64], answer: &mut [u64]) -> u64
     ensures { (result, walk.new, answer.new)
         ≡ calls.step_up walk.old [] answer.old }
 {
-    if buffers::short2(8, 7, walk.len(), answer.len()) {
+    if walk.len() < 8 || answer.len() < 7 {
         return TOO_SHORT;
     }
     let p = walk[0];
     let g = buffers::npusch_at(walk, 1);
-    let a = nbiot::forward_up(g, p);
-    let end = a.no == 14 && buffers::uplink_end(plan_up_beside(g, &[]), p);
-    buffers::put_step(walk, answer, end, a.no, 0, a.slot, a.l, a.k, a.symbol)
+    let a = WalkPlace::from(nbiot::forward_up(g, p));
+    let end = a.no == NO_SUCH_PLACE && walk::is_end(walk::uplink_total(plan_up_beside(g, &[])), p);
+    buffers::put_step(walk, answer, end, a)
 }
 
 // The same beside windows.
@@ -222,19 +228,20 @@ pub extern "C" fn nbiot_step_up_windows(
     ensures { (result, walk.new, answer.new)
         ≡ calls.step_up walk.old windows.now answer.old }
 {
-    if buffers::short_beside(windows, 8, 7, walk.len(), answer.len()) {
+    if buffers::windows_short(windows) || walk.len() < 8 || answer.len() < 7 {
         return TOO_SHORT;
     }
     let p = walk[0];
     let g = buffers::npusch_at(walk, 1);
-    let a = forward_up_beside(g, windows, p);
-    let end = a.no == 14 && buffers::uplink_end(plan_up_beside(g, windows), p);
-    buffers::put_step(walk, answer, end, a.no, 0, a.slot, a.l, a.k, a.symbol)
+    let a = WalkPlace::from(forward_up_beside(g, windows, p));
+    let end = a.no == NO_SUCH_PLACE
+        && walk::is_end(walk::uplink_total(plan_up_beside(g, windows)), p);
+    buffers::put_step(walk, answer, end, a)
 }
 
 // ---- acknowledgements on NPUSCH format 2
 
-// The same of an acknowledgement.
+// The same of an acknowledgement, and each again a function of its own.
 fn plan_ack_beside(g: HarqAckGrant, windows: &[u64]) -> UplinkPlan
     ensures { result ≡ ack.plan_of g (windows_of windows.now) }
 {
@@ -252,7 +259,7 @@ fn forward_ack_beside(g: HarqAckGrant, windows: &[u64], p: u64) -> UplinkPlace
 pub extern "C" fn nbiot_plan_ack(grant: &[u64], answer: &mut [u64]) -> u64
     ensures { (result, answer.new) ≡ calls.plan_ack grant.now [] answer.old }
 {
-    if buffers::short2(4, 7, grant.len(), answer.len()) {
+    if grant.len() < 4 || answer.len() < 7 {
         return TOO_SHORT;
     }
     let a = nbiot::plan_ack(buffers::harq_ack_at(grant, 0));
@@ -265,7 +272,7 @@ pub extern "C" fn nbiot_plan_ack_windows(grant: &[u64], windows: &[u64], answer:
     ensures { (result, answer.new)
         ≡ calls.plan_ack grant.now windows.now answer.old }
 {
-    if buffers::short_beside(windows, 4, 7, grant.len(), answer.len()) {
+    if buffers::windows_short(windows) || grant.len() < 4 || answer.len() < 7 {
         return TOO_SHORT;
     }
     let a = plan_ack_beside(buffers::harq_ack_at(grant, 0), windows);
@@ -277,7 +284,7 @@ pub extern "C" fn nbiot_plan_ack_windows(grant: &[u64], windows: &[u64], answer:
 pub extern "C" fn nbiot_forward_ack(grant: &[u64], p: u64, answer: &mut [u64]) -> u64
     ensures { (result, answer.new) ≡ calls.forward_ack grant.now [] p answer.old }
 {
-    if buffers::short2(4, 5, grant.len(), answer.len()) {
+    if grant.len() < 4 || answer.len() < 5 {
         return TOO_SHORT;
     }
     let a = nbiot::forward_ack(buffers::harq_ack_at(grant, 0), p);
@@ -295,7 +302,7 @@ pub extern "C" fn nbiot_forward_ack_windows(
     ensures { (result, answer.new)
         ≡ calls.forward_ack grant.now windows.now p answer.old }
 {
-    if buffers::short_beside(windows, 4, 5, grant.len(), answer.len()) {
+    if buffers::windows_short(windows) || grant.len() < 4 || answer.len() < 5 {
         return TOO_SHORT;
     }
     let a = forward_ack_beside(buffers::harq_ack_at(grant, 0), windows, p);
@@ -314,7 +321,7 @@ pub extern "C" fn nbiot_backward_ack(
     ensures { (result, answer.new)
         ≡ calls.backward_ack grant.now [] slot l k answer.old }
 {
-    if buffers::short2(4, 5, grant.len(), answer.len()) {
+    if grant.len() < 4 || answer.len() < 5 {
         return TOO_SHORT;
     }
     let a = nbiot::backward_ack(buffers::harq_ack_at(grant, 0), slot, l, k);
@@ -334,7 +341,7 @@ pub extern "C" fn nbiot_backward_ack_windows(
     ensures { (result, answer.new)
         ≡ calls.backward_ack grant.now windows.now slot l k answer.old }
 {
-    if buffers::short_beside(windows, 4, 5, grant.len(), answer.len()) {
+    if buffers::windows_short(windows) || grant.len() < 4 || answer.len() < 5 {
         return TOO_SHORT;
     }
     let a = nbiot::backward_ack_beside(
@@ -353,14 +360,14 @@ pub extern "C" fn nbiot_step_ack(walk: &mut [u64], answer: &mut [u64]) -> u64
     ensures { (result, walk.new, answer.new)
         ≡ calls.step_ack walk.old [] answer.old }
 {
-    if buffers::short2(5, 7, walk.len(), answer.len()) {
+    if walk.len() < 5 || answer.len() < 7 {
         return TOO_SHORT;
     }
     let p = walk[0];
     let g = buffers::harq_ack_at(walk, 1);
-    let a = nbiot::forward_ack(g, p);
-    let end = a.no == 14 && buffers::uplink_end(plan_ack_beside(g, &[]), p);
-    buffers::put_step(walk, answer, end, a.no, 0, a.slot, a.l, a.k, a.symbol)
+    let a = WalkPlace::from(nbiot::forward_ack(g, p));
+    let end = a.no == NO_SUCH_PLACE && walk::is_end(walk::uplink_total(plan_ack_beside(g, &[])), p);
+    buffers::put_step(walk, answer, end, a)
 }
 
 // The same beside windows.
@@ -373,14 +380,15 @@ pub extern "C" fn nbiot_step_ack_windows(
     ensures { (result, walk.new, answer.new)
         ≡ calls.step_ack walk.old windows.now answer.old }
 {
-    if buffers::short_beside(windows, 5, 7, walk.len(), answer.len()) {
+    if buffers::windows_short(windows) || walk.len() < 5 || answer.len() < 7 {
         return TOO_SHORT;
     }
     let p = walk[0];
     let g = buffers::harq_ack_at(walk, 1);
-    let a = forward_ack_beside(g, windows, p);
-    let end = a.no == 14 && buffers::uplink_end(plan_ack_beside(g, windows), p);
-    buffers::put_step(walk, answer, end, a.no, 0, a.slot, a.l, a.k, a.symbol)
+    let a = WalkPlace::from(forward_ack_beside(g, windows, p));
+    let end = a.no == NO_SUCH_PLACE
+        && walk::is_end(walk::uplink_total(plan_ack_beside(g, windows)), p);
+    buffers::put_step(walk, answer, end, a)
 }
 
 // ---- NPDSCH
@@ -398,7 +406,7 @@ pub extern "C" fn nbiot_plan_down(
         ≡ calls.plan_down cell.now anchor.now other.now grant.now
         answer.old }
 {
-    if buffers::short3(8, 5, 5, cell.len(), grant.len(), answer.len()) {
+    if cell.len() < 8 || grant.len() < 5 || answer.len() < 5 {
         return TOO_SHORT;
     }
     let c = buffers::config_at(cell, 0);
@@ -421,7 +429,7 @@ pub extern "C" fn nbiot_forward_down(
         ≡ calls.forward_down cell.now anchor.now other.now grant.now
         p answer.old }
 {
-    if buffers::short3(8, 5, 6, cell.len(), grant.len(), answer.len()) {
+    if cell.len() < 8 || grant.len() < 5 || answer.len() < 6 {
         return TOO_SHORT;
     }
     let c = buffers::config_at(cell, 0);
@@ -447,7 +455,7 @@ pub extern "C" fn nbiot_backward_down(
         ≡ calls.backward_down cell.now anchor.now other.now grant.now
         t slot l k answer.old }
 {
-    if buffers::short3(8, 5, 6, cell.len(), grant.len(), answer.len()) {
+    if cell.len() < 8 || grant.len() < 5 || answer.len() < 6 {
         return TOO_SHORT;
     }
     let c = buffers::config_at(cell, 0);
@@ -467,16 +475,19 @@ pub extern "C" fn nbiot_step_down(
     ensures { (result, walk.new, answer.new)
         ≡ calls.step_down walk.old anchor.now other.now answer.old }
 {
-    if buffers::short2(14, 7, walk.len(), answer.len()) {
+    if walk.len() < 14 || answer.len() < 7 {
         return TOO_SHORT;
     }
     let p = walk[0];
     let c = buffers::config_at(walk, 1);
     let g = buffers::npdsch_at(walk, 9);
-    let a = npdsch::forward_lent(c, &walk[14..], anchor, other, g, p);
-    let end = a.no == 14
-        && buffers::downlink_end(npdsch::plan_lent(c, &walk[14..], anchor, other, g), p);
-    buffers::put_step(walk, answer, end, a.no, a.t, a.slot, a.l, a.k, a.symbol)
+    let a = WalkPlace::from(npdsch::forward_lent(c, &walk[14..], anchor, other, g, p));
+    let end = a.no == NO_SUCH_PLACE
+        && walk::is_end(
+            walk::downlink_total(npdsch::plan_lent(c, &walk[14..], anchor, other, g)),
+            p,
+        );
+    buffers::put_step(walk, answer, end, a)
 }
 
 // ---- NPDCCH
@@ -494,7 +505,7 @@ pub extern "C" fn nbiot_plan_control(
         ≡ calls.plan_control cell.now anchor.now other.now grant.now
         answer.old }
 {
-    if buffers::short3(8, 4, 5, cell.len(), grant.len(), answer.len()) {
+    if cell.len() < 8 || grant.len() < 4 || answer.len() < 5 {
         return TOO_SHORT;
     }
     let c = buffers::config_at(cell, 0);
@@ -517,7 +528,7 @@ pub extern "C" fn nbiot_forward_control(
         ≡ calls.forward_control cell.now anchor.now other.now grant.now
         p answer.old }
 {
-    if buffers::short3(8, 4, 6, cell.len(), grant.len(), answer.len()) {
+    if cell.len() < 8 || grant.len() < 4 || answer.len() < 6 {
         return TOO_SHORT;
     }
     let c = buffers::config_at(cell, 0);
@@ -543,7 +554,7 @@ pub extern "C" fn nbiot_backward_control(
         ≡ calls.backward_control cell.now anchor.now other.now grant.now
         t slot l k answer.old }
 {
-    if buffers::short3(8, 4, 6, cell.len(), grant.len(), answer.len()) {
+    if cell.len() < 8 || grant.len() < 4 || answer.len() < 6 {
         return TOO_SHORT;
     }
     let c = buffers::config_at(cell, 0);
@@ -563,16 +574,19 @@ pub extern "C" fn nbiot_step_control(
     ensures { (result, walk.new, answer.new)
         ≡ calls.step_control walk.old anchor.now other.now answer.old }
 {
-    if buffers::short2(13, 7, walk.len(), answer.len()) {
+    if walk.len() < 13 || answer.len() < 7 {
         return TOO_SHORT;
     }
     let p = walk[0];
     let c = buffers::config_at(walk, 1);
     let g = buffers::npdcch_at(walk, 9);
-    let a = npdcch::forward_lent(c, &walk[13..], anchor, other, g, p);
-    let end = a.no == 14
-        && buffers::downlink_end(npdcch::plan_lent(c, &walk[13..], anchor, other, g), p);
-    buffers::put_step(walk, answer, end, a.no, a.t, a.slot, a.l, a.k, a.symbol)
+    let a = WalkPlace::from(npdcch::forward_lent(c, &walk[13..], anchor, other, g, p));
+    let end = a.no == NO_SUCH_PLACE
+        && walk::is_end(
+            walk::downlink_total(npdcch::plan_lent(c, &walk[13..], anchor, other, g)),
+            p,
+        );
+    buffers::put_step(walk, answer, end, a)
 }
 
 // ---- where NPDCCH may start
@@ -590,7 +604,7 @@ pub extern "C" fn nbiot_search(
         ≡ calls.search cell.now anchor.now other.now space.now
         answer.old }
 {
-    if buffers::short3(8, 4, 48, cell.len(), space.len(), answer.len()) {
+    if cell.len() < 8 || space.len() < 4 || answer.len() < 48 {
         return TOO_SHORT;
     }
     let c = buffers::config_at(cell, 0);
@@ -614,7 +628,7 @@ pub extern "C" fn nbiot_forward_npbch(
         ≡ calls.forward_on npbch_of cell.now anchor.now other.now p
         answer.old }
 {
-    if buffers::short2(8, 6, cell.len(), answer.len()) {
+    if cell.len() < 8 || answer.len() < 6 {
         return TOO_SHORT;
     }
     let a = nbiot::forward_npbch(buffers::cell_in(cell, 0, 8), anchor, other, p);
@@ -637,7 +651,7 @@ pub extern "C" fn nbiot_backward_npbch(
         ≡ calls.backward_on npbch_of cell.now anchor.now other.now t slot l k
         answer.old }
 {
-    if buffers::short2(8, 5, cell.len(), answer.len()) {
+    if cell.len() < 8 || answer.len() < 5 {
         return TOO_SHORT;
     }
     let a = nbiot::backward_npbch(buffers::cell_in(cell, 0, 8), anchor, other, t, slot, l, k);
@@ -657,7 +671,7 @@ pub extern "C" fn nbiot_forward_sib1(
         ≡ calls.forward_on sib1_of cell.now anchor.now other.now p
         answer.old }
 {
-    if buffers::short2(8, 6, cell.len(), answer.len()) {
+    if cell.len() < 8 || answer.len() < 6 {
         return TOO_SHORT;
     }
     let a = nbiot::forward_sib1(buffers::cell_in(cell, 0, 8), anchor, other, p);
@@ -680,7 +694,7 @@ pub extern "C" fn nbiot_backward_sib1(
         ≡ calls.backward_on sib1_of cell.now anchor.now other.now t slot l k
         answer.old }
 {
-    if buffers::short2(8, 5, cell.len(), answer.len()) {
+    if cell.len() < 8 || answer.len() < 5 {
         return TOO_SHORT;
     }
     let a = nbiot::backward_sib1(buffers::cell_in(cell, 0, 8), anchor, other, t, slot, l, k);
@@ -705,7 +719,7 @@ pub extern "C" fn nbiot_fill(
         ≡ calls.fill cell.now anchor.now other.now grant.now
         i bits.now level output.old }
 {
-    if buffers::short2(8, 5, cell.len(), grant.len()) {
+    if cell.len() < 8 || grant.len() < 5 {
         return TOO_SHORT;
     }
     let c = buffers::config_at(cell, 0);
@@ -733,9 +747,7 @@ pub extern "C" fn nbiot_element(
         ≡ calls.element cell.now anchor.now other.now grant.now
         i slot l k bits.now level answer.old amplitudes.old }
 {
-    if buffers::short2(8, 5, cell.len(), grant.len())
-        | buffers::short2(2, 2, answer.len(), amplitudes.len())
-    {
+    if cell.len() < 8 || grant.len() < 5 || answer.len() < 2 || amplitudes.len() < 2 {
         return TOO_SHORT;
     }
     let c = buffers::config_at(cell, 0);
@@ -757,7 +769,7 @@ pub extern "C" fn nbiot_forward_up_plain(
     ensures { (result, answer.new)
         ≡ calls.forward_up grant.now windows.now p answer.old }
 {
-    if buffers::short_beside(windows, 7, 5, grant.len(), answer.len()) {
+    if buffers::windows_short(windows) || grant.len() < 7 || answer.len() < 5 {
         return TOO_SHORT;
     }
     let ws = buffers::windows_of(windows);
@@ -771,7 +783,7 @@ pub extern "C" fn nbiot_step_up_plain(walk: &mut [u64], windows: &[u64], answer:
     ensures { (result, walk.new, answer.new)
         ≡ calls.step_up walk.old windows.now answer.old }
 {
-    if buffers::short_beside(windows, 8, 7, walk.len(), answer.len()) {
+    if buffers::windows_short(windows) || walk.len() < 8 || answer.len() < 7 {
         return TOO_SHORT;
     }
     let s = nbiot::step_value(buffers::npusch_walk(walk, windows), &[], &[], Engine::Plain);
@@ -789,7 +801,7 @@ pub extern "C" fn nbiot_forward_ack_plain(
     ensures { (result, answer.new)
         ≡ calls.forward_ack grant.now windows.now p answer.old }
 {
-    if buffers::short_beside(windows, 4, 5, grant.len(), answer.len()) {
+    if buffers::windows_short(windows) || grant.len() < 4 || answer.len() < 5 {
         return TOO_SHORT;
     }
     let ws = buffers::windows_of(windows);
@@ -803,7 +815,7 @@ pub extern "C" fn nbiot_step_ack_plain(walk: &mut [u64], windows: &[u64], answer
     ensures { (result, walk.new, answer.new)
         ≡ calls.step_ack walk.old windows.now answer.old }
 {
-    if buffers::short_beside(windows, 5, 7, walk.len(), answer.len()) {
+    if buffers::windows_short(windows) || walk.len() < 5 || answer.len() < 7 {
         return TOO_SHORT;
     }
     let s = nbiot::step_value(
@@ -829,7 +841,7 @@ pub extern "C" fn nbiot_forward_down_plain(
         ≡ calls.forward_down cell.now anchor.now other.now grant.now
         p answer.old }
 {
-    if buffers::short3(8, 5, 6, cell.len(), grant.len(), answer.len()) {
+    if cell.len() < 8 || grant.len() < 5 || answer.len() < 6 {
         return TOO_SHORT;
     }
     let c = buffers::cell_in(cell, 0, 8);
@@ -849,7 +861,7 @@ pub extern "C" fn nbiot_step_down_plain(
     ensures { (result, walk.new, answer.new)
         ≡ calls.step_down walk.old anchor.now other.now answer.old }
 {
-    if buffers::short2(14, 7, walk.len(), answer.len()) {
+    if walk.len() < 14 || answer.len() < 7 {
         return TOO_SHORT;
     }
     let s = nbiot::step_value(buffers::npdsch_walk(walk), anchor, other, Engine::Plain);
@@ -870,7 +882,7 @@ pub extern "C" fn nbiot_forward_control_plain(
         ≡ calls.forward_control cell.now anchor.now other.now grant.now
         p answer.old }
 {
-    if buffers::short3(8, 4, 6, cell.len(), grant.len(), answer.len()) {
+    if cell.len() < 8 || grant.len() < 4 || answer.len() < 6 {
         return TOO_SHORT;
     }
     let c = buffers::cell_in(cell, 0, 8);
@@ -890,7 +902,7 @@ pub extern "C" fn nbiot_step_control_plain(
     ensures { (result, walk.new, answer.new)
         ≡ calls.step_control walk.old anchor.now other.now answer.old }
 {
-    if buffers::short2(13, 7, walk.len(), answer.len()) {
+    if walk.len() < 13 || answer.len() < 7 {
         return TOO_SHORT;
     }
     let s = nbiot::step_value(buffers::npdcch_walk(walk), anchor, other, Engine::Plain);

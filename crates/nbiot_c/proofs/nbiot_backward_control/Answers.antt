@@ -1,52 +1,7 @@
 use mathlib.Core.Path.{◌∙◌}
-use borrow.Author.Rules.{rules}
-use Rattle.buffers.proofs.Replies.{unread, replied}
-use Rattle.nbiot_c.specs.Calls.{backward_control}
+use borrow.Author.Tests.{le-ltb}
 use Rattle.buffers.proofs.Parts.{to_end}
 use Rattle.nbiot_c.proofs.nbiot_backward_control.Goals as goal
 
-pub short3-requires : goal.short3-requires
-unfolding backward_control
-short3-requires c = tt
-
-pub returns-then-short3 : goal.returns-then-short3
-unfolding backward_control
-returns-then-short3 c = unread _ _ c.short3.ensures.says c.if-short3.true
-
-pub config_at-c-requires : goal.config_at-c-requires
-unfolding backward_control
-config_at-c-requires c = c.short3.ensures.first c.if-short3.false
-
-pub npdcch_at-g-requires : goal.npdcch_at-g-requires
-unfolding backward_control
-npdcch_at-g-requires c = let e = c in e.short3.ensures.middle e.if-short3.false
-
-pub slice_bounds-backward_lent-count : goal.slice_bounds-backward_lent-count
-unfolding backward_control
-slice_bounds-backward_lent-count c = let e = c in e.short3.ensures.first e.if-short3.false
-
-pub slice_bounds-backward_lent-start : goal.slice_bounds-backward_lent-start
-unfolding backward_control
-slice_bounds-backward_lent-start c = let e = c in e.short3.ensures.first e.if-short3.false
-
-pub slice_bounds-backward_lent-end : goal.slice_bounds-backward_lent-end
-unfolding backward_control
-slice_bounds-backward_lent-end c = search rules
-
-pub backward_lent-a-requires : goal.backward_lent-a-requires
-unfolding backward_control
-backward_lent-a-requires c = tt
-
-pub put_downlink_back-requires : goal.put_downlink_back-requires
-unfolding backward_control
-put_downlink_back-requires c = let e = c in e.short3.ensures.last e.if-short3.false
-
-pub shape_of-answer : goal.shape_of-answer
-unfolding backward_control
-shape_of-answer c = search rules
-
 pub returns : goal.returns
-unfolding backward_control
-returns c = let p = c in let a = p in let n = a in let e = n in
-    replied _ e.short3.ensures.says e.if-short3.false
-    (p.put_downlink_back.ensures ∙ simp (a.backward_lent-a.ensures, n.npdcch_at-g.ensures, n.config_at-c.ensures, to_end))
+returns c = simp (le-ltb _ _ c.if-cell-lt8.false, le-ltb _ _ c.if-grant-lt4.false, le-ltb _ _ c.if-answer-lt6.false) (c.put_downlink_back.ensures ∙ simp (c.backward_lent-a.ensures, c.npdcch_at-g.ensures, c.config_at-c.ensures, to_end))
