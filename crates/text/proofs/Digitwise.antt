@@ -5,33 +5,18 @@ use mathlib.Core.List.{List, [], ◌∷◌}
 use Prim.Native.Nat.{ℕ, ◌+◌, ◌*◌, ◌-◌, ◌≤◌, ◌<◌}
 use native.Mathlib.Omega.{arith}
 use native.Mathlib.Numerals.{add-one}
-use lib.Dec.{leb}
 use lib.ListN.{length, drop, get_or}
 use lib.Seq.{drop-cons}
-use borrow.Author.Tests.{leb-true, le-ltb, lt-ltb, eq-eqb, ne_eqb}
+use borrow.Author.Tests.{le-ltb, lt-ltb, eq-eqb, ne_eqb}
 use Rattle.std.proofs.lemmas.List.{drop_all}
-use Rattle.text.specs.declared.digits.Number.TheVariants.{Value, Bad}
+use Rattle.std.proofs.lemmas.Option.{none-some}
+use Rattle.std.specs.Prelude.{Some, None}
 use Rattle.text.specs.Decimal.{is_digit, all_digits, followed_by, decimal_of}
 
-both : (a b : Bool) → (a && b) ≡ true → b ≡ true
-both true b e = e
-both false b e = cc
-
--- what a byte's digit says of the byte, by whether the byte is one
-over : (b d : ℕ) (t : Bool) → is_digit b ≡ t → d ≡ cond t (b - 48) 10 → 9 < d → is_digit b ≡ false
-unfolding is_digit
-over b d true q e h = let le = leb-true b 57 (both (leb 48 b) (leb b 57) q) in absurd (omega arith)
-over b d false q e h = q
-
-within : (b d : ℕ) (t : Bool) → is_digit b ≡ t → d ≡ cond t (b - 48) 10 → d ≤ 9 → (is_digit b ≡ true) × (d ≡ b - 48)
-within b d true q e h = (q, e)
-within b d false q e h = absurd (omega arith)
-
-pub no_digit : (b d : ℕ) → d ≡ cond (is_digit b) (b - 48) 10 → 9 < d → is_digit b ≡ false
-no_digit b d = over b d (is_digit b) refl
-
-pub a_digit : (b d : ℕ) → d ≡ cond (is_digit b) (b - 48) 10 → d ≤ 9 → (is_digit b ≡ true) × (d ≡ b - 48)
-a_digit b d = within b d (is_digit b) refl
+-- what a byte's digit says of the byte
+pub no_digit : (t : Bool) (y : ℕ) → None ≡ cond t (Some y) None → t ≡ false
+no_digit true y e = absurd (none-some y e)
+no_digit false y e = refl
 
 -- the bytes from i on, of which one is read
 digits_at : (s : List ℕ) (i : ℕ) → i < length s → all_digits (drop i s) ≡ (is_digit (get_or s i 0) && all_digits (drop (i + 1) s))
@@ -55,8 +40,8 @@ grows [] x = omega arith
 grows (b ∷ s) x = let h = grows s (x * 10 + (b - 48)) in omega arith
 
 -- a digit that takes the number past 2^64 - 1
-pub past : (s : List ℕ) (i x d : ℕ) → i < length s → followed_by x (drop i s) ≡ followed_by 0 s → d ≡ get_or s i 0 - 48 → 18446744073709551616 ≤ x * 10 + d → 18446744073709551616 ≤ followed_by 0 s
-past s i x d h e q o =
+pub past : (s : List ℕ) (i x : ℕ) → i < length s → followed_by x (drop i s) ≡ followed_by 0 s → 18446744073709551616 ≤ x * 10 + (get_or s i 0 - 48) → 18446744073709551616 ≤ followed_by 0 s
+past s i x h e o =
     let g = grows (drop (i + 1) s) (x * 10 + (get_or s i 0 - 48)) in
     rw (sym e ∙ followed_at s i x h) (omega arith)
 
@@ -70,18 +55,18 @@ unfolding followed_by
 end_followed s i x h = ap (followed_by x) (drop_all i s h)
 
 -- the four ways to end
-pub none_read : (s : List ℕ) → length s ≡ 0 → Bad ≡ decimal_of s
+pub none_read : (s : List ℕ) → length s ≡ 0 → None ≡ decimal_of s
 unfolding decimal_of
 none_read s h = simp (eq-eqb (length s) 0 h)
 
-pub odd_read : (s : List ℕ) → all_digits s ≡ false → Bad ≡ decimal_of s
+pub odd_read : (s : List ℕ) → all_digits s ≡ false → None ≡ decimal_of s
 unfolding decimal_of
 odd_read s h = simp (h, and-false)
 
-pub large_read : (s : List ℕ) → 18446744073709551616 ≤ followed_by 0 s → Bad ≡ decimal_of s
+pub large_read : (s : List ℕ) → 18446744073709551616 ≤ followed_by 0 s → None ≡ decimal_of s
 unfolding decimal_of
 large_read s h = simp (le-ltb (followed_by 0 s) 18446744073709551616 h, and-false)
 
-pub all_read : (s : List ℕ) (x : ℕ) → (length s ≡ 0 → ⊥) → all_digits s ≡ true → followed_by 0 s ≡ x → x < 18446744073709551616 → Value x ≡ decimal_of s
+pub all_read : (s : List ℕ) (x : ℕ) → (length s ≡ 0 → ⊥) → all_digits s ≡ true → followed_by 0 s ≡ x → x < 18446744073709551616 → Some x ≡ decimal_of s
 unfolding decimal_of
 all_read s x n d e h = simp (ne_eqb (length s) 0 n, d, e, lt-ltb x 18446744073709551616 h)

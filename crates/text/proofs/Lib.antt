@@ -1,1 +1,3 @@
 pub mod Digitwise
+pub mod Hexwise
+pub mod Nan

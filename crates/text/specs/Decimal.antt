@@ -1,7 +1,5 @@
 -- For the code alone. A number from its decimal digits.
-use Rattle.std.specs.Prelude.{Bool, true, cond, not, ◌&&◌, List, [], ◌∷◌, ℕ, ◌+◌, ◌*◌, ◌-◌, eqb, leb, ltb, length}
-use Rattle.text.specs.declared.digits.Number.{Number}
-use Rattle.text.specs.declared.digits.Number.TheVariants.{Value, Bad}
+use Rattle.std.specs.Prelude.{Bool, true, cond, not, ◌&&◌, List, [], ◌∷◌, ℕ, ◌+◌, ◌*◌, ◌-◌, eqb, leb, ltb, length, Option, Some, None}
 
 -- the bytes of the digits 0 to 9
 unfoldable pub is_digit : ℕ → Bool
@@ -18,7 +16,7 @@ followed_by x [] = x
 followed_by x (b ∷ s) = followed_by (x * 10 + (b - 48)) s
 
 -- at least one digit, nothing else, and a number below 2^64
-unfoldable pub decimal_of : List ℕ → Number
+unfoldable pub decimal_of : List ℕ → Option ℕ
 decimal_of s =
     let x = followed_by 0 s in
-    cond (not (eqb (length s) 0) && (all_digits s && ltb x 18446744073709551616)) (Value x) Bad
+    cond (not (eqb (length s) 0) && (all_digits s && ltb x 18446744073709551616)) (Some x) None

@@ -1,54 +1,71 @@
 // Bytes in hex, two digits each.
-ghost use Rattle.std.specs.Prelude.{◌<◌};
+ghost use Rattle.std.specs.Prelude.{◌≡◌, ◌<◌, IfOk, IfSome, option_map};
+ghost use Rattle.text.specs.Hex.{digit_of, pair_of, bytes_of};
 
-// A hex digit's number, in either case; 16 for any other byte.
-fn digit(b: u8) -> u8 {
-    match b {
-        b'0'..=b'9' => b - b'0',
-        b'a'..=b'f' => b - b'a' + 10,
-        b'A'..=b'F' => b - b'A' + 10,
-        _ => 16,
-    }
-}
+use std::alloc::{AllocError, Global};
 
-// A whole number of bytes, at least one, all in hex digits.
-pub fn is_hex(s: &[u8]) -> bool {
-    if s.len() == 0 {
-        return false;
-    }
-    let mut i = 0;
-    while i < s.len() {
-        if digit(s[i]) > 15 {
-            return false;
-        }
-        i += 1;
-    }
-    s.len() % 2 == 0
-}
-
-// Puts the bytes of a hex text at the start of out, as many as fit, and answers their count.
-pub fn take_hex(s: &[u8], out: &mut [u8]) -> usize {
-    let mut n = 0;
-    while n < out.len() {
-        let at = n * 2;
-        if s.len() - at < 2 {
-            return n;
-        }
-        out[n] = digit(s[at]) % 16 * 16 + digit(s[at + 1]) % 16;
-        n += 1;
-    }
-    n
-}
-
-fn wide(x: u8) -> u64
-    ensures { result < 256 }
+// A hex digit's number, in either case.
+#[tactic(auto, unfolding(crate::specs::Hex::digit_of))]
+fn digit(b: u8) -> Option<u8>
+    ensures number { result ≡ digit_of b }
+    ensures below { IfSome result (λ x. x < 16) }
 {
-    x as u64
+    match b {
+        b'0'..=b'9' => Some(b - b'0'),
+        b'a'..=b'f' => Some(b - b'a' + 10),
+        b'A'..=b'F' => Some(b - b'A' + 10),
+        _ => None,
+    }
 }
 
-// The number of a text of eight hex digits.
-pub fn word(s: &[u8]) -> u64 {
-    let mut b = [0u8; 4];
-    take_hex(s, &mut b);
-    ((wide(b[0]) * 256 + wide(b[1])) * 256 + wide(b[2])) * 256 + wide(b[3])
+// The byte of two digits.
+#[tactic(auto, unfolding(crate::specs::Hex::pair_of, crate::specs::Hex::both))]
+fn pair(high: u8, low: u8) -> Option<u8>
+    ensures { result ≡ pair_of high low }
+{
+    Some(16 * digit(high)? + digit(low)?)
+}
+
+// The bytes of a hex text, at least one.
+pub fn bytes(alloc: Global, s: &[u8]) -> Result<Option<Vec<u8>>, AllocError>
+    ensures { IfOk result (λ o. option_map (λ v. v.items) o ≡ bytes_of s.now) }
+{
+    if s.is_empty() {
+        return Ok(None);
+    }
+    let mut out = Vec::new(alloc);
+    let mut rest = s;
+    while let [high, low, after @ ..] = rest {
+        let Some(byte) = pair(*high, *low) else {
+            return Ok(None);
+        };
+        out.push(byte)?;
+        rest = after;
+    }
+    if rest.is_empty() {
+        Ok(Some(out))
+    } else {
+        Ok(None)
+    }
+}
+
+#[cfg(test)]
+mod tests {
+    use super::*;
+    use std::test::Fail;
+
+    #[test]
+    fn bytes_of_a_text(rt: HostRuntime) -> Result<(), Fail> {
+        let read = bytes(rt.alloc(), b"0aFf")?.ok_or("no bytes")?;
+        assert_eq!(rt; read.as_slice(), [0x0a, 0xff].as_slice());
+        Ok(())
+    }
+
+    #[test]
+    fn no_bytes(rt: HostRuntime) -> Result<(), Fail> {
+        assert!(rt; bytes(rt.alloc(), b"")?.is_none());
+        assert!(rt; bytes(rt.alloc(), b"0")?.is_none());
+        assert!(rt; bytes(rt.alloc(), b"0g")?.is_none());
+        Ok(())
+    }
 }

@@ -1,55 +1,17 @@
-// Parts and lines of a text.
-ghost use Rattle.std.specs.Prelude.{◌≡◌, ◌≢◌, ℕ, ◌≤◌, ◌<◌, length, slice_index};
+// Parts of a line.
+ghost use Rattle.std.specs.Prelude.{◌≡◌, ◌≢◌, ℕ, ◌<◌, ◌++◌, ◌∷◌, length, slice_index, EachIndex, MatchOption, Contains};
 
-// The place of the first such byte of a text from a start on; the end where none stands before it.
-pub fn find(s: &[u8], start: usize, end: usize, byte: u8) -> usize
-    requires { (start ≤ end) × (end ≤ length s.now) }
-    ensures within { (start ≤ result) × (result ≤ end) }
-    ensures before { (k : ℕ) → start ≤ k → k < result → slice_index s.now k ≢ byte }
-    ensures found { result < end → slice_index s.now result ≡ byte }
+// The place of the first such byte.
+pub fn find(s: &[u8], byte: u8) -> Option<usize>
+    ensures { MatchOption result (EachIndex s.now (λ k. slice_index s.now k ≢ byte)) (λ at. (at < length s.now) × (slice_index s.now at ≡ byte) × ((k : ℕ) → k < at → slice_index s.now k ≢ byte)) }
 {
-    for i in start..end {
-        if s[i] == byte {
-            return i;
-        }
-    }
-    end
+    s.iter().position(|b| *b == byte)
 }
 
-// A part of a text; an empty one where it starts past its end.
-pub fn part(s: &[u8], start: usize, end: usize) -> &[u8]
-    requires { end ≤ length s.now }
-    ensures { length result.now ≤ length s.now }
+// What stands before the first such byte, and what stands after it.
+pub fn split_once(s: &[u8], byte: u8) -> Option<(&[u8], &[u8])>
+    ensures { MatchOption result (Contains s.now byte → ⊥) (λ p. (s.now ≡ p.0.now ++ byte ∷ p.1.now) × (Contains p.0.now byte → ⊥)) }
 {
-    if start <= end {
-        return &s[start..end];
-    }
-    &s[end..end]
-}
-
-// The end of the line that starts at a place, the newline taken in.
-pub fn line_end(s: &[u8], start: usize) -> usize
-    requires { start < length s.now }
-    ensures { (start < result) × (result ≤ length s.now) }
-{
-    let end = find(s, start, s.len(), b'\n');
-    if end < s.len() {
-        return end + 1;
-    }
-    s.len()
-}
-
-// A text begins with a word and a space.
-pub fn begins(s: &[u8], word: &[u8]) -> bool {
-    if s.len() <= word.len() {
-        return false;
-    }
-    let mut i = 0;
-    while i < word.len() {
-        if s[i] != word[i] {
-            return false;
-        }
-        i += 1;
-    }
-    s[i] == b' '
+    let at = find(s, byte)?;
+    Some((&s[..at], &s[at + 1..]))
 }

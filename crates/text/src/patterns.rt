@@ -12,7 +12,7 @@ pub fn float_of(pattern: u32) -> f32
     ensures { result ≡ of_bits binary32 pattern }
 {
     if (pattern % SIGN / FRACTION == 255) & !(pattern % FRACTION == 0) {
-        return 0.0 / 0.0;
+        return f32::NAN;
     }
     f32::from_bits(pattern)
 }
@@ -20,8 +20,8 @@ pub fn float_of(pattern: u32) -> f32
 pub fn pattern_of(x: f32) -> u32
     ensures { result ≡ to_bits binary32 x }
 {
-    if x != x {
+    if x.is_nan() {
         return 0x7fc0_0000;
     }
-    f32::to_bits(x)
+    x.to_bits()
 }
