@@ -1,8 +1,5 @@
-// The values kept from line to line: numbers by the row of their name, the counts of the three buffers' bytes, and
-// the numbers of windows and of schedules.
-ghost use Rattle.std.specs.Prelude.{◌+◌, ◌≤◌};
-
-use crate::reading::Kind;
+// The values kept from line to line, by their names.
+use crate::question::Kind;
 use cell::{Cell, CellConfig};
 use harq_ack::HarqAckGrant;
 use messages::{Messages, Schedule};
@@ -11,345 +8,349 @@ use npdsch::NpdschGrant;
 use nprach::{Window, Windows};
 use npusch::NpuschGrant;
 use search_space::SearchSpace;
+use std::alloc::Global;
 use walk::{Engine, Grant, Walk};
 
-// The numbers' names, eight in a row; then the level, a number too, the buffers, the windows and the schedules.
-pub const NAMES: [[u8; 80]; 6] = [
-    *b"mode      carrier   identity  nports    cports    control   sib1      bits      ",
-    *b"n         delay     rmax      subframes copies    r         format    ncce      ",
-    *b"g         alpha     spacing   subcarrierunits     mcs       field     windows   ",
-    *b"siwindow  sioffset  messages  p         t         slot      l         k         ",
-    *b"i         room      engine    no        level     anchor    other     data      ",
-    *b"w1        w2        w3        w4        m1        m2        m3        m4        ",
-];
+const LARGEST_ROOM: u64 = 1024;
 
-// How many names there are. The number of a name stands where its value is read.
-pub const NAMED: usize = 48;
+const LARGEST_ENGINE: u64 = 1;
 
-pub const P: usize = 27;
+// The most bytes of a bitmap, and of the data of a fill.
+const BITMAP_BYTES: usize = 64;
 
-pub const T: usize = 28;
+const DATA_BYTES: usize = 1024;
 
-pub const SLOT: usize = 29;
+const NO_SCHEDULE: Schedule = Schedule {
+    period: 0,
+    every: 0,
+    size: 0,
+};
 
-pub const L: usize = 30;
+const NO_WINDOW: Window = Window {
+    period: 0,
+    start: 0,
+    length: 0,
+    tone: 0,
+};
 
-pub const K: usize = 31;
-
-pub const I: usize = 32;
-
-pub const ROOM: usize = 33;
-
-pub const ENGINE: usize = 34;
-
-pub const NO: usize = 35;
-
-pub const LEVEL: usize = 36;
-
-pub const ANCHOR: usize = 37;
-
-pub const OTHER: usize = 38;
-
-pub const DATA: usize = 39;
-
-// At a buffer's row stands the count of its bytes; from the first window's row on stand four numbers of each window,
-// and then three of each schedule.
-pub type Values = [u64; 68];
-
-// All 0, but the room and the messages' window.
-pub fn start() -> Values {
-    let mut v = [0u64; 68];
-    v[ROOM] = 336;
-    v[SIWINDOW] = 160;
-    v
+#[derive(Clone, Drop)]
+pub struct Values {
+    pub mode: u64,
+    pub carrier: u64,
+    pub identity: u64,
+    pub nports: u64,
+    pub cports: u64,
+    pub control: u64,
+    pub sib1: u64,
+    pub bits: u64,
+    pub anchor: Vec<u8>,
+    pub other: Vec<u8>,
+    pub siwindow: u64,
+    pub sioffset: u64,
+    pub message_count: u64,
+    pub schedules: [Schedule; 4],
+    pub n: u64,
+    pub delay: u64,
+    pub rmax: u64,
+    pub subframes: u64,
+    pub copies: u64,
+    pub r: u64,
+    pub format: u64,
+    pub ncce: u64,
+    pub spacing: u64,
+    pub subcarrier: u64,
+    pub units: u64,
+    pub mcs: u64,
+    pub field: u64,
+    pub window_count: u64,
+    pub windows: [Window; 4],
+    pub g: u64,
+    pub alpha: u64,
+    pub p: u64,
+    pub t: u64,
+    pub slot: u64,
+    pub l: u64,
+    pub k: u64,
+    pub i: u64,
+    pub engine: u64,
+    // The bit pattern of an f32.
+    pub level: u32,
+    pub data: Vec<u8>,
+    pub room: u64,
+    pub no: u64,
 }
 
-const MODE: usize = 0;
+// Where the value of a name is kept, and how large it may be.
+#[derive(Drop)]
+pub(crate) enum Place<'a> {
+    Number(&'a mut u64),
+    Limited(&'a mut u64, u64),
+    Pattern(&'a mut u32),
+    Buffer(&'a mut Vec<u8>, usize),
+    Window(&'a mut Window),
+    Schedule(&'a mut Schedule),
+}
 
-const CARRIER: usize = 1;
+impl Values {
+    ghost use Rattle.std.specs.Prelude.{◌≡◌, ◌<◌, ◌↔◌, IsTrue, cond, eqb, ltb};
+    ghost use Rattle.std.specs.Float.{binary32};
+    ghost use Rattle.std.specs.Float.Ieee.{of_bits};
+    ghost use Rattle.walk.specs.declared.Engine.TheVariants.{Quick, Plain};
+    ghost use Rattle.questions.specs.Values.{IsStart};
 
-const IDENTITY: usize = 2;
-
-const NPORTS: usize = 3;
-
-const CPORTS: usize = 4;
-
-const CONTROL: usize = 5;
-
-const SIB1: usize = 6;
-
-const BITS: usize = 7;
-
-fn config_of(v: &Values) -> CellConfig {
-    CellConfig {
-        mode: v[MODE],
-        carrier: v[CARRIER],
-        identity: v[IDENTITY],
-        nports: v[NPORTS],
-        cports: v[CPORTS],
-        control: v[CONTROL],
-        sib1: v[SIB1],
-        bits: v[BITS],
+    // All 0 or empty, but the room and the messages' window.
+    pub fn new(alloc: Global) -> Values
+        ensures { IsStart result }
+    {
+        Values {
+            mode: 0,
+            carrier: 0,
+            identity: 0,
+            nports: 0,
+            cports: 0,
+            control: 0,
+            sib1: 0,
+            bits: 0,
+            anchor: Vec::new(alloc),
+            other: Vec::new(alloc),
+            siwindow: 160,
+            sioffset: 0,
+            message_count: 0,
+            schedules: [NO_SCHEDULE; 4],
+            n: 0,
+            delay: 0,
+            rmax: 0,
+            subframes: 0,
+            copies: 0,
+            r: 0,
+            format: 0,
+            ncce: 0,
+            spacing: 0,
+            subcarrier: 0,
+            units: 0,
+            mcs: 0,
+            field: 0,
+            window_count: 0,
+            windows: [NO_WINDOW; 4],
+            g: 0,
+            alpha: 0,
+            p: 0,
+            t: 0,
+            slot: 0,
+            l: 0,
+            k: 0,
+            i: 0,
+            engine: 0,
+            level: 0,
+            data: Vec::new(alloc),
+            room: 336,
+            no: 0,
+        }
     }
-}
 
-pub fn cell_of(v: &Values) -> Cell {
-    let config = config_of(v);
-    let messages = messages_of(v);
-    Cell { config, messages }
-}
-
-const N: usize = 8;
-
-const DELAY: usize = 9;
-
-const RMAX: usize = 10;
-
-const SUBFRAMES: usize = 11;
-
-const COPIES: usize = 12;
-
-pub fn npdsch_grant(v: &Values) -> NpdschGrant {
-    NpdschGrant {
-        n: v[N],
-        delay: v[DELAY],
-        rmax: v[RMAX],
-        subframes: v[SUBFRAMES],
-        copies: v[COPIES],
+    // Where a value is kept: one of the cell, else one of the grants and of search, else one of what is asked.
+    pub(crate) fn place(&mut self, name: &[u8]) -> Option<Place<'_>> {
+        let place = match name {
+            b"mode" => Place::Number(&mut self.mode),
+            b"carrier" => Place::Number(&mut self.carrier),
+            b"identity" => Place::Number(&mut self.identity),
+            b"nports" => Place::Number(&mut self.nports),
+            b"cports" => Place::Number(&mut self.cports),
+            b"control" => Place::Number(&mut self.control),
+            b"sib1" => Place::Number(&mut self.sib1),
+            b"bits" => Place::Number(&mut self.bits),
+            b"anchor" => Place::Buffer(&mut self.anchor, BITMAP_BYTES),
+            b"other" => Place::Buffer(&mut self.other, BITMAP_BYTES),
+            b"siwindow" => Place::Number(&mut self.siwindow),
+            b"sioffset" => Place::Number(&mut self.sioffset),
+            b"messages" => Place::Number(&mut self.message_count),
+            b"m1" => Place::Schedule(&mut self.schedules[0]),
+            b"m2" => Place::Schedule(&mut self.schedules[1]),
+            b"m3" => Place::Schedule(&mut self.schedules[2]),
+            b"m4" => Place::Schedule(&mut self.schedules[3]),
+            _ => return self.grant_place(name),
+        };
+        Some(place)
     }
-}
 
-const R: usize = 13;
-
-const FORMAT: usize = 14;
-
-const NCCE: usize = 15;
-
-pub fn npdcch_grant(v: &Values) -> NpdcchGrant {
-    NpdcchGrant {
-        n: v[N],
-        r: v[R],
-        format: v[FORMAT],
-        ncce: v[NCCE],
+    fn grant_place(&mut self, name: &[u8]) -> Option<Place<'_>> {
+        let place = match name {
+            b"n" => Place::Number(&mut self.n),
+            b"delay" => Place::Number(&mut self.delay),
+            b"rmax" => Place::Number(&mut self.rmax),
+            b"subframes" => Place::Number(&mut self.subframes),
+            b"copies" => Place::Number(&mut self.copies),
+            b"r" => Place::Number(&mut self.r),
+            b"format" => Place::Number(&mut self.format),
+            b"ncce" => Place::Number(&mut self.ncce),
+            b"spacing" => Place::Number(&mut self.spacing),
+            b"subcarrier" => Place::Number(&mut self.subcarrier),
+            b"units" => Place::Number(&mut self.units),
+            b"mcs" => Place::Number(&mut self.mcs),
+            b"field" => Place::Number(&mut self.field),
+            b"windows" => Place::Number(&mut self.window_count),
+            b"w1" => Place::Window(&mut self.windows[0]),
+            b"w2" => Place::Window(&mut self.windows[1]),
+            b"w3" => Place::Window(&mut self.windows[2]),
+            b"w4" => Place::Window(&mut self.windows[3]),
+            b"g" => Place::Number(&mut self.g),
+            b"alpha" => Place::Number(&mut self.alpha),
+            _ => return self.asked_place(name),
+        };
+        Some(place)
     }
-}
 
-const G: usize = 16;
-
-const ALPHA: usize = 17;
-
-pub fn search_space_of(v: &Values) -> SearchSpace {
-    SearchSpace {
-        n: v[N],
-        rmax: v[RMAX],
-        g: v[G],
-        alpha: v[ALPHA],
+    fn asked_place(&mut self, name: &[u8]) -> Option<Place<'_>> {
+        let place = match name {
+            b"p" => Place::Number(&mut self.p),
+            b"t" => Place::Number(&mut self.t),
+            b"slot" => Place::Number(&mut self.slot),
+            b"l" => Place::Number(&mut self.l),
+            b"k" => Place::Number(&mut self.k),
+            b"i" => Place::Number(&mut self.i),
+            b"engine" => Place::Limited(&mut self.engine, LARGEST_ENGINE),
+            b"level" => Place::Pattern(&mut self.level),
+            b"data" => Place::Buffer(&mut self.data, DATA_BYTES),
+            b"room" => Place::Limited(&mut self.room, LARGEST_ROOM),
+            b"no" => Place::Number(&mut self.no),
+            _ => return None,
+        };
+        Some(place)
     }
-}
 
-const WINDOWS: usize = 23;
-
-const W1: usize = 40;
-
-pub const W4: usize = 43;
-
-// The place of a window's first number, by the row of its name.
-fn first_of(name: usize) -> usize
-    requires { (40 ≤ name) × (name ≤ 43) }
-    ensures { result + 4 ≤ 56 }
-{
-    W1 + 4 * (name - W1)
-}
-
-fn window_of(name: usize, v: &Values) -> Window
-    requires { (40 ≤ name) × (name ≤ 43) }
-{
-    let at = first_of(name);
-    Window {
-        period: v[at],
-        start: v[at + 1],
-        length: v[at + 2],
-        tone: v[at + 3],
+    pub fn cell(&self) -> Cell {
+        let config = CellConfig {
+            mode: self.mode,
+            carrier: self.carrier,
+            identity: self.identity,
+            nports: self.nports,
+            cports: self.cports,
+            control: self.control,
+            sib1: self.sib1,
+            bits: self.bits,
+        };
+        let [s1, s2, s3, s4] = self.schedules;
+        let messages = Messages {
+            window: self.siwindow,
+            offset: self.sioffset,
+            count: self.message_count,
+            s1,
+            s2,
+            s3,
+            s4,
+        };
+        Cell { config, messages }
     }
-}
 
-// Keeps a window at the row of its name.
-pub fn keep_window(name: usize, w: Window, v: &mut Values) {
-    if name < W1 {
-        return;
+    pub fn npdsch_grant(&self) -> NpdschGrant {
+        NpdschGrant {
+            n: self.n,
+            delay: self.delay,
+            rmax: self.rmax,
+            subframes: self.subframes,
+            copies: self.copies,
+        }
     }
-    if name > W4 {
-        return;
+
+    pub fn npdcch_grant(&self) -> NpdcchGrant {
+        NpdcchGrant {
+            n: self.n,
+            r: self.r,
+            format: self.format,
+            ncce: self.ncce,
+        }
     }
-    let at = first_of(name);
-    v[at] = w.period;
-    v[at + 1] = w.start;
-    v[at + 2] = w.length;
-    v[at + 3] = w.tone;
-}
 
-pub fn windows_of(v: &Values) -> Windows {
-    let w1 = window_of(W1, v);
-    let w2 = window_of(W1 + 1, v);
-    let w3 = window_of(W1 + 2, v);
-    let w4 = window_of(W4, v);
-    Windows {
-        count: v[WINDOWS],
-        w1,
-        w2,
-        w3,
-        w4,
+    pub fn search_space(&self) -> SearchSpace {
+        SearchSpace {
+            n: self.n,
+            rmax: self.rmax,
+            g: self.g,
+            alpha: self.alpha,
+        }
     }
-}
 
-const SIWINDOW: usize = 24;
-
-const SIOFFSET: usize = 25;
-
-const MESSAGES: usize = 26;
-
-const M1: usize = 44;
-
-const M4: usize = 47;
-
-// The place of the first schedule's numbers.
-const SCHEDULES: usize = 56;
-
-// The place of a schedule's first number, by the row of its name.
-fn first_of_schedule(name: usize) -> usize
-    requires { (44 ≤ name) × (name ≤ 47) }
-    ensures { result + 3 ≤ 68 }
-{
-    SCHEDULES + 3 * (name - M1)
-}
-
-fn schedule_of(name: usize, v: &Values) -> Schedule
-    requires { (44 ≤ name) × (name ≤ 47) }
-{
-    let at = first_of_schedule(name);
-    Schedule {
-        period: v[at],
-        every: v[at + 1],
-        size: v[at + 2],
+    pub fn npusch_grant(&self) -> NpuschGrant {
+        NpuschGrant {
+            n: self.n,
+            spacing: self.spacing,
+            subcarrier: self.subcarrier,
+            units: self.units,
+            copies: self.copies,
+            delay: self.delay,
+            mcs: self.mcs,
+        }
     }
-}
 
-// Keeps a schedule at the row of its name.
-pub fn keep_schedule(name: usize, s: Schedule, v: &mut Values) {
-    if name < M1 {
-        return;
+    pub fn harq_ack_grant(&self) -> HarqAckGrant {
+        HarqAckGrant {
+            n: self.n,
+            spacing: self.spacing,
+            field: self.field,
+            copies: self.copies,
+        }
     }
-    if name > M4 {
-        return;
+
+    pub fn windows(&self) -> Windows {
+        let [w1, w2, w3, w4] = self.windows;
+        Windows {
+            count: self.window_count,
+            w1,
+            w2,
+            w3,
+            w4,
+        }
     }
-    let at = first_of_schedule(name);
-    v[at] = s.period;
-    v[at + 1] = s.every;
-    v[at + 2] = s.size;
-}
 
-fn messages_of(v: &Values) -> Messages {
-    let s1 = schedule_of(M1, v);
-    let s2 = schedule_of(M1 + 1, v);
-    let s3 = schedule_of(M1 + 2, v);
-    let s4 = schedule_of(M4, v);
-    Messages {
-        window: v[SIWINDOW],
-        offset: v[SIOFFSET],
-        count: v[MESSAGES],
-        s1,
-        s2,
-        s3,
-        s4,
+    // The record of a walk at the position p; a kind of the broadcast is taken as control.
+    pub fn walk(&self, kind: Kind) -> Walk {
+        let grant = match kind {
+            Kind::Up => Grant::Npusch(self.npusch_grant(), self.windows()),
+            Kind::Ack => Grant::HarqAck(self.harq_ack_grant(), self.windows()),
+            Kind::Down => Grant::Npdsch(self.npdsch_grant()),
+            _ => Grant::Npdcch(self.npdcch_grant()),
+        };
+        Walk {
+            cell: self.cell(),
+            grant,
+            p: self.p,
+        }
     }
-}
 
-const SPACING: usize = 18;
-
-const SUBCARRIER: usize = 19;
-
-const UNITS: usize = 20;
-
-const MCS: usize = 21;
-
-pub fn npusch_grant(v: &Values) -> NpuschGrant {
-    NpuschGrant {
-        n: v[N],
-        spacing: v[SPACING],
-        subcarrier: v[SUBCARRIER],
-        units: v[UNITS],
-        copies: v[COPIES],
-        delay: v[DELAY],
-        mcs: v[MCS],
+    // The engine that forward and step of a grant ask.
+    pub fn engine(&self) -> Engine
+        ensures { result ≡ cond (eqb self.now.engine 0) Quick Plain }
+    {
+        if self.engine == 0 {
+            Engine::Quick
+        } else {
+            Engine::Plain
+        }
     }
-}
 
-const FIELD: usize = 22;
-
-pub fn harq_ack_grant(v: &Values) -> HarqAckGrant {
-    HarqAckGrant {
-        n: v[N],
-        spacing: v[SPACING],
-        field: v[FIELD],
-        copies: v[COPIES],
+    pub fn level(&self) -> f32
+        ensures { result ≡ of_bits binary32 self.now.level }
+    {
+        text::float_of(self.level)
     }
-}
 
-fn grant_of(k: Kind, v: &Values) -> Grant {
-    match k {
-        Kind::Up => Grant::Npusch(npusch_grant(v), windows_of(v)),
-        Kind::Ack => Grant::HarqAck(harq_ack_grant(v), windows_of(v)),
-        Kind::Down => Grant::Npdsch(npdsch_grant(v)),
-        _ => Grant::Npdcch(npdcch_grant(v)),
+    pub fn control_region(&self) -> u64
+        ensures { result ≡ self.now.control }
+    {
+        self.control
     }
-}
 
-// The record of a walk at the position p.
-pub fn walk_of(k: Kind, v: &Values) -> Walk {
-    let cell = cell_of(v);
-    let grant = grant_of(k, v);
-    Walk {
-        cell,
-        grant,
-        p: v[P],
+    // SIB1's own: three symbols in-band.
+    pub fn sib1_control(&self) -> u64
+        ensures { result ≡ cond (ltb self.now.mode 2) 3 0 }
+    {
+        if self.mode < 2 { 3 } else { 0 }
     }
-}
 
-// The engine that forward and step of a grant ask.
-pub fn engine_of(v: &Values) -> Engine {
-    if v[ENGINE] == 0 {
-        return Engine::Quick;
+    // The uplink's spacing is 15 kHz.
+    pub fn is_15_khz(&self) -> bool
+        ensures { IsTrue result ↔ (self.now.spacing ≡ 1) }
+    {
+        self.spacing == 1
     }
-    Engine::Plain
-}
-
-// The bytes of a buffer that are in use.
-pub fn front(buffer: &[u8], count: u64) -> &[u8] {
-    let n = count as usize;
-    if n <= buffer.len() {
-        return &buffer[0..n];
-    }
-    buffer
-}
-
-// The level's f32, by its pattern.
-pub fn level_of(v: &Values) -> f32 {
-    text::float_of((v[LEVEL] % 0x1_0000_0000) as u32)
-}
-
-pub fn control_region(v: &Values) -> u64 {
-    v[CONTROL]
-}
-
-// SIB1's own: three symbols in-band.
-pub fn sib1_control(v: &Values) -> u64 {
-    if v[MODE] < 2 {
-        return 3;
-    }
-    0
-}
-
-// The uplink's spacing is 15 kHz.
-pub fn is_15_khz(v: &Values) -> bool {
-    v[SPACING] == 1
 }
