@@ -1,5 +1,6 @@
 -- Counting closure over closure: where N counts what the closures below leave, `count_over` counts what the next closure leaves of that; and back from a count to its number.
 use mathlib.Core.Bool.{Bool, true, false, not, cond, ◌&&◌}
+use Rattle.closures.specs.Quick.{count_at}
 use mathlib.Core.Path.{◌≡◌, refl, sym, ap, ap₂, ◌∙◌}
 use mathlib.Core.Logic.{⊎_elim}
 use Prim.Native.Nat.{ℕ, zero, suc, ◌+◌, ◌-◌, ◌*◌, ◌/◌, ◌%◌, max, ◌^◌, ◌≤◌, ◌<◌}
@@ -426,7 +427,7 @@ module _ (b : Closures) (so : Sorted b) where
 module _ (nested : Nested) (st : WellNested nested) where
   pub before_counts : Tracks (clear nested.closures) (count_before nested)
   before_counts =
-      let k = counts4 nested.closures st.sorted nested.c1 st.o1 nested.c2 st.o2 nested.c3 st.o3 nested.c4 st.o4 in
+      let k = counts4 nested.closures st.sorted (count_at nested 0) st.o1 (count_at nested 1) st.o2 (count_at nested 2) st.o3 (count_at nested 3) st.o4 in
       record {
         yes = λ t e. k.yes t (sym (clear_four nested.closures st.sorted t) ∙ e);
         no = λ t e. k.no t (sym (clear_four nested.closures st.sorted t) ∙ e);
@@ -440,15 +441,15 @@ module _ (nested : Nested) (st : WellNested nested) where
     abbrev so : Sorted nested.closures
     so = st.sorted
 
-    pub lifted4 : Lifted (u3 b so) (third nested) b.b4 nested.c4 t (record { n = n; add = 0; back = 0 })
+    pub lifted4 : Lifted (u3 b so) (third nested) b.b4 (count_at nested 3) t (record { n = n; add = 0; back = 0 })
     lifted4 =
-        lifted (u3 b so) (third nested) (counts3 b so nested.c1 st.o1 nested.c2 st.o2 nested.c3 st.o3) b.b4 nested.c4 st.ranged.r4 (again4 b so) t
+        lifted (u3 b so) (third nested) (counts3 b so (count_at nested 0) st.o1 (count_at nested 1) st.o2 (count_at nested 2) st.o3) b.b4 (count_at nested 3) st.ranged.r4 (again4 b so) t
         (sym (clear_four b so t) ∙ e) _ (sym h) st.o4
 
-    pub ready4 : CanAscend b.b4 nested.c4 (record { n = n; add = 0; back = 0 })
+    pub ready4 : CanAscend b.b4 (count_at nested 3) (record { n = n; add = 0; back = 0 })
     ready4 = lifted4.lifts (omega arith) (omega arith) small
 
-    module _ (g4 : Ascent) (h4 : g4 ≡ ascend_of b.b4 nested.c4 (record { n = n; add = 0; back = 0 })) where
+    module _ (g4 : Ascent) (h4 : g4 ≡ ascend_of b.b4 (count_at nested 3) (record { n = n; add = 0; back = 0 })) where
       near4 : (lifted4.at < 2 ^ 48) × (g4.add < 2 ^ 50) × (g4.back < 2 ^ 35)
       near4 = (
         lifted4.near small,
@@ -456,15 +457,15 @@ module _ (nested : Nested) (st : WellNested nested) where
         omega (arith, ap (λ (g : Ascent). g.back) h4, lifted4.back_near),
       )
 
-      pub lifted3 : Lifted (u2 b so) (second nested) b.b3 nested.c3 lifted4.at g4
+      pub lifted3 : Lifted (u2 b so) (second nested) b.b3 (count_at nested 2) lifted4.at g4
       lifted3 =
-          lifted (u2 b so) (second nested) (counts2 b so nested.c1 st.o1 nested.c2 st.o2) b.b3 nested.c3 st.ranged.r3 (again3 b so) lifted4.at
+          lifted (u2 b so) (second nested) (counts2 b so (count_at nested 0) st.o1 (count_at nested 1) st.o2) b.b3 (count_at nested 2) st.ranged.r3 (again3 b so) lifted4.at
           lifted4.passes g4 (ap (λ (g : Ascent). g.n) h4 ∙ lifted4.count) st.o3
 
-      pub ready3 : CanAscend b.b3 nested.c3 g4
+      pub ready3 : CanAscend b.b3 (count_at nested 2) g4
       ready3 = lifted3.lifts (omega (arith, near4)) (omega (arith, near4)) near4.0
 
-      module _ (g3 : Ascent) (h3 : g3 ≡ ascend_of b.b3 nested.c3 g4) where
+      module _ (g3 : Ascent) (h3 : g3 ≡ ascend_of b.b3 (count_at nested 2) g4) where
         near3 : (lifted3.at < 2 ^ 48) × (g3.add < 2 ^ 51) × (g3.back < 2 ^ 36)
         near3 = (
           lifted3.near near4.0,
@@ -472,15 +473,15 @@ module _ (nested : Nested) (st : WellNested nested) where
           omega (arith, ap (λ (g : Ascent). g.back) h3, lifted3.back_near, near4),
         )
 
-        pub lifted2 : Lifted (u1 b so) (first nested) b.b2 nested.c2 lifted3.at g3
+        pub lifted2 : Lifted (u1 b so) (first nested) b.b2 (count_at nested 1) lifted3.at g3
         lifted2 =
-            lifted (u1 b so) (first nested) (counts1 b so nested.c1 st.o1) b.b2 nested.c2 st.ranged.r2 (again2 b so) lifted3.at
+            lifted (u1 b so) (first nested) (counts1 b so (count_at nested 0) st.o1) b.b2 (count_at nested 1) st.ranged.r2 (again2 b so) lifted3.at
             lifted3.passes g3 (ap (λ (g : Ascent). g.n) h3 ∙ lifted3.count) st.o2
 
-        pub ready2 : CanAscend b.b2 nested.c2 g3
+        pub ready2 : CanAscend b.b2 (count_at nested 1) g3
         ready2 = lifted2.lifts (omega (arith, near3)) (omega (arith, near3)) near3.0
 
-        module _ (g2 : Ascent) (h2 : g2 ≡ ascend_of b.b2 nested.c2 g3) where
+        module _ (g2 : Ascent) (h2 : g2 ≡ ascend_of b.b2 (count_at nested 1) g3) where
           near2 : (lifted2.at < 2 ^ 48) × (g2.add < 2 ^ 52) × (g2.back < 2 ^ 37)
           near2 = (
             lifted2.near near3.0,
@@ -488,19 +489,19 @@ module _ (nested : Nested) (st : WellNested nested) where
             omega (arith, ap (λ (g : Ascent). g.back) h2, lifted2.back_near, near3),
           )
 
-          pub lifted1 : Lifted all (λ x. x) b.b1 nested.c1 lifted2.at g2
+          pub lifted1 : Lifted all (λ x. x) b.b1 (count_at nested 0) lifted2.at g2
           lifted1 =
-              lifted all (λ x. x) counts_all b.b1 nested.c1 st.ranged.r1 (again1 b so) lifted2.at
+              lifted all (λ x. x) counts_all b.b1 (count_at nested 0) st.ranged.r1 (again1 b so) lifted2.at
               lifted2.passes g2 (ap (λ (g : Ascent). g.n) h2 ∙ lifted2.count) st.o1
 
-          pub ready1 : CanAscend b.b1 nested.c1 g2
+          pub ready1 : CanAscend b.b1 (count_at nested 0) g2
           ready1 = lifted1.lifts (omega (arith, near2)) (omega (arith, near2)) near2.0
 
-          pub taken_small : (g1 : Ascent) → g1 ≡ ascend_of b.b1 nested.c1 g2 → g1.back < 2 ^ 38
+          pub taken_small : (g1 : Ascent) → g1 ≡ ascend_of b.b1 (count_at nested 0) g2 → g1.back < 2 ^ 38
           taken_small g1 h1 = omega (arith, ap (λ (g : Ascent). g.back) h1, lifted1.back_near, near2)
 
           -- what was added is as far off as what is to be taken off
-          pub landed : (g1 : Ascent) → g1 ≡ ascend_of b.b1 nested.c1 g2 → g1.n + g1.add ≡ t + g1.back
+          pub landed : (g1 : Ascent) → g1 ≡ ascend_of b.b1 (count_at nested 0) g2 → g1.n + g1.add ≡ t + g1.back
           landed g1 h1 =
               omega (
                 arith,

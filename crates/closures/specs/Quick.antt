@@ -1,6 +1,6 @@
 -- For the code alone. What the quick code works out on the way.
 use Rattle.std.specs.Prelude.{Bool, true, false, cond, ◌≡◌}
-use Rattle.std.specs.Prelude.{ℕ, ◌+◌, ◌-◌, ◌*◌, ◌/◌, ◌%◌, ◌^◌, min, max, ◌<◌, ◌≤◌, eqb, leb}
+use Rattle.std.specs.Prelude.{get_or, ℕ, ◌+◌, ◌-◌, ◌*◌, ◌/◌, ◌%◌, ◌^◌, min, max, ◌<◌, ◌≤◌, eqb, leb}
 use Rattle.counting.specs.Counting.{rank}
 use Rattle.counting.specs.Scaffold.{Nth}
 use Rattle.closures.specs.declared.Closure.{Closure}
@@ -80,6 +80,10 @@ pub record Sorted (b : Closures) : Type 0 where
   pub d3 : b.b3.period % b.b2.period ≡ 0
   pub d4 : b.b4.period % b.b3.period ≡ 0
 
+-- what each counts, the first one's at 0
+abbrev pub count_at : Nested → ℕ → PeriodCount
+count_at nested i = get_or nested.counts i (record { shift = 0; per = 0; least = 0 })
+
 -- ---- counting, closure over closure: N counts what the closures below leave, up to a number that does not matter
 
 -- a period has `per` that this closure leaves too; before the period's first of them N is `least`, and N goes on from
@@ -91,17 +95,17 @@ count_over b c N t =
     ((t + b.phase) / b.period * c.per + N (max ((t + b.phase) % b.period) b.closed + c.shift))
 
 abbrev pub first : Nested → ℕ → ℕ
-first nested = count_over nested.closures.b1 nested.c1 (λ t. t)
+first nested = count_over nested.closures.b1 (count_at nested 0) (λ t. t)
 
 abbrev pub second : Nested → ℕ → ℕ
-second nested = count_over nested.closures.b2 nested.c2 (first nested)
+second nested = count_over nested.closures.b2 (count_at nested 1) (first nested)
 
 abbrev pub third : Nested → ℕ → ℕ
-third nested = count_over nested.closures.b3 nested.c3 (second nested)
+third nested = count_over nested.closures.b3 (count_at nested 2) (second nested)
 
 -- how many numbers before t are clear, and a number that does not matter
 abbrev pub count_before : Nested → ℕ → ℕ
-count_before nested = count_over nested.closures.b4 nested.c4 (third nested)
+count_before nested = count_over nested.closures.b4 (count_at nested 3) (third nested)
 
 -- N goes up by one where u passes, and nowhere else
 pub record Tracks (u : ℕ → Bool) (N : ℕ → ℕ) : Type 0 where
@@ -126,18 +130,18 @@ pub record Ranged (b : Closure) (c : PeriodCount) : Type 0 where
   pub per_small : c.per ≤ b.period
 
 pub record AllRanged (nested : Nested) : Type 0 where
-  pub r1 : Ranged nested.closures.b1 nested.c1
-  pub r2 : Ranged nested.closures.b2 nested.c2
-  pub r3 : Ranged nested.closures.b3 nested.c3
-  pub r4 : Ranged nested.closures.b4 nested.c4
+  pub r1 : Ranged nested.closures.b1 (count_at nested 0)
+  pub r2 : Ranged nested.closures.b2 (count_at nested 1)
+  pub r3 : Ranged nested.closures.b3 (count_at nested 2)
+  pub r4 : Ranged nested.closures.b4 (count_at nested 3)
 
 pub record WellNested (nested : Nested) : Type 0 where
   pub sorted : Sorted nested.closures
   pub ranged : AllRanged nested
-  pub o1 : 0 < nested.closures.b1.closed → CountsOver nested.closures.b1 (λ t. t) nested.c1
-  pub o2 : 0 < nested.closures.b2.closed → CountsOver nested.closures.b2 (first nested) nested.c2
-  pub o3 : 0 < nested.closures.b3.closed → CountsOver nested.closures.b3 (second nested) nested.c3
-  pub o4 : 0 < nested.closures.b4.closed → CountsOver nested.closures.b4 (third nested) nested.c4
+  pub o1 : 0 < nested.closures.b1.closed → CountsOver nested.closures.b1 (λ t. t) (count_at nested 0)
+  pub o2 : 0 < nested.closures.b2.closed → CountsOver nested.closures.b2 (first nested) (count_at nested 1)
+  pub o3 : 0 < nested.closures.b3.closed → CountsOver nested.closures.b3 (second nested) (count_at nested 2)
+  pub o4 : 0 < nested.closures.b4.closed → CountsOver nested.closures.b4 (third nested) (count_at nested 3)
 
 -- closures nested: they close the same numbers, the longest period is one of theirs, and its clear numbers are counted
 pub record NestedOf (b : Closures) (nested : Nested) : Type 0 where

@@ -19,7 +19,8 @@ pub struct Closure {
     pub closed: u64,
 }
 
-// Four closures; a number is clear if none of them closes it.
+// Four closures; a number is clear if none of them closes it. No array: nprach's definition `closures_by` names the
+// four, and so do the laws of both links on it.
 #[derive(Clone, Copy)]
 pub struct Closures {
     pub b1: Closure,
@@ -42,10 +43,7 @@ pub struct PeriodCount {
 #[derive(Clone, Copy)]
 pub struct Nested {
     pub closures: Closures,
-    pub c1: PeriodCount,
-    pub c2: PeriodCount,
-    pub c3: PeriodCount,
-    pub c4: PeriodCount,
+    pub counts: [PeriodCount; 4],
     pub clear: u64,
 }
 
@@ -73,6 +71,7 @@ struct GapPeriod {
 }
 
 // The count of the first free number, and the number looked for; or, if there are too few, how many are left to pass.
+// No enum: each caller knows which it is, and would have an arm that cannot be reached.
 #[derive(Clone, Copy)]
 struct SearchResult {
     first: u64,
@@ -87,14 +86,14 @@ pub struct Cycle {
     pub free: u64,
 }
 
-// The first and the last of a run of numbers.
+// The first and the last of a run of numbers. Not the type of spans: closures know nothing of subframes.
 #[derive(Clone, Copy)]
 pub struct Ends {
     pub first: u64,
     pub last: u64,
 }
 
-// Whether a number is free, and how many free ones lie before it.
+// Whether a number is free, and how many free ones lie before it. No Option: the index counts for one that isn't too.
 #[derive(Clone, Copy)]
 pub struct FreeIndex {
     pub free: bool,
@@ -123,24 +122,6 @@ fn none() -> Closures
     }
 }
 
-fn least(a: u64, b: u64) -> u64
-    ensures { result ≡ min a b }
-{
-    if a <= b {
-        return a;
-    }
-    b
-}
-
-fn most(a: u64, b: u64) -> u64
-    ensures { result ≡ max a b }
-{
-    if a <= b {
-        return b;
-    }
-    a
-}
-
 // A closure closes no more than all.
 fn capped(b: Closure) -> Closure
     ensures { result ≡ capped_of b }
@@ -148,31 +129,23 @@ fn capped(b: Closure) -> Closure
     Closure {
         period: b.period,
         phase: b.phase,
-        closed: least(b.closed, b.period),
+        closed: b.closed.min(b.period),
     }
 }
 
 // Of two closures the one with the smaller period, and the other.
+#[tactic(auto, unfolding(crate::specs::Quick::lower_of))]
 fn lower(a: Closure, b: Closure) -> Closure
     ensures { result ≡ lower_of a b }
 {
-    let p = a.period;
-    let q = b.period;
-    if p <= q {
-        return a;
-    }
-    b
+    if a.period <= b.period { a } else { b }
 }
 
+#[tactic(auto, unfolding(crate::specs::Quick::upper_of))]
 fn upper(a: Closure, b: Closure) -> Closure
     ensures { result ≡ upper_of a b }
 {
-    let p = a.period;
-    let q = b.period;
-    if p <= q {
-        return b;
-    }
-    a
+    if a.period <= b.period { b } else { a }
 }
 
 // The closures by their periods.
@@ -199,25 +172,18 @@ fn ordered(b: Closures) -> Closures
 }
 
 // One closure on the way down. One that closes nothing counts nothing.
+#[tactic(auto, unfolding(crate::specs::Quick::descend_of))]
 fn descend(b: Closure, c: PeriodCount, m: Descent) -> Descent
     requires { Ranged b c × (m.at < 2 ^ 50) × (m.sum < 2 ^ 56) }
     ensures { (result ≡ descend_of b c m) × (result.at < 2 ^ 50) × (result.sum < m.sum + 2 ^ 51) }
 {
-    let period = b.period;
-    let phase = b.phase;
-    let closed = b.closed;
-    let shift = c.shift;
-    let per = c.per;
-    let at = m.at;
-    let sum = m.sum;
-    if closed == 0 {
+    if b.closed == 0 {
         return m;
     }
-    let y = at + phase;
-    let whole = y / period;
+    let y = m.at + b.phase;
     Descent {
-        at: most(y % period, closed) + shift,
-        sum: sum + whole * per,
+        at: (y % b.period).max(b.closed) + c.shift,
+        sum: m.sum + y / b.period * c.per,
     }
 }
 
@@ -226,10 +192,14 @@ fn before(nested: Nested, t: u64) -> u64
     requires { AllRanged nested × (t < 2 ^ 50) }
     ensures { (result ≡ count_before nested t) × (result < 2 ^ 56) }
 {
-    let m4 = descend(nested.closures.b4, nested.c4, Descent { at: t, sum: 0 });
-    let m3 = descend(nested.closures.b3, nested.c3, m4);
-    let m2 = descend(nested.closures.b2, nested.c2, m3);
-    let m1 = descend(nested.closures.b1, nested.c1, m2);
+    let m4 = descend(
+        nested.closures.b4,
+        nested.counts[3],
+        Descent { at: t, sum: 0 },
+    );
+    let m3 = descend(nested.closures.b3, nested.counts[2], m4);
+    let m2 = descend(nested.closures.b2, nested.counts[1], m3);
+    let m1 = descend(nested.closures.b1, nested.counts[0], m2);
     m1.sum + m1.at
 }
 
@@ -248,18 +218,15 @@ fn count_over(b: Closure, below: Nested) -> PeriodCount
     requires { Usable b × (b.closed ≤ b.period) × AllRanged below × Slow (count_before below) }
     ensures { Ranged b result × (0 < b.closed → CountsOver b (count_before below) result) }
 {
-    let period = b.period;
-    let phase = b.phase;
-    let closed = b.closed;
-    if closed == 0 {
+    if b.closed == 0 {
         return no_count();
     }
-    let shift = period - phase % period;
-    let from = before(below, closed + shift);
+    let shift = b.period - b.phase % b.period;
+    let least = before(below, b.closed + shift);
     PeriodCount {
         shift,
-        per: before(below, period + shift) - from,
-        least: from,
+        per: before(below, b.period + shift) - least,
+        least,
     }
 }
 
@@ -277,78 +244,20 @@ fn with_counts(b: Closures) -> Nested
     requires { Sorted b }
     ensures { WellNested result × (result.closures ≡ b) }
 {
-    let first = b.b1;
-    let second = b.b2;
-    let third = b.b3;
-    let idle = idle();
-    let zero = no_count();
-    let c1 = count_over(
-        first,
-        Nested {
-            closures: none(),
-            c1: zero,
-            c2: zero,
-            c3: zero,
-            c4: zero,
-            clear: 0,
-        },
-    );
-    let c2 = count_over(
-        second,
-        Nested {
-            closures: Closures {
-                b1: first,
-                b2: idle,
-                b3: idle,
-                b4: idle,
-            },
-            c1,
-            c2: zero,
-            c3: zero,
-            c4: zero,
-            clear: 0,
-        },
-    );
-    let c3 = count_over(
-        third,
-        Nested {
-            closures: Closures {
-                b1: first,
-                b2: second,
-                b3: idle,
-                b4: idle,
-            },
-            c1,
-            c2,
-            c3: zero,
-            c4: zero,
-            clear: 0,
-        },
-    );
-    let c4 = count_over(
-        b.b4,
-        Nested {
-            closures: Closures {
-                b1: first,
-                b2: second,
-                b3: third,
-                b4: idle,
-            },
-            c1,
-            c2,
-            c3,
-            c4: zero,
-            clear: 0,
-        },
-    );
-    Nested {
-        closures: b,
-        c1,
-        c2,
-        c3,
-        c4,
+    let mut nested = Nested {
+        closures: none(),
+        counts: [no_count(); 4],
         clear: 0,
-    }
+    };
+    nested.counts[0] = count_over(b.b1, nested);
+    nested.closures.b1 = b.b1;
+    nested.counts[1] = count_over(b.b2, nested);
+    nested.closures.b2 = b.b2;
+    nested.counts[2] = count_over(b.b3, nested);
+    nested.closures.b3 = b.b3;
+    nested.counts[3] = count_over(b.b4, nested);
+    nested.closures.b4 = b.b4;
+    nested
 }
 
 // Closures nested by their periods.
@@ -363,27 +272,19 @@ pub fn nest(b: Closures) -> Nested
 }
 
 // One closure on the way to a number that is looked for: whole periods by division.
+#[tactic(auto, unfolding(crate::specs::Quick::ascend_of))]
 fn ascend(b: Closure, c: PeriodCount, g: Ascent) -> Ascent
     requires { Ranged b c × CanAscend b c g }
     ensures { result ≡ ascend_of b c g }
 {
-    let period = b.period;
-    let phase = b.phase;
-    let closed = b.closed;
-    let shift = c.shift;
-    let per = c.per;
-    let from = c.least;
-    let n = g.n;
-    let add = g.add;
-    let back = g.back;
-    if closed == 0 {
+    if b.closed == 0 {
         return g;
     }
-    let whole = (n - from) / per;
+    let whole = (g.n - c.least) / c.per;
     Ascent {
-        n: n - whole * per,
-        add: add + whole * period,
-        back: back + (shift + phase),
+        n: g.n - whole * c.per,
+        add: g.add + whole * b.period,
+        back: g.back + (c.shift + b.phase),
     }
 }
 
@@ -392,10 +293,14 @@ fn find(nested: Nested, n: u64) -> u64
     requires { WellNested nested × Reached nested n }
     ensures { (t : ℕ) → clear nested.closures t ≡ true → count_before nested t ≡ n → t < 2 ^ 48 → result ≡ t }
 {
-    let g4 = ascend(nested.closures.b4, nested.c4, Ascent { n, add: 0, back: 0 });
-    let g3 = ascend(nested.closures.b3, nested.c3, g4);
-    let g2 = ascend(nested.closures.b2, nested.c2, g3);
-    let g1 = ascend(nested.closures.b1, nested.c1, g2);
+    let g4 = ascend(
+        nested.closures.b4,
+        nested.counts[3],
+        Ascent { n, add: 0, back: 0 },
+    );
+    let g3 = ascend(nested.closures.b3, nested.counts[2], g4);
+    let g2 = ascend(nested.closures.b2, nested.counts[1], g3);
+    let g1 = ascend(nested.closures.b1, nested.counts[0], g2);
     g1.n + g1.add - g1.back
 }
 
@@ -403,10 +308,7 @@ fn leaves_open_at(b: Closure, t: u64) -> bool
     requires { Usable b × (t < 2 ^ 48) }
     ensures { result ≡ leaves_open b t }
 {
-    let period = b.period;
-    let phase = b.phase;
-    let closed = b.closed;
-    (t + phase) % period >= closed
+    (t + b.phase) % b.period >= b.closed
 }
 
 fn is_free(gap: Closure, b: Closures, t: u64) -> bool
@@ -423,15 +325,13 @@ fn gap_period_at(gap: Closure, nested: Nested, at: u64, end: u64) -> GapPeriod
     requires { Usable gap × Begins gap at × WellNested nested × (at < end) × (end < 2 ^ 48) }
     ensures { GapPeriodAt gap nested at end result }
 {
-    let period = gap.period;
-    let closed = gap.closed;
     let rest = end - at;
     let from = before(nested, at);
-    let to = before(nested, at + least(period - closed, rest));
+    let to = before(nested, at + (gap.period - gap.closed).min(rest));
     GapPeriod {
         from,
         here: to - from,
-        length: least(period, rest),
+        length: gap.period.min(rest),
     }
 }
 
@@ -445,23 +345,21 @@ fn scan(gap: Closure, nested: Nested, t: u64, n: u64, j: u64) -> SearchResult
     let mut at = t;
     let mut left = j;
     let mut first = 0;
+    // No for: a step is as long as the gap's period, or what is left of it.
     while at < end {
         let gap_period = gap_period_at(gap, nested, at, end);
-        let from = gap_period.from;
-        let here = gap_period.here;
-        let length = gap_period.length;
         if left == j {
-            first = from;
+            first = gap_period.from;
         }
-        if left < here {
+        if left < gap_period.here {
             return SearchResult {
                 first,
-                at: find(nested, from + left),
+                at: find(nested, gap_period.from + left),
                 left: 0,
             };
         }
-        left -= here;
-        at += length;
+        left -= gap_period.here;
+        at += gap_period.length;
     }
     SearchResult {
         first,
@@ -485,10 +383,8 @@ pub fn nth(gap: Closure, nested: Nested, cycle: Cycle, t: u64, j: u64) -> u64
         × (t < 2 ^ 47) × (j < 2 ^ 33) }
     ensures { result ≡ select (is_free gap nested.closures) cycle.length t j }
 {
-    let length = cycle.length;
-    let free = cycle.free;
-    let whole = j / free;
-    scan(gap, nested, t, length, j - whole * free).at + whole * length
+    let whole = j / cycle.free;
+    scan(gap, nested, t, cycle.length, j - whole * cycle.free).at + whole * cycle.length
 }
 
 // The first free number from t on and the j-th, by one search.
@@ -498,19 +394,20 @@ pub fn first_and_last(gap: Closure, nested: Nested, cycle: Cycle, t: u64, j: u64
     ensures { (result.first ≡ select (is_free gap nested.closures) cycle.length t 0)
         × (result.last ≡ select (is_free gap nested.closures) cycle.length t j) }
 {
-    let length = cycle.length;
-    let free = cycle.free;
-    let whole = j / free;
-    let rest = j - whole * free;
-    let found = scan(gap, nested, t, length, rest);
-    let at = found.at;
-    let last = at + whole * length;
+    let whole = j / cycle.free;
+    let rest = j - whole * cycle.free;
+    let found = scan(gap, nested, t, cycle.length, rest);
+    let last = found.at + whole * cycle.length;
     if rest == 0 {
-        return Ends { first: at, last };
-    }
-    Ends {
-        first: find(nested, found.first),
-        last,
+        Ends {
+            first: found.at,
+            last,
+        }
+    } else {
+        Ends {
+            first: find(nested, found.first),
+            last,
+        }
     }
 }
 
@@ -520,13 +417,11 @@ pub fn free_index(gap: Closure, nested: Nested, cycle: Cycle, t: u64, y: u64) ->
         × (t < 2 ^ 46) }
     ensures { FreeIndexAt (is_free gap nested.closures) t y result }
 {
-    let length = cycle.length;
-    let free = cycle.free;
-    let whole = y / length;
-    let rest = y - whole * length;
+    let whole = y / cycle.length;
+    let rest = y - whole * cycle.length;
     let before = count_free(gap, nested, t, rest);
     FreeIndex {
         free: is_free(gap, nested.closures, t + rest),
-        index: whole * free + before,
+        index: whole * cycle.free + before,
     }
 }

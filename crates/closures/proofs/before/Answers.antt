@@ -1,4 +1,5 @@
 use mathlib.Core.Path.{◌≡◌, ap, ◌∙◌}
+use Rattle.closures.specs.Quick.{count_at}
 use Prim.Native.Nat.{◌+◌}
 use native.Mathlib.Omega.{arith}
 use native.Mathlib.Nat.{zero-add}
@@ -17,13 +18,13 @@ counted c =
     let a = c1.args in
     let nested = a.nested in
     ap (λ (m : Descent). m.sum + m.at) c.descend-m1.ensures.0
-    ∙ passed nested.closures.b1 nested.c1 (λ t. t) c3.descend-m2.result
+    ∙ passed nested.closures.b1 (count_at nested 0) (λ t. t) c3.descend-m2.result
     ∙ ap (λ (m : Descent). m.sum + first nested m.at) c3.descend-m2.ensures.0
-    ∙ passed nested.closures.b2 nested.c2 (first nested) c2.descend-m3.result
+    ∙ passed nested.closures.b2 (count_at nested 1) (first nested) c2.descend-m3.result
     ∙ ap (λ (m : Descent). m.sum + second nested m.at) c2.descend-m3.ensures.0
-    ∙ passed nested.closures.b3 nested.c3 (second nested) c1.descend-m4.result
+    ∙ passed nested.closures.b3 (count_at nested 2) (second nested) c1.descend-m4.result
     ∙ ap (λ (m : Descent). m.sum + third nested m.at) c1.descend-m4.ensures.0
-    ∙ passed nested.closures.b4 nested.c4 (third nested) (record { at = a.t; sum = 0 })
+    ∙ passed nested.closures.b4 (count_at nested 3) (third nested) (record { at = a.t; sum = 0 })
     ∙ zero-add (count_before nested a.t)
 
 pub returns : goal.returns

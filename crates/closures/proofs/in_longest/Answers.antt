@@ -17,12 +17,6 @@ by c =
     let nested = s.args.nested in
     omega (arith, c.before-2.ensures.0, c.before-3.ensures.0, counted (clear nested.closures) (count_before nested) (before_counts nested s.requires) nested.closures.b4.period)
 
-pub before-requires : goal.before-requires
-before-requires c = (c.requires.ranged, omega (arith, c.requires.sorted.usable.u4.period_small))
-
-pub before-requires-2 : goal.before-requires-2
-before-requires-2 c = let s = c in (s.requires.ranged, omega arith)
-
 pub overflow_sub-result : goal.overflow_sub-result
 overflow_sub-result c = omega (arith, by c)
 

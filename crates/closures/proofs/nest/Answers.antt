@@ -8,7 +8,7 @@ use Rattle.closures.proofs.nest.Goals as goal
 
 -- the nesting does not depend on what is counted of them
 stacked_with : (nested : Nested) (n : ℕ) → WellNested nested
-    → WellNested (record { closures = nested.closures; c1 = nested.c1; c2 = nested.c2; c3 = nested.c3; c4 = nested.c4; clear = n })
+    → WellNested (record { closures = nested.closures; counts = nested.counts; clear = n })
 stacked_with nested n st = record {
   sorted = st.sorted;
   ranged = record { r1 = st.ranged.r1; r2 = st.ranged.r2; r3 = st.ranged.r3; r4 = st.ranged.r4 };
@@ -17,15 +17,6 @@ stacked_with nested n st = record {
   o3 = st.o3;
   o4 = st.o4;
 }
-
-pub ordered-requires : goal.ordered-requires
-ordered-requires c = c.requires
-
-pub with_counts-nested-requires : goal.with_counts-nested-requires
-with_counts-nested-requires c = c.ordered.ensures.0
-
-pub in_longest-clear-requires : goal.in_longest-clear-requires
-in_longest-clear-requires c = c.with_counts-nested.ensures.0
 
 pub returns : goal.returns
 returns c =
