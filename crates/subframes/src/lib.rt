@@ -35,23 +35,19 @@ pub fn messages_in(si: &[u64]) -> Messages
     if si.len() < NUMBERS {
         return messages::none();
     }
-    let s1 = schedule_at(si, 3);
-    let s2 = schedule_at(si, 6);
-    let s3 = schedule_at(si, 9);
-    let s4 = schedule_at(si, 12);
     Messages {
         window: si[0],
         offset: si[1],
         count: si[2],
-        s1,
-        s2,
-        s3,
-        s4,
+        s1: schedule_at(si, 3),
+        s2: schedule_at(si, 6),
+        s3: schedule_at(si, 9),
+        s4: schedule_at(si, 12),
     }
 }
 
 // The numbers of messages, to be lent.
-pub fn numbers(ms: Messages) -> [u64; 15]
+pub fn numbers(ms: Messages) -> [u64; NUMBERS]
     ensures { result ≡ numbers_of ms }
 {
     [
@@ -84,10 +80,7 @@ pub fn are_none(si: &[u64]) -> bool
 pub fn is_silent(si: &[u64]) -> bool
     ensures { result ≡ is_silent (messages_in si.now) }
 {
-    if are_none(si) {
-        return true;
-    }
-    messages::is_silent(messages_in(si))
+    are_none(si) || messages::is_silent(messages_in(si))
 }
 
 // Whether subframe t is left.
@@ -96,9 +89,10 @@ pub fn is_left(p: Pattern, laid: bool, si: &[u64], t: u64) -> bool
     ensures { result ≡ left_in p laid (messages_in si.now) t }
 {
     if laid {
-        return timetable::is_remaining(messages_in(si), p, t);
+        timetable::is_remaining(messages_in(si), p, t)
+    } else {
+        spans::is_allowed(p, t)
     }
-    spans::is_allowed(p, t)
 }
 
 // No subframe is left.
@@ -107,9 +101,10 @@ pub fn is_empty(p: Pattern, laid: bool, si: &[u64]) -> bool
     ensures { result ≡ eqb (rank (left_in p laid (messages_in si.now)) all_periods) 0 }
 {
     if laid {
-        return timetable::is_empty(messages_in(si), p);
+        timetable::is_empty(messages_in(si), p)
+    } else {
+        spans::is_empty(p)
     }
-    spans::is_empty(p)
 }
 
 // The j-th that is left from a given subframe on, counted from 0.
@@ -118,9 +113,10 @@ pub fn nth(p: Pattern, laid: bool, si: &[u64], from: u64, j: u64) -> u64
     ensures { result ≡ select (left_in p laid (messages_in si.now)) all_periods from j }
 {
     if laid {
-        return timetable::nth(messages_in(si), p, from, j);
+        timetable::nth(messages_in(si), p, from, j)
+    } else {
+        spans::nth(p, from, j)
     }
-    spans::nth(p, from, j)
 }
 
 // The j-th from a given one on, and the one that follows it after `more`.
@@ -130,9 +126,10 @@ pub fn first_and_last(p: Pattern, laid: bool, si: &[u64], from: u64, j: u64, mor
         × (result.last ≡ select (left_in p laid (messages_in si.now)) all_periods from (j + more)) }
 {
     if laid {
-        return timetable::first_and_last(messages_in(si), p, from, j, more);
+        timetable::first_and_last(messages_in(si), p, from, j, more)
+    } else {
+        spans::first_and_last(p, from, j, more)
     }
-    spans::first_and_last(p, from, j, more)
 }
 
 // Where subframe t stands to the first `many` left ones that follow the `skip`-th from a given one on.
@@ -143,7 +140,8 @@ pub fn locate(p: Pattern, laid: bool, si: &[u64], from: u64, skip: u64, many: u6
         (select (left_in p laid (messages_in si.now)) all_periods from skip) many t }
 {
     if laid {
-        return timetable::locate(messages_in(si), p, from, skip, many, t);
+        timetable::locate(messages_in(si), p, from, skip, many, t)
+    } else {
+        spans::locate(p, from, skip, many, t)
     }
-    spans::locate(p, from, skip, many, t)
 }

@@ -2,9 +2,6 @@ use mathlib.Core.Path.{◌∙◌}
 use Rattle.subframes.proofs.Left.{left_laid, left_alone, some_laid, some_whole, some_of_pattern, select_alone}
 use Rattle.subframes.proofs.first_and_last.Goals as goal
 
-pub messages_in-requires : goal.messages_in-requires
-messages_in-requires c = tt
-
 pub first_and_last-requires : goal.first_and_last-requires
 first_and_last-requires c = let q = c.requires in let y = c.if-laid.true in
     rw c.messages_in.ensures (q.0.on.listed y, q.0.on.regular, some_laid _ _ _ q.0 y, q.1, q.2)
@@ -12,10 +9,10 @@ first_and_last-requires c = let q = c.requires in let y = c.if-laid.true in
 pub returns-then-laid : goal.returns-then-laid
 returns-then-laid c = let b = c in rw (left_laid _ _ _ b.if-laid.true, ← b.messages_in.ensures) c.first_and_last.ensures
 
-pub first_and_last-requires-2 : goal.first_and_last-requires-2
-first_and_last-requires-2 c = let q = c.requires in (q.0.on.regular, some_of_pattern _ _ _ q.0 c.if-laid.false, q.1, q.2)
+pub first_and_last-requires-else-laid : goal.first_and_last-requires-else-laid
+first_and_last-requires-else-laid c = let q = c.requires in (q.0.on.regular, some_of_pattern _ _ _ q.0 c.if-laid.false, q.1, q.2)
 
-pub returns : goal.returns
-returns c = let q = c.requires.0 in let n = c.if-laid.false in
+pub returns-else-laid : goal.returns-else-laid
+returns-else-laid c = let q = c.requires.0 in let n = c.if-laid.false in
     let same = select_alone _ q.on.regular (some_whole _ _ _ q n) in
-    rw (left_alone _ _ _ n) (c.first_and_last-2.ensures.0 ∙ same _ _, c.first_and_last-2.ensures.1 ∙ same _ _)
+    rw (left_alone _ _ _ n) (c.first_and_last-else-laid.ensures.0 ∙ same _ _, c.first_and_last-else-laid.ensures.1 ∙ same _ _)
