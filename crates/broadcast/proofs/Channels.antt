@@ -3,10 +3,18 @@ use mathlib.Core.Bool.{Bool, true, false, cond}
 use mathlib.Core.List.{List}
 use mathlib.Core.Logic.{⊎_elim}
 use mathlib.Core.Path.{◌≡◌, refl, sym, ap, ◌∙◌, subst}
-use Prim.Native.Nat.{ℕ, zero, suc, ◌+◌, ◌-◌, ◌*◌, ◌/◌, ◌%◌, ◌≤◌, ◌<◌}
-use native.Mathlib.Nat.{mod-one, mul-pos, zero-add}
+use Prim.Native.Nat.{ℕ, zero, suc, ◌+◌, ◌-◌, ◌/◌, ◌%◌, ◌^◌, ◌≤◌, ◌<◌}
+use native.Mathlib.Nat.{mod-lt, mod-one, mul-pos, zero-add}
 use native.Mathlib.Omega.{arith}
-use lib.Dec.{leb, ltb}
+use lib.Dec.{eqb, leb, ltb}
+use Rattle.std.specs.Prelude.{Result, IsErrAnd, Option, None, Some, MatchOption}
+use Rattle.std.proofs.lemmas.Result.{err_from_is_err_and}
+use Rattle.refusals.specs.declared.Refusal.{Refusal}
+use Rattle.refusals.specs.declared.Refusal.TheVariants.{NoSuchPlace}
+use Rattle.refusals.specs.Refusal.{number_of}
+use Rattle.refusals.proofs.Numbers.{never_0}
+use Rattle.broadcast.specs.declared.Position.{Position}
+use Rattle.broadcast.specs.Quick.{width_of, LiesAt, IsIndex, place_refusal}
 use Rattle.counting.specs.Counting.{rank, count, select, among_first}
 use Rattle.counting.proofs.Facts.{order, chained}
 use Rattle.counting.proofs.Range.{and_none}
@@ -21,19 +29,19 @@ use Rattle.cell.specs.declared.Cell.{Cell}
 use Rattle.cell.specs.Judge.{judge_of}
 use Rattle.cell.specs.Quick.{WellFormed}
 use Rattle.cell.proofs.Accepted.{layout_valid}
-use Rattle.elements.specs.Elements.{count_of, element_at}
 use Rattle.elements.proofs.Laws.{whole_part}
 use Rattle.sending.specs.declared.Back.{Back}
 use Rattle.sending.specs.CopyOrder.{carried}
 use Rattle.sending.specs.Sending.{not_ours}
-use Rattle.sending.specs.Answer.{Question, back_of, refused_back, place_at, back_at}
-use Rattle.sending.proofs.Answer.{accepted, refused_as, past_at, outside_at}
+use Rattle.sending.specs.Answer.{Question, answer_of, back_of, refused_back, place_at, back_at}
+use Rattle.sending.proofs.Answer.{accepted, refused_as, past_at}
 use Rattle.downlink.specs.declared.Burst.{Burst}
 use Rattle.downlink.specs.Fits.{Fits}
 use Rattle.downlink.specs.Mapping.{sent_subframes, first_of, is_sent, sending_of, places}
 use Rattle.downlink.specs.Cells.{question_refusal}
 use Rattle.downlink.specs.Answers.{refused_place, place_of, inside_grid}
-use Rattle.downlink.specs.Quick.{content_in}
+use Rattle.downlink.specs.declared.DownlinkPlace.{DownlinkPlace}
+use Rattle.downlink.specs.Quick.{content_in, told}
 use Rattle.downlink.proofs.Judging.{accepted_cell}
 use Rattle.downlink.proofs.Joined.{forward_is, backward_unsent, backward_sent}
 use Rattle.broadcast.specs.Channels.{Channel, npbch_of, sib1_of}
@@ -48,6 +56,22 @@ pub record Sent (c : CellConfig) (channel : Channel) : Type 0 where
 
 -- ---- the answers of a question on it, by what the code has worked out
 
+-- the question's refusal, or 14
+refused_place_by : (z inside : Bool) (n : ℕ) (x : Back) (e : ℕ) → (e ≡ 0 → ⊥) → e ≡ cond z (cond inside 0 14) n
+    → refused_back e ≡ cond z (cond inside x (refused_back 14)) (refused_back n)
+refused_place_by true true n x e h f = absurd (h f)
+refused_place_by true false n x e h f = ap refused_back f
+refused_place_by false inside n x e h f = ap refused_back f
+
+pub place_accepted : (n : ℕ) (inside : Bool) → 0 ≡ place_refusal n inside → (n ≡ 0) × (inside ≡ true)
+unfolding place_refusal
+place_accepted n true e = ((chained n 0 (sym e)).0, refl)
+place_accepted n false e = absurd (omega (arith, (chained n 14 (sym e)).1))
+
+-- an index that was found is small
+pub index_small : (u : ℕ → Bool) (P t : ℕ) (r : Option ℕ) → IsIndex u P t r → (n : ℕ) → r ≡ Some n → n ≤ 2 ^ 20
+index_small u P t r h n e = (rw e at h).2
+
 module _ (c : Cell) (anchor other : List ℕ) (channel : Channel) (sent : Sent c.config channel) where
   abbrev u : ℕ → Bool
   u = channel.is_own
@@ -58,14 +82,20 @@ module _ (c : Cell) (anchor other : List ℕ) (channel : Channel) (sent : Sent c
   abbrev q : Question
   q = question_of c anchor other channel
 
-  module _ (n : ℕ) (e : n ≡ q.no) (h : n ≡ 0 → ⊥) where
-    pub forward_refused : (p : ℕ) → refused_place n ≡ forward_of c anchor other channel p
-    unfolding forward_of
-    forward_refused p = refused_as refused_place (λ S. place_at refused_place place_of S p) q n e h
+  -- at the exit of a `?` on the question
+  pub forward_refused : (e : Refusal) (r : Result DownlinkPlace Refusal) → IsErrAnd r (λ y. y ≡ e) → number_of e ≡ q.no → (p : ℕ)
+      → told refused_place r ≡ forward_of c anchor other channel p
+  unfolding forward_of
+  forward_refused e r h f p =
+      let x = err_from_is_err_and r h in
+      rw (x.1, x.2) (refused_as refused_place (λ S. place_at refused_place place_of S p) q (number_of e) f (never_0 e))
 
-    pub backward_refused : (t slot l k : ℕ) → refused_back n ≡ backward_of c anchor other channel t slot l k
-    unfolding backward_of
-    backward_refused t slot l k = refused_as refused_back (λ S. back_at S (inside_grid slot l k) (t % P) (element_of slot l k)) q n e h
+  -- a question on a place
+  module _ (t slot l k : ℕ) where
+    pub backward_refused : (e : Refusal) → number_of e ≡ place_refusal q.no (inside_grid slot l k)
+        → refused_back (number_of e) ≡ backward_of c anchor other channel t slot l k
+    unfolding backward_of place_refusal back_at answer_of
+    backward_refused e f = refused_place_by (eqb q.no 0) (inside_grid slot l k) q.no _ (number_of e) (never_0 e) f
 
   -- an accepted one, with the burst that the code made
   module _ (zero : q.no ≡ 0) (b : Burst) (own : b ≡ channel.burst) where
@@ -85,6 +115,10 @@ module _ (c : Cell) (anchor other : List ℕ) (channel : Channel) (sent : Sent c
         rw (ap (λ (b : Burst). b.from) own ∙ sent.start.0, ap (λ (b : Burst). b.skip) own ∙ sent.start.1)
         (select_from u P sent.again some 0 0 i ∙ ap (select u P 0) (zero-add i))
 
+    -- the last of its subframes is below the period's number of them
+    pub index_below : (r : Position) (p : ℕ) → LiesAt b p r → r.i < rank u P
+    index_below r p a = omega (arith, a.sent, all)
+
     module _ (p : ℕ) where
       shown : place_at refused_place place_of (sending_of u P b) p ≡ forward_of c anchor other channel p
       unfolding forward_of
@@ -92,28 +126,27 @@ module _ (c : Cell) (anchor other : List ℕ) (channel : Channel) (sent : Sent c
           ap (λ (b : Burst). place_at refused_place place_of (sending_of u P b) p) own
           ∙ sym (accepted refused_place q.no (place_at refused_place place_of q.sending p) zero)
 
-      pub forward_past : places b ≤ p → refused_place 14 ≡ forward_of c anchor other channel p
-      forward_past h = sym (past_at refused_place place_of (sending_of u P b) p h) ∙ shown
+      -- past the last place, at the exit of a `?`
+      pub forward_past : (e : Refusal) (r : Result DownlinkPlace Refusal) → IsErrAnd r (λ y. y ≡ e) → e ≡ NoSuchPlace → places b ≤ p
+          → told refused_place r ≡ forward_of c anchor other channel p
+      forward_past e r i f h =
+          let x = err_from_is_err_and r i in
+          rw (x.1, x.2, f) (sym (past_at refused_place place_of (sending_of u P b) p h) ∙ shown)
 
-      -- transmitted subframe i, and element e of it
-      pub forward_at : (w i e t x unit symbol : ℕ) → p < places b → w ≡ count_of b.layout b.low b.width → i ≡ p / w → e ≡ p % w
-          → t ≡ select u P 0 i → x ≡ element_at b.layout b.low b.width e → unit ≡ carried b.consecutive 1 b.codeword i
-          → symbol ≡ unit * w + e → place_of (record { time = t; element = x; symbol = symbol }) ≡ forward_of c anchor other channel p
-      forward_at w i e t x unit symbol h hw hi he ht hx hu hs =
-          forward_is u P b p w t x unit symbol h hw (ht ∙ ap (select u P 0) hi ∙ sym (time_is (p / w)))
-          (hx ∙ ap (element_at b.layout b.low b.width) he) (hu ∙ ap (carried b.consecutive 1 b.codeword) hi)
-          (hs ∙ ap (λ (y : ℕ). unit * w + y) he)
+      -- by where the position lies
+      pub forward_at : (r : Position) → LiesAt b p r → (t : ℕ) → t ≡ select u P 0 r.i
+          → place_of (record { time = t; element = r.x; symbol = r.symbol }) ≡ forward_of c anchor other channel p
+      forward_at r a t h =
+          forward_is u P b p (width_of b) t r.x (carried b.consecutive 1 b.codeword (p / width_of b)) r.symbol a.held refl
+          (h ∙ ap (select u P 0) a.i ∙ sym (time_is (p / width_of b))) a.x refl a.symbol
           ∙ shown
 
     module _ (t slot l k : ℕ) where
-      told : back_at (sending_of u P b) (inside_grid slot l k) (t % P) (element_of slot l k) ≡ backward_of c anchor other channel t slot l k
+      shown_back : back_at (sending_of u P b) (inside_grid slot l k) (t % P) (element_of slot l k) ≡ backward_of c anchor other channel t slot l k
       unfolding backward_of
-      told =
+      shown_back =
           ap (λ (b : Burst). back_at (sending_of u P b) (inside_grid slot l k) (t % P) (element_of slot l k)) own
           ∙ sym (accepted refused_back q.no (back_at q.sending (inside_grid slot l k) (t % P) (element_of slot l k)) zero)
-
-      pub backward_outside : inside_grid slot l k ≡ false → refused_back 14 ≡ backward_of c anchor other channel t slot l k
-      backward_outside h = sym (outside_at (sending_of u P b) (inside_grid slot l k) (t % P) (element_of slot l k) h) ∙ told
 
       module _ (inside : inside_grid slot l k ≡ true) where
         absent : u (t % P) ≡ false → is_sent u P b (t % P) ≡ false
@@ -121,7 +154,7 @@ module _ (c : Cell) (anchor other : List ℕ) (channel : Channel) (sent : Sent c
         absent h = simp (h, and_none (leb (first_of u P b) (t % P)))
 
         pub backward_not : u (t % P) ≡ false → back_of (not_ours 0) ≡ backward_of c anchor other channel t slot l k
-        backward_not h = backward_unsent u P b (t % P) slot l k inside (absent h) ∙ told
+        backward_not h = backward_unsent u P b (t % P) slot l k inside (absent h) ∙ shown_back
 
         -- all that is the channel's in a period is sent
         module _ (y : u (t % P) ≡ true) (below : t % P < P) where
@@ -143,7 +176,14 @@ module _ (c : Cell) (anchor other : List ℕ) (channel : Channel) (sent : Sent c
           backward_at i e r h =
               h ∙ backward_sent u P b (t % P) slot l k inside i (element_of slot l k)
               (among u (first_of u P b) (sent_subframes b) (t % P) late y (omega (arith, index_is, rank_strict u (t % P) P y below, all)))
-              (index_is ∙ sym e) refl ∙ told
+              (index_is ∙ sym e) refl ∙ shown_back
+
+        -- by which of its subframes t is, if any
+        pub backward_standing : 0 < P → (r : Option ℕ) → IsIndex u P t r → (x : Back)
+            → MatchOption r (x ≡ back_of (not_ours 0)) (λ n. x ≡ back_of (content_in b n (element_of slot l k)))
+            → x ≡ backward_of c anchor other channel t slot l k
+        backward_standing z None h x e = e ∙ backward_not h
+        backward_standing z (Some n) h x e = backward_at h.0 (mod-lt t z) n h.1 x e
 
 -- ---- the two channels
 

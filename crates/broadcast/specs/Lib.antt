@@ -3,3 +3,4 @@
 pub mod Channels
 pub mod Questions
 pub mod Cases
+pub mod Quick

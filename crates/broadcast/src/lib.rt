@@ -1,22 +1,29 @@
 // NPBCH and SIB1, which the anchor broadcasts by itself: forward and backward within a period.
 #![tactic(auto)]
 
-ghost use Rattle.std.specs.Prelude.{◌≡◌, true, cond, ◌*◌, ◌^◌, ◌<◌, ◌≤◌, ltb};
+ghost use Rattle.std.specs.Prelude.{◌≡◌, ℕ, true, Some, MatchOption, MatchResult, cond, ◌*◌, ◌^◌, ◌<◌, ◌≤◌, ltb};
+ghost use Rattle.refusals.specs.declared.Refusal.TheVariants as refusal;
+ghost use Rattle.refusals.specs.Refusal.{refused_by};
 ghost use Rattle.counting.specs.Counting.{rank};
-ghost use Rattle.sync.specs.Sync.{sib1_copies, sib1};
+ghost use Rattle.grid.specs.Grid.{element_of};
+ghost use Rattle.sync.specs.Sync.{npbch, sib1_copies, sib1};
+ghost use Rattle.sending.specs.Sending.{Content};
+ghost use Rattle.sending.specs.Answer.{back_of};
+ghost use Rattle.downlink.specs.Fits.{Fits};
+ghost use Rattle.downlink.specs.Mapping.{places};
 ghost use Rattle.downlink.specs.Cells.{question_refusal};
-ghost use Rattle.downlink.specs.Answers.{inside_grid};
+ghost use Rattle.downlink.specs.Answers.{refused_place, inside_grid};
+ghost use Rattle.downlink.specs.Quick.{content_in, told};
 ghost use Rattle.broadcast.specs.Channels.{eight_on, npbch_of, sib1_of, sib1_frame};
 ghost use Rattle.broadcast.specs.Questions.{carrier_refusal, forward_of, backward_of};
+ghost use Rattle.broadcast.specs.Quick.{LiesAt, IsIndex, place_refusal};
 
 use cell::{Cell, CellConfig};
 use downlink::{Burst, DownlinkPlace};
 use elements::Layout;
 use grid::Grid;
+use refusals::Refusal;
 use sending::Back;
-
-// The refusal of a non-anchor.
-const NO_BROADCAST: u64 = 25;
 
 // The subframes after which each repeats: 64 and 256 frames.
 const NPBCH_PERIOD: u64 = 640;
@@ -110,67 +117,132 @@ fn sib1_index(identity: u64, schedule: u64, t: u64) -> u64
     8 * (x / 16) + x % 16 / 2
 }
 
-// The number of a question: the cell's, then 25 for a non-anchor.
-fn refusal(c: Cell, anchor: &[u8], other: &[u8]) -> u64
-    ensures { result ≡ question_refusal c anchor.now other.now (carrier_refusal c.config) }
+// The refusals of a question: the cell's, then 25 for a non-anchor.
+fn refusal(c: Cell, anchor: &[u8], other: &[u8]) -> Result<(), Refusal>
+    ensures { refused_by result ≡ question_refusal c anchor.now other.now (carrier_refusal c.config) }
 {
-    let no = cell::judge(c, anchor, other);
-    if no != 0 {
-        return no;
-    }
+    cell::judged(c, anchor, other)?;
     if c.config.carrier != 0 {
-        return NO_BROADCAST;
+        return Err(Refusal::NoBroadcast);
     }
-    0
+    Ok(())
 }
 
-fn is_inside(slot: u64, l: u64, k: u64) -> bool
-    ensures { result ≡ inside_grid slot l k }
+// Where a position of a burst lies: the transmitted subframe and the element of it, with the symbol there.
+#[derive(Clone, Copy)]
+struct Position {
+    i: u64,
+    x: u64,
+    symbol: u64,
+}
+
+fn located(b: Burst, p: u64) -> Result<Position, Refusal>
+    requires { Fits b }
+    ensures { MatchResult result (LiesAt b p) (λ e. (e ≡ refusal.NoSuchPlace) × (places b ≤ p)) }
 {
-    (slot < Grid::SLOTS) & ((l < Grid::SYMBOLS) & (k < Grid::SUBCARRIERS))
+    let w = downlink::used_elements(b);
+    let total = downlink::sent_subframes(b) * w;
+    if p >= total {
+        return Err(Refusal::NoSuchPlace);
+    }
+    let i = counting::quotient(p, w);
+    let e = p - i * w;
+    let unit = downlink::carried_by(b, i);
+    Ok(Position {
+        i,
+        x: elements::element_at(b.layout, b.low, b.width, e),
+        symbol: sending::item(unit, w, e),
+    })
+}
+
+fn placed_npbch(c: Cell, anchor: &[u8], other: &[u8], p: u64) -> Result<DownlinkPlace, Refusal>
+    ensures { told refused_place result ≡ forward_of c anchor.now other.now (npbch_of c.config) p }
+{
+    refusal(c, anchor, other)?;
+    let b = npbch_burst(c.config);
+    let at = located(b, p)?;
+    Ok(downlink::place(10 * at.i, at.x, at.symbol))
 }
 
 // The place of position p of NPBCH in its 64 frames, and the symbol there.
 pub fn forward_npbch(c: Cell, anchor: &[u8], other: &[u8], p: u64) -> DownlinkPlace
     ensures { result ≡ forward_of c anchor.now other.now (npbch_of c.config) p }
 {
-    let no = refusal(c, anchor, other);
-    if no != 0 {
-        return downlink::refused_place(no);
-    }
-    let b = npbch_burst(c.config);
-    let w = downlink::used_elements(b);
-    let total = downlink::sent_subframes(b) * w;
-    if p >= total {
-        return downlink::refused_place(sending::NO_SUCH_PLACE);
-    }
-    let i = counting::quotient(p, w);
-    let e = p - i * w;
-    let x = elements::element_at(b.layout, b.low, b.width, e);
-    let unit = downlink::carried_by(b, i);
-    downlink::place(10 * i, x, sending::item(unit, w, e))
+    placed_npbch(c, anchor, other, p).unwrap_or_else(downlink::refused_place)
+}
+
+fn placed_sib1(c: Cell, anchor: &[u8], other: &[u8], p: u64) -> Result<DownlinkPlace, Refusal>
+    ensures { told refused_place result ≡ forward_of c anchor.now other.now (sib1_of c.config) p }
+{
+    refusal(c, anchor, other)?;
+    let b = sib1_burst(c.config);
+    let at = located(b, p)?;
+    let frame = sib1_frame(c.config.identity, c.config.sib1, at.i);
+    Ok(downlink::place(10 * frame + 4, at.x, at.symbol))
 }
 
 // The place of position p of SIB1 in its 256 frames, and the symbol there.
 pub fn forward_sib1(c: Cell, anchor: &[u8], other: &[u8], p: u64) -> DownlinkPlace
     ensures { result ≡ forward_of c anchor.now other.now (sib1_of c.config) p }
 {
-    let no = refusal(c, anchor, other);
-    if no != 0 {
-        return downlink::refused_place(no);
+    placed_sib1(c, anchor, other, p).unwrap_or_else(downlink::refused_place)
+}
+
+// The refusals of a question on a place.
+fn place_refusal(
+    c: Cell,
+    anchor: &[u8],
+    other: &[u8],
+    slot: u64,
+    l: u64,
+    k: u64,
+) -> Result<(), Refusal>
+    ensures { refused_by result
+        ≡ place_refusal (question_refusal c anchor.now other.now (carrier_refusal c.config))
+        (inside_grid slot l k) }
+{
+    refusal(c, anchor, other)?;
+    if !downlink::is_inside(slot, l, k) {
+        return Err(Refusal::NoSuchPlace);
     }
-    let b = sib1_burst(c.config);
-    let w = downlink::used_elements(b);
-    let total = downlink::sent_subframes(b) * w;
-    if p >= total {
-        return downlink::refused_place(sending::NO_SUCH_PLACE);
+    Ok(())
+}
+
+// Which of NPBCH's subframes of a period t is.
+fn npbch_found(t: u64) -> Option<u64>
+    ensures { IsIndex npbch 640 t result }
+{
+    let at = t % NPBCH_PERIOD;
+    if !sync::is_npbch(at) {
+        return None;
     }
-    let i = counting::quotient(p, w);
-    let e = p - i * w;
-    let frame = sib1_frame(c.config.identity, c.config.sib1, i);
-    let x = elements::element_at(b.layout, b.low, b.width, e);
-    let unit = downlink::carried_by(b, i);
-    downlink::place(10 * frame + 4, x, sending::item(unit, w, e))
+    Some(at / 10)
+}
+
+// Which of SIB1's subframes of a period t is.
+fn sib1_found(identity: u64, schedule: u64, t: u64) -> Option<u64>
+    ensures { IsIndex (sib1 identity schedule) 2560 t result }
+{
+    let at = t % SIB1_PERIOD;
+    if !sync::is_sib1(identity, schedule, at) {
+        return None;
+    }
+    Some(sib1_index(identity, schedule, at))
+}
+
+// What stands at an element of the i-th subframe of a burst, or of one that is not the burst's.
+fn standing(b: Burst, i: Option<u64>, slot: u64, l: u64, k: u64) -> Back
+    requires { Fits b × (inside_grid slot l k ≡ true) × ((n : ℕ) → i ≡ Some n → n ≤ 2 ^ 20) }
+    ensures { MatchOption i (result ≡ back_of (Content.not_ours 0))
+        (λ n. result ≡ back_of (content_in b n (element_of slot l k))) }
+{
+    match i {
+        Some(n) => {
+            let x = elements::use_at(b.layout, b.low, b.width, slot, l, k);
+            downlink::in_use(b, n, x)
+        }
+        None => sending::not_ours(0),
+    }
 }
 
 // What NPBCH has at symbol l and subcarrier k of a slot of subframe t.
@@ -186,20 +258,10 @@ pub fn backward_npbch(
     ensures { result
         ≡ backward_of c anchor.now other.now (npbch_of c.config) t slot l k }
 {
-    let no = refusal(c, anchor, other);
-    if no != 0 {
-        return sending::refused(no);
+    match place_refusal(c, anchor, other, slot, l, k) {
+        Ok(()) => standing(npbch_burst(c.config), npbch_found(t), slot, l, k),
+        Err(refusal) => sending::refused(refusal),
     }
-    if !is_inside(slot, l, k) {
-        return sending::refused(sending::NO_SUCH_PLACE);
-    }
-    let at = t % NPBCH_PERIOD;
-    if !sync::is_npbch(at) {
-        return sending::not_ours(0);
-    }
-    let b = npbch_burst(c.config);
-    let x = elements::use_at(b.layout, b.low, b.width, slot, l, k);
-    downlink::in_use(b, at / 10, x)
 }
 
 // What SIB1 has at symbol l and subcarrier k of a slot of subframe t.
@@ -215,19 +277,11 @@ pub fn backward_sib1(
     ensures { result
         ≡ backward_of c anchor.now other.now (sib1_of c.config) t slot l k }
 {
-    let no = refusal(c, anchor, other);
-    if no != 0 {
-        return sending::refused(no);
+    match place_refusal(c, anchor, other, slot, l, k) {
+        Ok(()) => {
+            let i = sib1_found(c.config.identity, c.config.sib1, t);
+            standing(sib1_burst(c.config), i, slot, l, k)
+        }
+        Err(refusal) => sending::refused(refusal),
     }
-    if !is_inside(slot, l, k) {
-        return sending::refused(sending::NO_SUCH_PLACE);
-    }
-    let at = t % SIB1_PERIOD;
-    if !sync::is_sib1(c.config.identity, c.config.sib1, at) {
-        return sending::not_ours(0);
-    }
-    let b = sib1_burst(c.config);
-    let i = sib1_index(c.config.identity, c.config.sib1, at);
-    let x = elements::use_at(b.layout, b.low, b.width, slot, l, k);
-    downlink::in_use(b, i, x)
 }
