@@ -30,7 +30,7 @@ use Rattle.downlink.proofs.Judging.{by_cell, by_grant, fields_passed}
 use Rattle.search_space.specs.declared.SearchSpace.{SearchSpace}
 use Rattle.search_space.specs.declared.Candidate.{Candidate}
 use Rattle.search_space.specs.declared.Cut.{Cut}
-use Rattle.search_space.specs.declared.Blocks.{Blocks}
+use Rattle.spans.specs.declared.Ends.{Ends}
 use Rattle.search_space.specs.Starts.{hyperframe, doubled_period, part_of, start_of}
 use Rattle.search_space.specs.Refusals.{above_largest, early_refusal, space_refusal, refusal_of}
 use Rattle.search_space.specs.Candidates.{labels_of, room, blank, list_of}
@@ -76,7 +76,7 @@ part_below alpha period h l = omega (arith, mul-le-mul_right {m = alpha} {n = 3}
 -- ---- the candidates
 
 module _ (u : ℕ → Bool) (s : SearchSpace) (h : is_repetition s.rmax ≡ true) where
-  pub monitored_is : (start : ℕ) (x : Cut) (b : Blocks) (list : List Candidate) → start ≡ start_of s → x ≡ cut_of s.rmax
+  pub monitored_is : (start : ℕ) (x : Cut) (b : List Ends) (list : List Candidate) → start ≡ start_of s → x ≡ cut_of s.rmax
       → BlocksOf (select u period start) x b → length list ≡ room → ((k : ℕ) → k < room → get_or list k blank ≡ entry_in b x k)
       → record { no = 0; start = start; count = x.count; list = list } ≡ monitored_in u s
   unfolding monitored_in

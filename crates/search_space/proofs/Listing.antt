@@ -11,8 +11,8 @@ use borrow.Author.Count.{below_more}
 use borrow.Author.Tests.{lt-ltb, le-ltb}
 use Rattle.counting.proofs.Facts.{order}
 use Rattle.grid.specs.Tables.{is_repetition}
+use Rattle.spans.specs.declared.Ends.{Ends}
 use Rattle.search_space.specs.declared.Candidate.{Candidate}
-use Rattle.search_space.specs.declared.Blocks.{Blocks}
 use Rattle.search_space.specs.Candidates.{Label, labels_of, candidate_at, room, blank, filled_up, list_of}
 use Rattle.search_space.specs.Quick.{cut_of, BlocksOf, entry_in}
 use Rattle.search_space.proofs.Labels.{label_at, counted, blocked}
@@ -71,7 +71,7 @@ module _ (at : ℕ → ℕ) (rmax : ℕ) (h : is_repetition rmax ≡ true) where
 
   -- ---- by the ends of the blocks
 
-  module _ (b : Blocks) (o : BlocksOf at (cut_of rmax) b) where
+  module _ (b : List Ends) (o : BlocksOf at (cut_of rmax) b) where
     entry_is : (k : ℕ) → entry_in b (cut_of rmax) k ≡ get_or (list_of at rmax) k blank
     unfolding entry_in
     entry_is k = ⊎_elim inside past (order k (cut_of rmax).count)
@@ -79,8 +79,8 @@ module _ (at : ℕ → ℕ) (rmax : ℕ) (h : is_repetition rmax ≡ true) where
         inside : k < (cut_of rmax).count → entry_in b (cut_of rmax) k ≡ get_or (list_of at rmax) k blank
         inside l =
             let y = blocked rmax h k l in
-            let e = o.first _ y.first ∙ ap at (sym y.begins) in
-            let f = o.last _ y.last ∙ ap at (sym y.ends) in
+            let e = ap (λ (x : Ends). x.first) (o.each _ y.first) ∙ ap at (sym y.begins) in
+            let f = ap (λ (x : Ends). x.last) (o.each _ y.last) ∙ ap at (sym y.ends) in
             rw (lt-ltb k (cut_of rmax).count l) (λ i. record { first = e i; r = sym y.copies i; last = f i }) ∙ sym (list_at k l)
 
         past : (cut_of rmax).count ≤ k → entry_in b (cut_of rmax) k ≡ get_or (list_of at rmax) k blank

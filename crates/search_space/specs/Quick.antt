@@ -10,9 +10,9 @@ use Rattle.cell.specs.Bitmap.{own_buffer}
 use Rattle.cell.specs.Quick.{Accepted}
 use Rattle.search_space.specs.declared.SearchSpace.{SearchSpace}
 use Rattle.search_space.specs.Refusals.{space_refusal, refusal_of}
+use Rattle.spans.specs.declared.Ends.{Ends}
 use Rattle.search_space.specs.declared.Candidate.{Candidate}
 use Rattle.search_space.specs.declared.Cut.{Cut}
-use Rattle.search_space.specs.declared.Blocks.{Blocks}
 use Rattle.search_space.specs.Candidates.{blank}
 
 -- y is the first number from x on that is `part` mod `period`
@@ -37,31 +37,35 @@ pub record CutFits (x : Cut) : Type 0 where
 abbrev pub digit_of : ℕ → ℕ → ℕ
 digit_of x k = x / 2 ^ (4 * k) % 16
 
--- of each candidate the first and the last block, digit k for candidate k; a number for Rmax 1, 2, 4 and from 8 up
-abbrev pub first_blocks : List ℕ
-first_blocks = 0 ∷ 0x100 ∷ 0x3221000 ∷ 0x766544432210000 ∷ []
-
-abbrev pub last_blocks : List ℕ
-last_blocks = 0 ∷ 0x110 ∷ 0x3321310 ∷ 0x776575433217310 ∷ []
+-- of each candidate the first and the last block, digit k for candidate k; a row for Rmax 1, 2, 4 and from 8 up
+abbrev pub block_rows : List (ℕ × ℕ)
+block_rows =
+    (0, 0) ∷ (0x100, 0x110) ∷ (0x3221000, 0x3321310) ∷ (0x766544432210000, 0x776575433217310) ∷ []
 
 unfoldable pub first_block : ℕ → ℕ → ℕ
-first_block row k = digit_of (get_or first_blocks row 0) k
+first_block row k = digit_of (get_or block_rows row (0, 0)).0 k
 
 unfoldable pub last_block : ℕ → ℕ → ℕ
-last_block row k = digit_of (get_or last_blocks row 0) k
+last_block row k = digit_of (get_or block_rows row (0, 0)).1 k
 
--- the ends of each block, at j the j-th usable subframe from the start on
-pub record BlocksOf (at : ℕ → ℕ) (x : Cut) (b : Blocks) : Type 0 where
-  pub first : (i : ℕ) → i < x.many → get_or b.first i 0 ≡ at (i * x.size)
-  pub last : (i : ℕ) → i < x.many → get_or b.last i 0 ≡ at (i * x.size + (x.size - 1))
+-- what stands where no block is
+abbrev pub no_block : Ends
+no_block = record { first = 0; last = 0 }
+
+-- block i of a size, at j the j-th usable subframe from the start on
+abbrev pub block_of : (ℕ → ℕ) → ℕ → ℕ → Ends
+block_of at size i = record { first = at (i * size); last = at (i * size + (size - 1)) }
+
+pub record BlocksOf (at : ℕ → ℕ) (x : Cut) (b : List Ends) : Type 0 where
+  pub each : (i : ℕ) → i < x.many → get_or b i no_block ≡ block_of at x.size i
 
 -- candidate k, read off the blocks
-unfoldable pub entry_in : Blocks → Cut → ℕ → Candidate
+unfoldable pub entry_in : List Ends → Cut → ℕ → Candidate
 entry_in b x k =
     cond (ltb k x.count) (record {
-      first = get_or b.first (first_block x.row k) 0;
+      first = (get_or b (first_block x.row k) no_block).first;
       r = (last_block x.row k + 1 - first_block x.row k) * x.size;
-      last = get_or b.last (last_block x.row k) 0;
+      last = (get_or b (last_block x.row k) no_block).last;
     }) blank
 
 -- a search space judged after its cell: the refusal of the first that refuses

@@ -28,10 +28,13 @@ const HYPERFRAME: u64 = 10240;
 const DOUBLED_G: [u8; 8] = [3, 4, 8, 16, 32, 64, 96, 128];
 
 // Of each candidate the first and the last block of the smallest R: candidate k has digit k of sixteen, the lowest is
-// digit 0. A number for Rmax 1, 2, 4 and from 8 up.
-const FIRST_BLOCKS: [u64; 4] = [0, 0x100, 0x322_1000, 0x766_5444_3221_0000];
-
-const LAST_BLOCKS: [u64; 4] = [0, 0x110, 0x332_1310, 0x776_5754_3321_7310];
+// digit 0. A row for Rmax 1, 2, 4 and from 8 up.
+const BLOCK_ROWS: [(u64, u64); 4] = [
+    (0, 0),
+    (0x100, 0x110),
+    (0x322_1000, 0x332_1310),
+    (0x766_5444_3221_0000, 0x776_5754_3321_7310),
+];
 
 // Asked from subframe n on: Rmax, and the fields of G and of the offset.
 #[derive(Clone, Copy)]
@@ -74,12 +77,8 @@ struct Cut {
     row: u64,
 }
 
-// The first and the last subframe of each block.
-#[derive(Clone, Copy)]
-struct Blocks {
-    first: [u64; 8],
-    last: [u64; 8],
-}
+// A block not looked for yet.
+const NO_BLOCK: Ends = Ends { first: 0, last: 0 };
 
 // 2T.
 fn doubled_period(s: SearchSpace) -> u64
@@ -148,28 +147,24 @@ fn block(ms: Messages, p: Pattern, from: u64, j: u64, more: u64) -> Ends
     timetable::first_and_last(ms, p, from, j, more)
 }
 
-// The blocks from the start on, each looked for from the end of the one before it.
-fn blocks_beside(ms: Messages, p: Pattern, start: u64, x: Cut) -> Blocks
+// The blocks from the start on, each looked for from the end of the one before it: so no one function fills these and
+// those of blocks_alone, which are found by rank.
+fn blocks_beside(ms: Messages, p: Pattern, start: u64, x: Cut) -> [Ends; 8]
     requires { (are_listed ms ≡ true) × Regular p × (0 < rank (remaining ms (allows p)) all_periods)
         × (start < 2 ^ 30 + hyperframe) × CutFits x }
     ensures { BlocksOf (select (remaining ms (allows p)) all_periods start) x result }
 {
     let size = x.size;
-    let many = x.many;
-    let mut first = [0u64; 8];
-    let mut last = [0u64; 8];
+    let mut list = [NO_BLOCK; 8];
     let mut from = start;
-    let mut skip: u64 = 0;
-    let mut i: u64 = 0;
-    while i < many {
+    let mut skip = 0;
+    for i in 0..x.many {
         let ends = block(ms, p, from, skip, size - 1);
-        first[i as usize] = ends.first;
-        last[i as usize] = ends.last;
+        list[i as usize] = ends;
         from = ends.last;
         skip = 1;
-        i += 1;
     }
-    Blocks { first, last }
+    list
 }
 
 // The subframe before which k allowed ones lie, and the last of the `more` that follow it; a and b are the ones of the
@@ -188,30 +183,23 @@ fn ends_at(p: Pattern, a: u64, b: u64, k: u64, more: u64) -> Ends
 }
 
 // The same blocks in a pattern on which no message is laid, all by the rank of the start.
-fn blocks_alone(p: Pattern, start: u64, x: Cut) -> Blocks
+fn blocks_alone(p: Pattern, start: u64, x: Cut) -> [Ends; 8]
     requires { Regular p × (0 < rank (allows p) (period_of p)) × (start < 2 ^ 30 + hyperframe) × CutFits x }
     ensures { BlocksOf (select (allows p) (period_of p) start) x result }
 {
     let size = x.size;
-    let many = x.many;
     let a = counting::ones_of(p.sib1);
     let b = counting::ones_of(p.usual);
-    let mut first = [0u64; 8];
-    let mut last = [0u64; 8];
-    let mut k = spans::rank_of(p, a, b, start);
-    let mut i: u64 = 0;
-    while i < many {
-        let ends = ends_at(p, a, b, k, size - 1);
-        first[i as usize] = ends.first;
-        last[i as usize] = ends.last;
-        k += size;
-        i += 1;
+    let first = spans::rank_of(p, a, b, start);
+    let mut list = [NO_BLOCK; 8];
+    for i in 0..x.many {
+        list[i as usize] = ends_at(p, a, b, first + i * size, size - 1);
     }
-    Blocks { first, last }
+    list
 }
 
 // The blocks from the start on, with and without messages.
-fn all_blocks(p: Pattern, laid: bool, ms: Messages, start: u64, x: Cut) -> Blocks
+fn all_blocks(p: Pattern, laid: bool, ms: Messages, start: u64, x: Cut) -> [Ends; 8]
     requires { Searchable p laid ms × (start < 2 ^ 30 + hyperframe) × CutFits x }
     ensures { BlocksOf (select (left_in p laid ms) all_periods start) x result }
 {
@@ -230,26 +218,21 @@ fn digit(x: u64, k: u64) -> u64
 }
 
 // All of them, in order; zeros past the count.
-fn listed(b: Blocks, x: Cut) -> [Candidate; 15]
+fn listed(b: [Ends; 8], x: Cut) -> [Candidate; 15]
     requires { CutFits x }
     ensures { (length result ≡ 15) × ((k : ℕ) → k < 15 → get_or result k blank ≡ entry_in b x k) }
 {
-    let row = x.row as usize;
-    let firsts = FIRST_BLOCKS[row];
-    let lasts = LAST_BLOCKS[row];
+    let (firsts, lasts) = BLOCK_ROWS[x.row as usize];
     let size = x.size;
-    let count = x.count;
     let mut list = [BLANK; 15];
-    let mut k: u64 = 0;
-    while k < count {
+    for k in 0..x.count {
         let i = digit(firsts, k);
         let j = digit(lasts, k);
         list[k as usize] = Candidate {
-            first: b.first[i as usize],
+            first: b[i as usize].first,
             r: (j + 1 - i) * size,
-            last: b.last[j as usize],
+            last: b[j as usize].last,
         };
-        k += 1;
     }
     list
 }

@@ -1,3 +1,4 @@
+use Prim.Native.Nat.{◌+◌, ◌-◌, ◌*◌}
 use mathlib.Core.Path.{◌∙◌}
 use Rattle.subframes.proofs.Left.{left_laid, left_alone, some_laid, some_whole, some_of_pattern, select_alone}
 use Rattle.search_space.proofs.all_blocks.Goals as goal
@@ -8,7 +9,8 @@ returns c =
     let n = c.if-laid.false in
     let b = c.blocks_alone.ensures in
     let one = select_alone _ q.on.regular (some_whole _ _ _ q n) _ in
-    rw (left_alone _ _ _ n) (record { first = λ i h. b.first i h ∙ one _; last = λ i h. b.last i h ∙ one _ })
+    let size = c.args.x.size in
+    rw (left_alone _ _ _ n) (record { each = λ i h. b.each i h ∙ (λ j. record { first = one (i * size) j; last = one (i * size + (size - 1)) j }) })
 
 pub blocks_beside-requires : goal.blocks_beside-requires
 blocks_beside-requires c =

@@ -10,6 +10,7 @@ use Rattle.spans.specs.Pattern.{allows}
 use Rattle.messages.specs.Messages.{all_periods, remaining}
 use Rattle.messages.proofs.Repeating.{remaining_again}
 use Rattle.subframes.proofs.Left.{allows_again}
+use Rattle.search_space.specs.Quick.{no_block}
 use Rattle.search_space.proofs.Listing.{set_more}
 use Rattle.search_space.proofs.blocks_beside.Goals.{After-block-ends, Start}
 use Rattle.search_space.proofs.blocks_beside.Invariants.{Stands}
@@ -38,10 +39,10 @@ module _ (c : After-block-ends) where
   first_is : c.block-ends.result.first ≡ at (i * size)
   first_is =
       let l = c.loop-i in
-      c.block-ends.ensures.0 ∙ ap (select u all_periods l.from) (sym (add-zero l.skip)) ∙ l.invariant.6 0 ∙ ap at (add-zero (i * size))
+      c.block-ends.ensures.0 ∙ ap (select u all_periods l.from) (sym (add-zero l.skip)) ∙ l.invariant.3 0 ∙ ap at (add-zero (i * size))
 
   last_is : c.block-ends.result.last ≡ at (i * size + (size - 1))
-  last_is = c.block-ends.ensures.1 ∙ c.loop-i.invariant.6 (size - 1)
+  last_is = c.block-ends.ensures.1 ∙ c.loop-i.invariant.3 (size - 1)
 
   last_small : c.block-ends.result.last < 2 ^ 31
   last_small =
@@ -64,22 +65,16 @@ module _ (c : After-block-ends) where
 pub loop-i-preserved : goal.loop-i-preserved
 loop-i-preserved c =
     let l = c.loop-i in
-    let within : l.i < 8 = omega (arith, c.loop-i-test.true, (start c).requires.4.many) in (
-      omega (arith, c.loop-i-test.true),
-      length-set l.first l.i c.block-ends.result.first ∙ l.invariant.1,
-      length-set l.last l.i c.block-ends.result.last ∙ l.invariant.2,
-      set_more 0 _ l.first l.i _ (omega (arith, l.invariant.1)) l.invariant.3 (first_is c),
-      set_more 0 _ l.last l.i _ (omega (arith, l.invariant.2)) l.invariant.4 (last_is c),
+    let within : l.i < 8 = omega (arith, c.loop-i-test.true, c.requires.4.many) in (
+      length-set l.list l.i c.block-ends.result ∙ l.invariant.0,
+      set_more no_block _ l.list l.i _ (omega (arith, l.invariant.0)) l.invariant.1 (λ j. record { first = first_is c j; last = last_is c j }),
       (last_small c, omega arith),
       stands c,
     )
 
 pub loop-i-init : goal.loop-i-init
 loop-i-init c = (
-  omega arith,
   refl,
-  refl,
-  λ k h. absurd (omega arith),
   λ k h. absurd (omega arith),
   (omega (arith, c.requires.3), omega arith),
   λ k.
@@ -94,21 +89,10 @@ pub block-ends-requires : goal.block-ends-requires
 block-ends-requires c =
     let s = c in
     let l = c.loop-i in
-    (s.requires.0, s.requires.1, s.requires.2, l.invariant.5.0, omega (arith, l.invariant.5.1, s.requires.4.size.1))
+    (s.requires.0, s.requires.1, s.requires.2, l.invariant.2.0, omega (arith, l.invariant.2.1, s.requires.4.size.1))
 
-pub bounds-first-i : goal.bounds-first-i
-bounds-first-i c = omega (arith, c.loop-i-test.true, (start c).requires.4.many)
-
-pub bounds-last-i : goal.bounds-last-i
-bounds-last-i c = omega (arith, c.loop-i-test.true, (start c).requires.4.many)
-
-pub overflow_add-i : goal.overflow_add-i
-overflow_add-i c = omega (arith, c.loop-i-test.true, (start c).requires.4.many)
-
-pub loop-i-smaller : goal.loop-i-smaller
-loop-i-smaller c = omega (arith, c.loop-i-test.true)
+pub bounds-list-i : goal.bounds-list-i
+bounds-list-i c = omega (arith, c.loop-i-test.true, c.requires.4.many)
 
 pub returns : goal.returns
-returns c =
-    let l = c.loop-i in
-    record { first = λ k h. l.invariant.3 k (omega (arith, c.loop-i-test.false)); last = λ k h. l.invariant.4 k (omega (arith, c.loop-i-test.false)) }
+returns c = record { each = λ k h. c.loop-i.invariant.1 k (omega (arith, c.loop-i-test.false)) }
