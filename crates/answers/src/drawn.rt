@@ -1,8 +1,8 @@
 // The words over and under what is drawn: a transmitted subframe or slot, and a grant's frames.
-ghost use Rattle.std.specs.Prelude.{◌+◌, ◌≤◌};
+ghost use Rattle.std.specs.Prelude.{◌≡◌, [], ◌∷◌, ◌++◌, OnOk, codes, decimal, string_bytes};
+ghost use Rattle.answers.specs.Line.{values_then, place_text};
 
-use crate::put_value;
-use text::{Page, put};
+use std::alloc::AllocError;
 
 const FRAMES: u64 = 1024;
 
@@ -17,90 +17,73 @@ pub struct Shown {
     pub codeword: u64,
 }
 
-// A subframe's frame, and its number in the frame.
-fn put_frame(t: u64, out: &mut Page, at: usize) -> usize
-    requires { at + 64 ≤ 65536 }
-    ensures { result ≤ at + 64 }
+// The frame of the subframe, its number in it, and which of those sent it is.
+#[tactic(auto, unfolding(crate::specs::Line::place_text))]
+fn put_place(x: Shown, out: &mut String) -> Result<(), AllocError>
+    ensures { OnOk result (string_bytes out.new ≡ string_bytes out.old ++ place_text x) }
 {
-    let a = put_value(out, at, b"frame ", t / 10 % FRAMES);
-    let b = put_value(out, a, b", subframe ", t % 10);
-    put(out, b, b" of it")
-}
-
-// Which of those sent it is.
-fn put_number(i: u64, sent: u64, out: &mut Page, at: usize) -> usize
-    requires { at + 64 ≤ 65536 }
-    ensures { result ≤ at + 64 }
-{
-    let a = put_value(out, at, b", i=", i);
-    let b = put_value(out, a, b" of ", sent);
-    put(out, b, b" transmitted")
+    let frame = x.subframe / 10 % FRAMES;
+    let within = x.subframe % 10;
+    write!(
+        out,
+        "frame {frame}, subframe {within} of it, i={} of {} transmitted, codeword ",
+        x.i, x.sent
+    )
 }
 
 // The title of a subframe, the legend and the columns.
-pub fn put_subframe(x: Shown, out: &mut Page, at: usize) -> usize
-    requires { at + 384 ≤ 65536 }
-    ensures { result ≤ at + 384 }
+pub fn put_subframe(x: Shown, out: &mut String) -> Result<(), AllocError>
+    ensures { OnOk result (string_bytes out.new ≡ string_bytes out.old ++ values_then ((codes "subframe ", x.unit) ∷ []) (codes ": " ++ (place_text x ++ values_then ((codes "subframe ", x.codeword) ∷ []) (codes "\no ours, N narrowband reference, C cell reference, # control region, . anything else\n     slot 0  slot 1\n   l 0123456 0123456\n")))) }
 {
-    let a = put_value(out, at, b"subframe ", x.unit);
-    let b = put(out, a, b": ");
-    let c = put_frame(x.subframe, out, b);
-    let d = put_number(x.i, x.sent, out, c);
-    let e = put_value(out, d, b", codeword subframe ", x.codeword);
-    let f = put(
+    write!(out, "subframe {}: ", x.unit)?;
+    put_place(x, out)?;
+    write!(
         out,
-        e,
-        b"\no ours, N narrowband reference, C cell reference, # control region, . anything else\n",
-    );
-    put(out, f, b"     slot 0  slot 1\n   l 0123456 0123456\n")
+        "subframe {}
+o ours, N narrowband reference, C cell reference, # control region, . anything else
+     slot 0  slot 1
+   l 0123456 0123456
+",
+        x.codeword
+    )
 }
 
 // The title of a slot, up to its codeword slot.
-pub fn put_slot(x: Shown, out: &mut Page, at: usize) -> usize
-    requires { at + 256 ≤ 65536 }
-    ensures { result ≤ at + 256 }
+pub fn put_slot(x: Shown, out: &mut String) -> Result<(), AllocError>
+    ensures { OnOk result (string_bytes out.new ≡ string_bytes out.old ++ values_then ((codes "slot ", x.unit) ∷ (codes ": from subframe ", x.subframe) ∷ []) (codes ", " ++ (place_text x ++ (codes "slot " ++ decimal x.codeword)))) }
 {
-    let a = put_value(out, at, b"slot ", x.unit);
-    let b = put_value(out, a, b": from subframe ", x.subframe);
-    let c = put(out, b, b", ");
-    let d = put_frame(x.subframe, out, c);
-    let e = put_number(x.i, x.sent, out, d);
-    put_value(out, e, b", codeword slot ", x.codeword)
+    write!(out, "slot {}: from subframe {}, ", x.unit, x.subframe)?;
+    put_place(x, out)?;
+    write!(out, "slot {}", x.codeword)
 }
 
 // The resource unit of a slot's title.
-pub fn put_unit(unit: u64, out: &mut Page, at: usize) -> usize
-    requires { at + 64 ≤ 65536 }
-    ensures { result ≤ at + 64 }
+pub fn put_unit(unit: u64, out: &mut String) -> Result<(), AllocError>
+    ensures { OnOk result (string_bytes out.new ≡ string_bytes out.old ++ values_then ((codes ", resource unit ", unit) ∷ []) []) }
 {
-    put_value(out, at, b", resource unit ", unit)
+    write!(out, ", resource unit {unit}")
 }
 
 // The granted tones, the last words of a slot's title.
-pub fn put_tones(first: u64, last: u64, out: &mut Page, at: usize) -> usize
-    requires { at + 64 ≤ 65536 }
-    ensures { result ≤ at + 64 }
+pub fn put_tones(first: u64, last: u64, out: &mut String) -> Result<(), AllocError>
+    ensures { OnOk result (string_bytes out.new ≡ string_bytes out.old ++ values_then ((codes ", tones ", first) ∷ (codes " to ", last) ∷ []) (codes "\n")) }
 {
-    let a = put_value(out, at, b", tones ", first);
-    let b = put_value(out, a, b" to ", last);
-    put(out, b, b"\n")
+    writeln!(out, ", tones {first} to {last}")
 }
 
 // The legend of a slot, and its columns.
-pub fn put_slot_columns(slot: u64, out: &mut Page, at: usize) -> usize
-    requires { at + 128 ≤ 65536 }
-    ensures { result ≤ at + 128 }
+pub fn put_slot_columns(slot: u64, out: &mut String) -> Result<(), AllocError>
+    ensures { OnOk result (string_bytes out.new ≡ string_bytes out.old ++ values_then ((codes "o data, R reference, . tone not granted\n     slot ", slot) ∷ []) (codes "\n   l 0123456\n")) }
 {
-    let a = put(out, at, b"o data, R reference, . tone not granted\n");
-    let b = put_value(out, a, b"     slot ", slot);
-    put(out, b, b"\n   l 0123456\n")
+    write!(
+        out,
+        "o data, R reference, . tone not granted\n     slot {slot}\n   l 0123456\n"
+    )
 }
 
 // How many frames are past the last row.
-pub fn put_more(frames: u64, out: &mut Page, at: usize) -> usize
-    requires { at + 64 ≤ 65536 }
-    ensures { result ≤ at + 64 }
+pub fn put_more(frames: u64, out: &mut String) -> Result<(), AllocError>
+    ensures { OnOk result (string_bytes out.new ≡ string_bytes out.old ++ values_then ((codes "more frames: ", frames) ∷ []) (codes "\n")) }
 {
-    let a = put_value(out, at, b"more frames: ", frames);
-    put(out, a, b"\n")
+    writeln!(out, "more frames: {frames}")
 }

@@ -1,11 +1,12 @@
 // What is told in words: help, and the meanings of the refusal numbers.
-ghost use Rattle.std.specs.Prelude.{◌+◌, ◌≤◌, length};
+ghost use Rattle.std.specs.Prelude.{◌≡◌, [], ◌∷◌, ◌++◌, List, ℕ, OnOk, codes, string_bytes};
+ghost use Rattle.answers.specs.Line.{values_then};
 
-use text::{Number, Page, find, put};
+use std::alloc::AllocError;
 
 // The text of docs/help.txt.
-const HELP: [u8; 6317] =
-    *b"A line is a question, for some a kind, then name=value words, with one space between words. A value stays until it is given anew.
+const HELP: &str =
+    "A line is a question, for some a kind, then name=value words, with one space between words. A value stays until it is given anew.
 Ask help WORD for one word, meaning no=7 for the words of refusal 7. An answer begins with no=, the refusal number, or 0.
 Questions:
 set        keeps values and asks nothing; no answer
@@ -90,7 +91,7 @@ no         refusal number, of meaning; starts at 0
 ";
 
 // The text of docs/refusals.txt: a number, a space and its words on each line.
-const REFUSALS: [u8; 1418] = *b"0 accepted
+const REFUSALS: &str = "0 accepted
 1 mode above 3 or carrier above 1
 2 identity above 503
 3 narrowband ports not 1 or 2
@@ -119,100 +120,39 @@ const REFUSALS: [u8; 1418] = *b"0 accepted
 255 a buffer too short, in C alone
 ";
 
-// A line, where it begins with a word and a space.
-fn put_line_of(line: &[u8], word: &[u8], out: &mut Page, at: usize) -> usize
-    requires { at + length line.now ≤ 65536 }
-    ensures { result ≤ at + length line.now }
-{
-    if text::begins(line, word) {
-        return put(out, at, line);
-    }
-    at
-}
-
-// The lines of a text that begin with a word and a space.
-fn put_lines_of(text: &[u8], word: &[u8], out: &mut Page, at: usize) -> usize
-    requires { at + length text.now ≤ 65536 }
-    ensures { result ≤ at + length text.now }
-{
-    let mut to = at;
-    let mut start = 0;
-    while start < text.len() {
-        let end = text::line_end(text, start);
-        to = put_line_of(&text[start..end], word, out, to);
-        start = end;
-    }
-    to
-}
-
-// Help on a word, on all where it is empty.
-pub fn put_help(word: &[u8], out: &mut Page, at: usize) -> usize
-    requires { at + 16384 ≤ 65536 }
-    ensures { result ≤ at + 16384 }
-{
-    let mid = put(out, at, b"no=0\n");
-    if word.len() == 0 {
-        return put(out, mid, &HELP);
-    }
-    put_lines_of(&HELP, word, out, mid)
-}
-
-// A text is a number in decimal.
-fn is_number(s: &[u8], no: u64) -> bool {
-    match text::decimal(s) {
-        Number::Value(x) => x == no,
-        Number::Bad => false,
-    }
-}
-
-// The start of a line's words, where it begins with a number; else 0.
-fn words_at(line: &[u8], no: u64) -> usize
-    ensures { result ≤ length line.now }
-{
-    let space = find(line, 0, line.len(), b' ');
-    if space == line.len() {
-        return 0;
-    }
-    if is_number(&line[0..space], no) {
-        return space + 1;
-    }
-    0
-}
-
-// The start of the words of the line that begins with a number; the text's end where none does.
-fn words_of(text: &[u8], no: u64) -> usize
-    ensures { result ≤ length text.now }
-{
-    let mut start = 0;
-    while start < text.len() {
-        let end = text::line_end(text, start);
-        let found = words_at(&text[start..end], no);
-        if found > 0 {
-            return start + found;
+// The lines of help that begin with a word and a space.
+fn put_lines_of(word: &[u8], out: &mut String) -> Result<(), AllocError> {
+    for line in HELP.lines() {
+        if let Some((first, _)) = line.split_once(' ') {
+            if first.as_bytes() == word {
+                writeln!(out, "{line}")?;
+            }
         }
-        start = end;
     }
-    start
+    Ok(())
 }
 
-// The words that start at a place of a text, with their line's end.
-fn put_words(text: &[u8], start: usize, out: &mut Page, at: usize) -> usize
-    requires { at + (length text.now + 5) ≤ 65536 }
-    ensures { result ≤ at + (length text.now + 5) }
-{
-    if start >= text.len() {
-        return put(out, at, b"none\n");
+// Help on a word, on all without one.
+pub fn put_help(word: Option<&[u8]>, out: &mut String) -> Result<(), AllocError> {
+    writeln!(out, "no=0")?;
+    match word {
+        Some(word) => put_lines_of(word, out),
+        None => write!(out, "{HELP}"),
     }
-    put(out, at, &text[start..text::line_end(text, start)])
 }
 
 // The words of a refusal number.
-pub fn put_meaning(no: u64, out: &mut Page, at: usize) -> usize
-    requires { at + 16384 ≤ 65536 }
-    ensures { result ≤ at + 16384 }
+fn words_of(no: u64) -> &'static str {
+    REFUSALS
+        .lines()
+        .filter_map(|line| line.split_once(' '))
+        .find(|(number, _)| number.parse::<u64>() == Ok(no))
+        .map_or("none", |(_, words)| words)
+}
+
+// The words of a refusal number.
+pub fn put_meaning(no: u64, out: &mut String) -> Result<(), AllocError>
+    ensures { OnOk result ((words : List ℕ) × (string_bytes out.new ≡ string_bytes out.old ++ values_then ((codes "no=", no) ∷ []) (codes " meaning=" ++ (words ++ codes "\n")))) }
 {
-    let a = put(out, at, b"no=");
-    let b = text::put_decimal(out, a, no);
-    let c = put(out, b, b" meaning=");
-    put_words(&REFUSALS, words_of(&REFUSALS, no), out, c)
+    writeln!(out, "no={no} meaning={}", words_of(no))
 }
