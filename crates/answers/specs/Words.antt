@@ -2,8 +2,8 @@
 use Rattle.std.specs.Prelude.{ℕ, List, codes}
 use Rattle.cell.specs.declared.Cause.{Cause}
 use Rattle.cell.specs.declared.Cause.TheVariants.{None, Npbch, Npss, Nsss, Sib1, Message, Bitmap}
-use Rattle.questions.specs.declared.reading.Fault.{Fault}
-use Rattle.questions.specs.declared.reading.Fault.TheVariants.{Long, Question, Kind, Value, Name, Number, Hex, Size}
+use Rattle.questions.specs.declared.question.Fault.{Fault}
+use Rattle.questions.specs.declared.question.Fault.TheVariants.{Long, Question, Kind, Value, Name, Number, Hex, Size}
 
 abbrev pub cause_word : Cause → List ℕ
 cause_word None = codes "none"

@@ -19,6 +19,8 @@ use uplink::{UplinkPlace, UplinkPlan};
 use walk::WalkPlace;
 
 mod drawn;
+#[cfg(test)]
+mod tests;
 mod told;
 
 pub use drawn::{Shown, put_more, put_slot, put_slot_columns, put_subframe, put_tones, put_unit};

@@ -1,194 +1,126 @@
-// The questions, asked of the values, and their answers put into the output.
-ghost use Rattle.std.specs.Prelude.{◌+◌, ◌≤◌, length};
+// The questions, asked of the values, and their answers written.
+use crate::asked::{Asked, Place};
+use crate::{picture, timeline};
+use questions::{Kind, Question, Values};
+use std::alloc::{AllocError, Global};
 
-use crate::{either, engines, picture, timeline};
-use questions::{ANCHOR, DATA, I, K, Kind, L, NO, OTHER, P, Question, ROOM, SLOT, T, Values};
-use text::Page;
-
-fn bitmap<'a>(v: &Values, anchor: &'a [u8], other: &'a [u8], out: &mut Page, at: usize) -> usize
-    requires { at + 320 ≤ 65536 }
-    ensures { result ≤ at + 320 }
-{
-    let c = questions::cell_of(v);
-    let no = nbiot::judge(c, anchor, other);
-    answers::put_bitmap(no, nbiot::bitmap(c, anchor, other), out, at)
+fn bitmap(v: &Values, out: &mut String) -> Result<(), AllocError> {
+    let c = v.cell();
+    let no = nbiot::judge(c, &v.anchor, &v.other);
+    answers::put_bitmap(no, nbiot::bitmap(c, &v.anchor, &v.other), out)
 }
 
-fn cause(v: &Values, anchor: &[u8], other: &[u8], out: &mut Page, at: usize) -> usize
-    requires { at + 320 ≤ 65536 }
-    ensures { result ≤ at + 320 }
-{
-    answers::put_cause(
-        nbiot::cause(questions::cell_of(v), anchor, other, v[T]),
-        out,
-        at,
-    )
+fn search(v: &Values, out: &mut String) -> Result<(), AllocError> {
+    let x = nbiot::search(v.cell(), &v.anchor, &v.other, v.search_space());
+    answers::put_search(x, out)
 }
 
-fn count(v: &Values, anchor: &[u8], other: &[u8], out: &mut Page, at: usize) -> usize
-    requires { at + 320 ≤ 65536 }
-    ensures { result ≤ at + 320 }
-{
-    answers::put_count(nbiot::count(questions::cell_of(v), anchor, other), out, at)
-}
-
-fn search(v: &Values, anchor: &[u8], other: &[u8], out: &mut Page, at: usize) -> usize
-    requires { at + 2048 ≤ 65536 }
-    ensures { result ≤ at + 2048 }
-{
-    let c = questions::cell_of(v);
-    answers::put_search(
-        nbiot::search(c, anchor, other, questions::search_space_of(v)),
-        out,
-        at,
-    )
-}
-
-fn plan(k: Kind, v: &Values, anchor: &[u8], other: &[u8], out: &mut Page, at: usize) -> usize
-    requires { at + 320 ≤ 65536 }
-    ensures { result ≤ at + 320 }
-{
-    if either::is_uplink(k) {
-        return answers::put_uplink_plan(either::plan_slots(k, v), out, at);
-    }
-    answers::put_downlink_plan(either::plan(k, v, anchor, other), out, at)
-}
-
-fn forward(k: Kind, v: &Values, anchor: &[u8], other: &[u8], out: &mut Page, at: usize) -> usize
-    requires { at + 320 ≤ 65536 }
-    ensures { result ≤ at + 320 }
-{
-    let p = v[P];
-    match k {
-        Kind::Up => answers::put_uplink_place(engines::forward_up(v, p), out, at),
-        Kind::Ack => answers::put_uplink_place(engines::forward_ack(v, p), out, at),
-        _ => answers::put_downlink_place(engines::forward(k, v, anchor, other, p), out, at),
+fn plan(asked: Asked, out: &mut String) -> Result<(), AllocError> {
+    if asked.kind.is_uplink() {
+        answers::put_uplink_plan(asked.plan_slots(), out)
+    } else {
+        answers::put_downlink_plan(asked.plan(), out)
     }
 }
 
-fn backward(k: Kind, v: &Values, anchor: &[u8], other: &[u8], out: &mut Page, at: usize) -> usize
-    requires { at + 320 ≤ 65536 }
-    ensures { result ≤ at + 320 }
-{
-    let slot = v[SLOT];
-    let l = v[L];
-    let s = v[K];
-    if either::is_uplink(k) {
-        let x = either::standing(k, v, anchor, other, slot, 0, l, s);
-        return answers::put_back(x, out, at);
+fn forward(asked: Asked, out: &mut String) -> Result<(), AllocError> {
+    let p = asked.values.p;
+    let engine = asked.values.engine();
+    if asked.kind.is_uplink() {
+        answers::put_uplink_place(asked.forward_slots(engine, p), out)
+    } else {
+        answers::put_downlink_place(asked.forward(engine, p), out)
     }
-    if picture::is_broadcast(k) {
-        let x = either::standing(k, v, anchor, other, v[T], slot, l, s);
-        return answers::put_back(x, out, at);
+}
+
+fn backward(asked: Asked, out: &mut String) -> Result<(), AllocError> {
+    let v = asked.values;
+    let (slot, l, k) = (v.slot, v.l, v.k);
+    match asked.kind {
+        Kind::Up | Kind::Ack => {
+            let x = Place {
+                t: slot,
+                slot: 0,
+                l,
+                k,
+            };
+            answers::put_back(asked.standing(x), out)
+        }
+        Kind::Npbch | Kind::Sib1 => {
+            let x = Place { t: v.t, slot, l, k };
+            answers::put_back(asked.standing(x), out)
+        }
+        Kind::Down | Kind::Control => {
+            let x = Place { t: v.t, slot, l, k };
+            answers::put_downlink_back(asked.backward(x), out)
+        }
     }
-    let x = either::backward(k, v, anchor, other, v[T], slot, l, s);
-    answers::put_downlink_back(x, out, at)
 }
 
 // The position after the step is kept.
-fn step(k: Kind, v: &mut Values, anchor: &[u8], other: &[u8], out: &mut Page, at: usize) -> usize
-    requires { at + 320 ≤ 65536 }
-    ensures { result ≤ at + 320 }
-{
-    let s = nbiot::step_value(
-        questions::walk_of(k, v),
-        anchor,
-        other,
-        questions::engine_of(v),
+fn step(kind: Kind, v: &mut Values, out: &mut String) -> Result<(), AllocError> {
+    let s = nbiot::step_value(v.walk(kind), &v.anchor, &v.other, v.engine());
+    v.p = s.walk.p;
+    if kind.is_uplink() {
+        answers::put_uplink_step(s.answer, v.p, out)
+    } else {
+        answers::put_downlink_step(s.answer, v.p, out)
+    }
+}
+
+// A fill of the room lent, whose numbers are all 42 before, shown as it stands afterwards.
+fn fill(alloc: Global, v: &Values, out: &mut String) -> Result<(), AllocError> {
+    let mut room = vec![in alloc; 42.0f32; v.room as usize]?;
+    let c = v.cell();
+    let g = v.npdsch_grant();
+    let no = nbiot::fill(
+        c,
+        &v.anchor,
+        &v.other,
+        g,
+        v.i,
+        &v.data,
+        v.level(),
+        &mut room,
     );
-    let answer = s.answer;
-    let p = s.walk.p;
-    v[P] = p;
-    match k {
-        Kind::Up => answers::put_uplink_step(answer, p, out, at),
-        Kind::Ack => answers::put_uplink_step(answer, p, out, at),
-        _ => answers::put_downlink_step(answer, p, out, at),
-    }
+    answers::put_fill(no, &room, out)
 }
 
-// How many numbers of output are lent.
-fn room_of(v: &Values) -> usize
-    ensures { result ≤ 1024 }
-{
-    let n = v[ROOM];
-    if n > 1024 {
-        return 1024;
-    }
-    n as usize
+fn element(v: &Values, out: &mut String) -> Result<(), AllocError> {
+    let c = v.cell();
+    let g = v.npdsch_grant();
+    let level = v.level();
+    let e = nbiot::element(
+        c, &v.anchor, &v.other, g, v.i, v.slot, v.l, v.k, &v.data, level,
+    );
+    answers::put_element(symbol::numbers(e), out)
 }
 
-// A fill of the room lent, shown as it stands afterwards.
-fn fill_room(
-    v: &Values,
-    anchor: &[u8],
-    other: &[u8],
-    data: &[u8],
-    room: &mut [f32],
-    out: &mut Page,
-    at: usize,
-) -> usize
-    requires { (length room.old ≤ 1024) × (at + 16384 ≤ 65536) }
-    ensures { result ≤ at + 16384 }
-{
-    let c = questions::cell_of(v);
-    let g = questions::npdsch_grant(v);
-    let level = questions::level_of(v);
-    let no = nbiot::fill(c, anchor, other, g, v[I], data, level, room);
-    answers::put_fill(no, room, out, at)
-}
-
-// All numbers of the room are 42 before the fill.
-fn fill(v: &Values, anchor: &[u8], other: &[u8], data: &[u8], out: &mut Page, at: usize) -> usize
-    requires { at + 16384 ≤ 65536 }
-    ensures { result ≤ at + 16384 }
-{
-    let mut room = [42.0f32; 1024];
-    let n = room_of(v);
-    fill_room(v, anchor, other, data, &mut room[0..n], out, at)
-}
-
-fn element(v: &Values, anchor: &[u8], other: &[u8], data: &[u8], out: &mut Page, at: usize) -> usize
-    requires { at + 320 ≤ 65536 }
-    ensures { result ≤ at + 320 }
-{
-    let c = questions::cell_of(v);
-    let g = questions::npdsch_grant(v);
-    let level = questions::level_of(v);
-    let e = nbiot::element(c, anchor, other, g, v[I], v[SLOT], v[L], v[K], data, level);
-    answers::put_element(symbol::numbers(e), out, at)
-}
-
-// Asks a question of the values and puts its answer.
-pub fn ask<'a>(
-    q: Question,
-    v: &mut Values,
-    anchor: &'a [u8],
-    other: &'a [u8],
-    data: &[u8],
-    out: &mut Page,
-    at: usize,
-) -> usize
-    requires { at + 16384 ≤ 65536 }
-    ensures { result ≤ at + 16384 }
-{
-    let a = questions::front(anchor, v[ANCHOR]);
-    let b = questions::front(other, v[OTHER]);
-    let d = questions::front(data, v[DATA]);
-    match q {
-        Question::Set => at,
-        Question::Cell => answers::put_cell(nbiot::judge(questions::cell_of(v), a, b), out, at),
-        Question::Bitmap => bitmap(v, a, b, out, at),
-        Question::Cause => cause(v, a, b, out, at),
-        Question::Count => count(v, a, b, out, at),
-        Question::Search => search(v, a, b, out, at),
-        Question::Fill => fill(v, a, b, d, out, at),
-        Question::Element => element(v, a, b, d, out, at),
-        Question::Meaning => answers::put_meaning(v[NO], out, at),
-        Question::Plan(k) => plan(k, v, a, b, out, at),
-        Question::Forward(k) => forward(k, v, a, b, out, at),
-        Question::Backward(k) => backward(k, v, a, b, out, at),
-        Question::Step(k) => step(k, v, a, b, out, at),
-        Question::Picture(k) => picture::put_picture(k, v, a, b, out, at),
-        Question::Timeline(k) => timeline::put_timeline(k, v, a, b, out, at),
+// Asks a question of the values and writes its answer.
+pub fn ask(
+    alloc: Global,
+    question: Question,
+    values: &mut Values,
+    out: &mut String,
+) -> Result<(), AllocError> {
+    let v = &*values;
+    match question {
+        Question::Set => Ok(()),
+        Question::Cell => answers::put_cell(nbiot::judge(v.cell(), &v.anchor, &v.other), out),
+        Question::Bitmap => bitmap(v, out),
+        Question::Cause => {
+            answers::put_cause(nbiot::cause(v.cell(), &v.anchor, &v.other, v.t), out)
+        }
+        Question::Count => answers::put_count(nbiot::count(v.cell(), &v.anchor, &v.other), out),
+        Question::Search => search(v, out),
+        Question::Fill => fill(alloc, v, out),
+        Question::Element => element(v, out),
+        Question::Meaning => answers::put_meaning(v.no, out),
+        Question::Plan(kind) => plan(Asked { kind, values: v }, out),
+        Question::Forward(kind) => forward(Asked { kind, values: v }, out),
+        Question::Backward(kind) => backward(Asked { kind, values: v }, out),
+        Question::Step(kind) => step(kind, values, out),
+        Question::Picture(kind) => picture::put_picture(Asked { kind, values: v }, out),
+        Question::Timeline(kind) => timeline::put_timeline(Asked { kind, values: v }, out),
     }
 }
