@@ -1,6 +1,7 @@
 // The words over and under what is drawn: a transmitted subframe or slot, and a grant's frames.
-ghost use Rattle.std.specs.Prelude.{◌≡◌, [], ◌∷◌, ◌++◌, OnOk, codes, decimal, string_bytes};
-ghost use Rattle.answers.specs.Line.{values_then, place_text};
+ghost use Rattle.std.specs.Prelude.{◌≡◌, ◌++◌, OnOk, string_bytes};
+ghost use Rattle.answers.specs.Drawn.{place_text, subframe_text, slot_text, unit_text, tones_text};
+ghost use Rattle.answers.specs.Drawn.{slot_columns_text, more_text};
 
 use std::alloc::AllocError;
 
@@ -18,7 +19,7 @@ pub struct Shown {
 }
 
 // The frame of the subframe, its number in it, and which of those sent it is.
-#[tactic(auto, unfolding(crate::specs::Line::place_text))]
+#[tactic(auto, unfolding(crate::specs::Drawn::place_text))]
 fn put_place(x: Shown, out: &mut String) -> Result<(), AllocError>
     ensures { OnOk result (string_bytes out.new ≡ string_bytes out.old ++ place_text x) }
 {
@@ -33,7 +34,7 @@ fn put_place(x: Shown, out: &mut String) -> Result<(), AllocError>
 
 // The title of a subframe, the legend and the columns.
 pub fn put_subframe(x: Shown, out: &mut String) -> Result<(), AllocError>
-    ensures { OnOk result (string_bytes out.new ≡ string_bytes out.old ++ values_then ((codes "subframe ", x.unit) ∷ []) (codes ": " ++ (place_text x ++ values_then ((codes "subframe ", x.codeword) ∷ []) (codes "\no ours, N narrowband reference, C cell reference, # control region, . anything else\n     slot 0  slot 1\n   l 0123456 0123456\n")))) }
+    ensures { OnOk result (string_bytes out.new ≡ string_bytes out.old ++ subframe_text x) }
 {
     write!(out, "subframe {}: ", x.unit)?;
     put_place(x, out)?;
@@ -50,7 +51,7 @@ o ours, N narrowband reference, C cell reference, # control region, . anything e
 
 // The title of a slot, up to its codeword slot.
 pub fn put_slot(x: Shown, out: &mut String) -> Result<(), AllocError>
-    ensures { OnOk result (string_bytes out.new ≡ string_bytes out.old ++ values_then ((codes "slot ", x.unit) ∷ (codes ": from subframe ", x.subframe) ∷ []) (codes ", " ++ (place_text x ++ (codes "slot " ++ decimal x.codeword)))) }
+    ensures { OnOk result (string_bytes out.new ≡ string_bytes out.old ++ slot_text x) }
 {
     write!(out, "slot {}: from subframe {}, ", x.unit, x.subframe)?;
     put_place(x, out)?;
@@ -59,21 +60,21 @@ pub fn put_slot(x: Shown, out: &mut String) -> Result<(), AllocError>
 
 // The resource unit of a slot's title.
 pub fn put_unit(unit: u64, out: &mut String) -> Result<(), AllocError>
-    ensures { OnOk result (string_bytes out.new ≡ string_bytes out.old ++ values_then ((codes ", resource unit ", unit) ∷ []) []) }
+    ensures { OnOk result (string_bytes out.new ≡ string_bytes out.old ++ unit_text unit) }
 {
     write!(out, ", resource unit {unit}")
 }
 
 // The granted tones, the last words of a slot's title.
 pub fn put_tones(first: u64, last: u64, out: &mut String) -> Result<(), AllocError>
-    ensures { OnOk result (string_bytes out.new ≡ string_bytes out.old ++ values_then ((codes ", tones ", first) ∷ (codes " to ", last) ∷ []) (codes "\n")) }
+    ensures { OnOk result (string_bytes out.new ≡ string_bytes out.old ++ tones_text first last) }
 {
     writeln!(out, ", tones {first} to {last}")
 }
 
 // The legend of a slot, and its columns.
 pub fn put_slot_columns(slot: u64, out: &mut String) -> Result<(), AllocError>
-    ensures { OnOk result (string_bytes out.new ≡ string_bytes out.old ++ values_then ((codes "o data, R reference, . tone not granted\n     slot ", slot) ∷ []) (codes "\n   l 0123456\n")) }
+    ensures { OnOk result (string_bytes out.new ≡ string_bytes out.old ++ slot_columns_text slot) }
 {
     write!(
         out,
@@ -83,7 +84,7 @@ pub fn put_slot_columns(slot: u64, out: &mut String) -> Result<(), AllocError>
 
 // How many frames are past the last row.
 pub fn put_more(frames: u64, out: &mut String) -> Result<(), AllocError>
-    ensures { OnOk result (string_bytes out.new ≡ string_bytes out.old ++ values_then ((codes "more frames: ", frames) ∷ []) (codes "\n")) }
+    ensures { OnOk result (string_bytes out.new ≡ string_bytes out.old ++ more_text frames) }
 {
     writeln!(out, "more frames: {frames}")
 }

@@ -1,11 +1,12 @@
 // The answers' lines, written to a text.
 #![tactic(auto)]
 
-ghost use Rattle.std.specs.Prelude.{◌≡◌, [], ◌∷◌, ◌++◌, OnOk, codes, if◌then◌else◌, min, string_bytes, take};
-ghost use Rattle.std.specs.Float.{binary32};
-ghost use Rattle.std.specs.Float.Ieee.{to_bits};
-ghost use Rattle.std.specs.List.{flat_map};
-ghost use Rattle.answers.specs.Line.{values_then, hex, hex_of, candidate_text, number_text, back_then};
+ghost use Rattle.std.specs.Prelude.{◌≡◌, [], ◌++◌, OnOk, codes, string_bytes};
+ghost use Rattle.answers.specs.Line.{hex_of};
+ghost use Rattle.answers.specs.Answers.{fault_text, cell_text, bitmap_text, downlink_plan_text, uplink_plan_text};
+ghost use Rattle.answers.specs.Answers.{downlink_place_text, uplink_place_text, cause_text, count_text, back_then};
+ghost use Rattle.answers.specs.Answers.{candidates_text, search_text, downlink_back_text, skipped_text, unlisted_text};
+ghost use Rattle.answers.specs.Answers.{uplink_step_text, downlink_step_text, element_text, fill_text};
 ghost use Rattle.answers.specs.Words.{cause_word, fault_word};
 
 use cell::{Cause, CauseAnswer, ElementCount};
@@ -57,13 +58,13 @@ fn cause_word(cause: Cause) -> &'static str
 
 // A fault, by the numbers of its line and its word.
 pub fn put_fault(fault: Fault, line: u64, word: usize, out: &mut String) -> Result<(), AllocError>
-    ensures { OnOk result (string_bytes out.new ≡ string_bytes out.old ++ (codes "error=" ++ (fault_word fault ++ values_then ((codes " line=", line) ∷ (codes " word=", word) ∷ []) (codes "\n")))) }
+    ensures { OnOk result (string_bytes out.new ≡ string_bytes out.old ++ fault_text fault line word) }
 {
     writeln!(out, "error={} line={line} word={word}", fault_word(fault))
 }
 
 pub fn put_cell(no: u64, out: &mut String) -> Result<(), AllocError>
-    ensures { OnOk result (string_bytes out.new ≡ string_bytes out.old ++ values_then ((codes "no=", no) ∷ []) (codes "\n")) }
+    ensures { OnOk result (string_bytes out.new ≡ string_bytes out.old ++ cell_text no) }
 {
     writeln!(out, "no={no}")
 }
@@ -82,7 +83,7 @@ fn put_hex(bytes: &[u8], out: &mut String) -> Result<(), AllocError>
 }
 
 pub fn put_bitmap(no: u64, part: &[u8], out: &mut String) -> Result<(), AllocError>
-    ensures { OnOk result (string_bytes out.new ≡ string_bytes out.old ++ values_then ((codes "no=", no) ∷ []) (codes " part=" ++ (hex_of part.now ++ codes "\n"))) }
+    ensures { OnOk result (string_bytes out.new ≡ string_bytes out.old ++ bitmap_text no part.now) }
 {
     write!(out, "no={no} part=")?;
     put_hex(part, out)?;
@@ -90,7 +91,7 @@ pub fn put_bitmap(no: u64, part: &[u8], out: &mut String) -> Result<(), AllocErr
 }
 
 pub fn put_downlink_plan(x: DownlinkPlan, out: &mut String) -> Result<(), AllocError>
-    ensures { OnOk result (string_bytes out.new ≡ string_bytes out.old ++ values_then ((codes "no=", x.no) ∷ (codes " first=", x.first) ∷ (codes " last=", x.last) ∷ (codes " copies=", x.copies) ∷ (codes " places=", x.places) ∷ []) (codes "\n")) }
+    ensures { OnOk result (string_bytes out.new ≡ string_bytes out.old ++ downlink_plan_text x) }
 {
     let DownlinkPlan {
         no,
@@ -106,7 +107,7 @@ pub fn put_downlink_plan(x: DownlinkPlan, out: &mut String) -> Result<(), AllocE
 }
 
 pub fn put_uplink_plan(x: UplinkPlan, out: &mut String) -> Result<(), AllocError>
-    ensures { OnOk result (string_bytes out.new ≡ string_bytes out.old ++ values_then ((codes "no=", x.no) ∷ (codes " first=", x.first) ∷ (codes " last=", x.last) ∷ (codes " copies=", x.copies) ∷ (codes " places=", x.places) ∷ (codes " size=", x.size) ∷ (codes " order=", x.order) ∷ []) (codes "\n")) }
+    ensures { OnOk result (string_bytes out.new ≡ string_bytes out.old ++ uplink_plan_text x) }
 {
     let UplinkPlan {
         no,
@@ -124,7 +125,7 @@ pub fn put_uplink_plan(x: UplinkPlan, out: &mut String) -> Result<(), AllocError
 }
 
 pub fn put_downlink_place(x: DownlinkPlace, out: &mut String) -> Result<(), AllocError>
-    ensures { OnOk result (string_bytes out.new ≡ string_bytes out.old ++ values_then ((codes "no=", x.no) ∷ (codes " t=", x.t) ∷ (codes " slot=", x.slot) ∷ (codes " l=", x.l) ∷ (codes " k=", x.k) ∷ (codes " symbol=", x.symbol) ∷ []) (codes "\n")) }
+    ensures { OnOk result (string_bytes out.new ≡ string_bytes out.old ++ downlink_place_text x) }
 {
     let DownlinkPlace {
         no,
@@ -138,7 +139,7 @@ pub fn put_downlink_place(x: DownlinkPlace, out: &mut String) -> Result<(), Allo
 }
 
 pub fn put_uplink_place(x: UplinkPlace, out: &mut String) -> Result<(), AllocError>
-    ensures { OnOk result (string_bytes out.new ≡ string_bytes out.old ++ values_then ((codes "no=", x.no) ∷ (codes " slot=", x.slot) ∷ (codes " l=", x.l) ∷ (codes " k=", x.k) ∷ (codes " symbol=", x.symbol) ∷ []) (codes "\n")) }
+    ensures { OnOk result (string_bytes out.new ≡ string_bytes out.old ++ uplink_place_text x) }
 {
     let UplinkPlace {
         no,
@@ -151,14 +152,14 @@ pub fn put_uplink_place(x: UplinkPlace, out: &mut String) -> Result<(), AllocErr
 }
 
 pub fn put_cause(x: CauseAnswer, out: &mut String) -> Result<(), AllocError>
-    ensures { OnOk result (string_bytes out.new ≡ string_bytes out.old ++ values_then ((codes "no=", x.no) ∷ []) (codes " cause=" ++ (cause_word x.cause ++ codes "\n"))) }
+    ensures { OnOk result (string_bytes out.new ≡ string_bytes out.old ++ cause_text x) }
 {
     let CauseAnswer { no, cause } = x;
     writeln!(out, "no={no} cause={}", cause_word(cause))
 }
 
 pub fn put_count(x: ElementCount, out: &mut String) -> Result<(), AllocError>
-    ensures { OnOk result (string_bytes out.new ≡ string_bytes out.old ++ values_then ((codes "no=", x.no) ∷ (codes " e=", x.e) ∷ []) (codes "\n")) }
+    ensures { OnOk result (string_bytes out.new ≡ string_bytes out.old ++ count_text x) }
 {
     let ElementCount { no, e } = x;
     writeln!(out, "no={no} e={e}")
@@ -166,7 +167,7 @@ pub fn put_count(x: ElementCount, out: &mut String) -> Result<(), AllocError>
 
 // The candidates before the count.
 fn put_candidates(x: SearchAnswer, out: &mut String) -> Result<(), AllocError>
-    ensures { OnOk result (string_bytes out.new ≡ string_bytes out.old ++ flat_map candidate_text (take (min 15 x.count) x.list)) }
+    ensures { OnOk result (string_bytes out.new ≡ string_bytes out.old ++ candidates_text x) }
 {
     let listed = x.list.len().min(x.count as usize);
     for candidate in &x.list[..listed] {
@@ -177,7 +178,7 @@ fn put_candidates(x: SearchAnswer, out: &mut String) -> Result<(), AllocError>
 }
 
 pub fn put_search(x: SearchAnswer, out: &mut String) -> Result<(), AllocError>
-    ensures { OnOk result (string_bytes out.new ≡ string_bytes out.old ++ values_then ((codes "no=", x.no) ∷ (codes " start=", x.start) ∷ (codes " count=", x.count) ∷ []) (flat_map candidate_text (take (min 15 x.count) x.list) ++ codes "\n")) }
+    ensures { OnOk result (string_bytes out.new ≡ string_bytes out.old ++ search_text x) }
 {
     write!(out, "no={} start={} count={}", x.no, x.start, x.count)?;
     put_candidates(x, out)?;
@@ -208,7 +209,7 @@ pub fn put_back(x: Back, out: &mut String) -> Result<(), AllocError>
 }
 
 pub fn put_downlink_back(x: DownlinkBack, out: &mut String) -> Result<(), AllocError>
-    ensures { OnOk result (string_bytes out.new ≡ string_bytes out.old ++ back_then x.back (codes " cause=" ++ (cause_word x.cause ++ codes "\n"))) }
+    ensures { OnOk result (string_bytes out.new ≡ string_bytes out.old ++ downlink_back_text x) }
 {
     let DownlinkBack { back, cause } = x;
     put_back_values(back, out)?;
@@ -217,7 +218,7 @@ pub fn put_downlink_back(x: DownlinkBack, out: &mut String) -> Result<(), AllocE
 
 // A skipped subframe of a picture's last line, and why.
 pub fn put_skipped(is_first: bool, t: u64, cause: Cause, out: &mut String) -> Result<(), AllocError>
-    ensures { OnOk result (string_bytes out.new ≡ string_bytes out.old ++ ((if is_first then codes "" else codes ",") ++ values_then ((codes " ", t) ∷ []) (codes " " ++ cause_word cause))) }
+    ensures { OnOk result (string_bytes out.new ≡ string_bytes out.old ++ skipped_text is_first t cause) }
 {
     let comma = if is_first { "" } else { "," };
     write!(out, "{comma} {t} {}", cause_word(cause))
@@ -225,13 +226,13 @@ pub fn put_skipped(is_first: bool, t: u64, cause: Cause, out: &mut String) -> Re
 
 // How many more were skipped than are listed.
 pub fn put_unlisted(n: u64, out: &mut String) -> Result<(), AllocError>
-    ensures { OnOk result (string_bytes out.new ≡ string_bytes out.old ++ values_then ((codes " and ", n) ∷ []) (codes " more\n")) }
+    ensures { OnOk result (string_bytes out.new ≡ string_bytes out.old ++ unlisted_text n) }
 {
     writeln!(out, " and {n} more")
 }
 
 pub fn put_uplink_step(x: WalkPlace, p: u64, out: &mut String) -> Result<(), AllocError>
-    ensures { OnOk result (string_bytes out.new ≡ string_bytes out.old ++ values_then ((codes "no=", x.no) ∷ (codes " finished=", x.finished) ∷ (codes " slot=", x.slot) ∷ (codes " l=", x.l) ∷ (codes " k=", x.k) ∷ (codes " symbol=", x.symbol) ∷ (codes " p=", p) ∷ []) (codes "\n")) }
+    ensures { OnOk result (string_bytes out.new ≡ string_bytes out.old ++ uplink_step_text x p) }
 {
     let WalkPlace {
         no,
@@ -249,7 +250,7 @@ pub fn put_uplink_step(x: WalkPlace, p: u64, out: &mut String) -> Result<(), All
 }
 
 pub fn put_downlink_step(x: WalkPlace, p: u64, out: &mut String) -> Result<(), AllocError>
-    ensures { OnOk result (string_bytes out.new ≡ string_bytes out.old ++ values_then ((codes "no=", x.no) ∷ (codes " finished=", x.finished) ∷ (codes " t=", x.t) ∷ (codes " slot=", x.slot) ∷ (codes " l=", x.l) ∷ (codes " k=", x.k) ∷ (codes " symbol=", x.symbol) ∷ (codes " p=", p) ∷ []) (codes "\n")) }
+    ensures { OnOk result (string_bytes out.new ≡ string_bytes out.old ++ downlink_step_text x p) }
 {
     let WalkPlace {
         no,
@@ -267,7 +268,7 @@ pub fn put_downlink_step(x: WalkPlace, p: u64, out: &mut String) -> Result<(), A
 }
 
 pub fn put_element(x: ElementNumbers, out: &mut String) -> Result<(), AllocError>
-    ensures { OnOk result (string_bytes out.new ≡ string_bytes out.old ++ values_then ((codes "no=", x.no) ∷ (codes " case=", x.state) ∷ []) (codes " re=" ++ (hex 8 (to_bits binary32 x.re) ++ (codes " im=" ++ (hex 8 (to_bits binary32 x.im) ++ codes "\n"))))) }
+    ensures { OnOk result (string_bytes out.new ≡ string_bytes out.old ++ element_text x) }
 {
     let re = text::pattern_of(x.re);
     let im = text::pattern_of(x.im);
@@ -276,7 +277,7 @@ pub fn put_element(x: ElementNumbers, out: &mut String) -> Result<(), AllocError
 
 // The patterns of a fill's numbers.
 pub fn put_fill(no: u64, numbers: &[f32], out: &mut String) -> Result<(), AllocError>
-    ensures { OnOk result (string_bytes out.new ≡ string_bytes out.old ++ values_then ((codes "no=", no) ∷ []) (flat_map number_text numbers.now ++ codes "\n")) }
+    ensures { OnOk result (string_bytes out.new ≡ string_bytes out.old ++ fill_text no numbers.now) }
 {
     write!(out, "no={no}")?;
     for x in numbers {

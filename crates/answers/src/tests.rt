@@ -78,7 +78,12 @@ fn told(rt: HostRuntime) -> Result<(), Fail> {
     put_meaning(26, &mut out)?;
     assert_eq!(rt;
         out.as_str(),
-        "no=0\ncontrol    NPDCCH, by the cell and n r format ncce\ncontrol    control region: in-band 1 to 3 symbols, else 0; starts at 0\nno=25 meaning=the broadcast of a non-anchor\nno=26 meaning=none\n"
+        "no=0
+control    NPDCCH, by the cell and n r format ncce
+control    control region: in-band 1 to 3 symbols, else 0; starts at 0
+no=25 meaning=the broadcast of a non-anchor
+no=26 meaning=none
+"
     );
     Ok(())
 }
@@ -99,7 +104,10 @@ fn drawn(rt: HostRuntime) -> Result<(), Fail> {
     put_more(12, &mut out)?;
     assert_eq!(rt;
         out.as_str(),
-        "slot 10251: from subframe 10251, frame 1, subframe 1 of it, i=3 of 4 transmitted, codeword slot 2, resource unit 1, tones 0 to 11\nmore frames: 12\n"
+        "slot 10251: from subframe 10251, frame 1, subframe 1 of it, i=3 of 4 transmitted, codeword slot 2, \
+resource unit 1, tones 0 to 11
+more frames: 12
+"
     );
     Ok(())
 }
@@ -133,7 +141,13 @@ fn places(rt: HostRuntime) -> Result<(), Fail> {
         im: -2.0,
     };
     put_element(element, &mut out)?;
-    assert_eq!(rt; out.as_str(), "no=0 first=20 last=35 copies=2 places=2304 size=1152 order=2\nno=0 t=21 slot=1 l=3 k=4 symbol=5\nno=0 case=4 re=3f800000 im=c0000000\n");
+    assert_eq!(rt;
+        out.as_str(),
+        "no=0 first=20 last=35 copies=2 places=2304 size=1152 order=2
+no=0 t=21 slot=1 l=3 k=4 symbol=5
+no=0 case=4 re=3f800000 im=c0000000
+"
+    );
     Ok(())
 }
 
@@ -161,7 +175,14 @@ fn steps(rt: HostRuntime) -> Result<(), Fail> {
     };
     put_uplink_step(place, 8, &mut out)?;
     put_downlink_step(place, 8, &mut out)?;
-    assert_eq!(rt; out.as_str(), "no=0 ours=1 symbol=6 p=7 kind=0\nno=0 ours=1 symbol=6 p=7 kind=0 cause=message\nno=0 finished=0 slot=1 l=3 k=4 symbol=5 p=8\nno=0 finished=0 t=21 slot=1 l=3 k=4 symbol=5 p=8\n");
+    assert_eq!(rt;
+        out.as_str(),
+        "no=0 ours=1 symbol=6 p=7 kind=0
+no=0 ours=1 symbol=6 p=7 kind=0 cause=message
+no=0 finished=0 slot=1 l=3 k=4 symbol=5 p=8
+no=0 finished=0 t=21 slot=1 l=3 k=4 symbol=5 p=8
+"
+    );
     Ok(())
 }
 
@@ -177,6 +198,16 @@ fn columns(rt: HostRuntime) -> Result<(), Fail> {
     };
     put_subframe(shown, &mut out)?;
     put_slot_columns(41, &mut out)?;
-    assert_eq!(rt; out.as_str(), "subframe 21: frame 2, subframe 1 of it, i=0 of 8 transmitted, codeword subframe 0\no ours, N narrowband reference, C cell reference, # control region, . anything else\n     slot 0  slot 1\n   l 0123456 0123456\no data, R reference, . tone not granted\n     slot 41\n   l 0123456\n");
+    assert_eq!(rt;
+        out.as_str(),
+        "subframe 21: frame 2, subframe 1 of it, i=0 of 8 transmitted, codeword subframe 0
+o ours, N narrowband reference, C cell reference, # control region, . anything else
+     slot 0  slot 1
+   l 0123456 0123456
+o data, R reference, . tone not granted
+     slot 41
+   l 0123456
+"
+    );
     Ok(())
 }

@@ -1,6 +1,6 @@
 // What is told in words: help, and the meanings of the refusal numbers.
-ghost use Rattle.std.specs.Prelude.{◌≡◌, [], ◌∷◌, ◌++◌, List, ℕ, OnOk, codes, string_bytes};
-ghost use Rattle.answers.specs.Line.{values_then};
+ghost use Rattle.std.specs.Prelude.{◌≡◌, ◌++◌, List, ℕ, OnOk, string_bytes};
+ghost use Rattle.answers.specs.Answers.{meaning_text};
 
 use std::alloc::AllocError;
 
@@ -152,7 +152,7 @@ fn words_of(no: u64) -> &'static str {
 
 // The words of a refusal number.
 pub fn put_meaning(no: u64, out: &mut String) -> Result<(), AllocError>
-    ensures { OnOk result ((words : List ℕ) × (string_bytes out.new ≡ string_bytes out.old ++ values_then ((codes "no=", no) ∷ []) (codes " meaning=" ++ (words ++ codes "\n")))) }
+    ensures { OnOk result ((words : List ℕ) × (string_bytes out.new ≡ string_bytes out.old ++ meaning_text no words)) }
 {
     writeln!(out, "no={no} meaning={}", words_of(no))
 }

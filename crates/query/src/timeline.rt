@@ -145,7 +145,8 @@ slot is the row's first slot, over the signs is the subframe of the frame in whi
 "
             }
             _ => {
-                "0 to 9 codeword subframe, B NPBCH, P NPSS, S NSSS, I SIB1, M message, x bitmap, . before the first or after the last
+                "0 to 9 codeword subframe, B NPBCH, P NPSS, S NSSS, I SIB1, M message, x bitmap, \
+. before the first or after the last
 t is the row's first subframe, over the signs is the subframe of the frame
 "
             }
@@ -156,9 +157,8 @@ t is the row's first subframe, over the signs is the subframe of the frame
 impl<'a> Course<'a> {
     // A slot that is not sent: in the 40 ms after each 256 ms from the slot first named, else in a window.
     fn postponed_sign(self, slot: u64) -> char {
-        let since = match slot.checked_sub(self.named) {
-            None => return 'W',
-            Some(since) => since,
+        let Some(since) = slot.checked_sub(self.named) else {
+            return 'W';
         };
         let is_gap = if self.asked.values.is_15_khz() {
             since % 592 >= 512

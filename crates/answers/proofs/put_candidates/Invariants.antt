@@ -1,6 +1,6 @@
 use Rattle.std.proofs.Common.{◌≡◌, ◌++◌, take, string_bytes}
 use Rattle.std.specs.List.{flat_map}
-use Rattle.answers.specs.Line.{candidate_text}
+use Rattle.answers.specs.Answers.{candidate_text}
 use Rattle.answers.proofs.put_candidates.Given as goal
 
 abbrev pub invariant-loop-candidate : goal.invariant-loop-candidate

@@ -1,6 +1,6 @@
 use Rattle.std.proofs.Common.{◌≡◌, ◌++◌, take, string_bytes}
 use Rattle.std.specs.List.{flat_map}
-use Rattle.answers.specs.Line.{number_text}
+use Rattle.answers.specs.Answers.{number_text}
 use Rattle.answers.proofs.put_fill.Given as goal
 
 abbrev pub invariant-loop-x : goal.invariant-loop-x
