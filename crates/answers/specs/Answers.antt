@@ -1,4 +1,4 @@
--- The text of each answer, to the byte.
+-- For the code alone. The text of each answer, to the byte.
 use Rattle.std.specs.Prelude.{ℕ, List, [], ◌∷◌, ◌++◌, Bool, if◌then◌else◌, min, take, codes}
 use Rattle.std.specs.Float.{binary32}
 use Rattle.std.specs.Float.Ieee.{Float, to_bits}

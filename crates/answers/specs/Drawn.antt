@@ -1,4 +1,4 @@
--- The text over and under what is drawn, to the byte.
+-- For the code alone. The text over and under what is drawn, to the byte.
 use Rattle.std.specs.Prelude.{ℕ, ◌/◌, ◌%◌, List, [], ◌∷◌, ◌++◌, decimal, codes}
 use Rattle.answers.specs.Line.{values_then}
 use Rattle.answers.specs.declared.drawn.Shown.{Shown}

@@ -1,4 +1,4 @@
--- For the code alone. What an answer's text is.
+-- Interface: none. All of it is for the code alone.
 pub mod Answers
 pub mod Drawn
 pub mod Line

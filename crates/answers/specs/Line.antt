@@ -1,4 +1,4 @@
--- The text of numbers and of bytes.
+-- For the code alone. The text of numbers and of bytes.
 use Rattle.std.specs.Prelude.{ℕ, ◌^◌, ◌-◌, List, [], ◌∷◌, ◌++◌, false, decimal, codes}
 use Rattle.std.specs.Fmt.{padded_integral, format_spec, digits}
 use Rattle.std.specs.List.{flat_map}

@@ -1,4 +1,4 @@
--- The words of causes and of faults.
+-- For the code alone. The words of causes and of faults.
 use Rattle.std.specs.Prelude.{ℕ, List, codes}
 use Rattle.cell.specs.declared.Cause.{Cause}
 use Rattle.cell.specs.declared.Cause.TheVariants.{None, Npbch, Npss, Nsss, Sib1, Message, Bitmap}

@@ -1,5 +1,6 @@
 -- For the code alone. What the code works out of a position and of a subframe.
-use Rattle.std.specs.Prelude.{Bool, true, false, cond, Option, MatchOption, ◌≡◌, ℕ, ◌+◌, ◌*◌, ◌/◌, ◌%◌, ◌^◌, ◌≤◌, ◌<◌, eqb}
+use Rattle.std.specs.Prelude.{Bool, true, false, cond, Option, MatchOption, ◌≡◌, ℕ}
+use Rattle.std.specs.Prelude.{◌+◌, ◌*◌, ◌/◌, ◌%◌, ◌^◌, ◌≤◌, ◌<◌, eqb}
 use Rattle.counting.specs.Counting.{rank}
 use Rattle.sending.specs.CopyOrder.{carried}
 use Rattle.sending.specs.Answer.{no_such_place}

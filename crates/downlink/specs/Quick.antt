@@ -20,7 +20,8 @@ content_in b i x =
     (i * count_of b.layout b.low b.width + elements.number_of b.layout b.low b.width x))
     (not_ours (kind_of b.layout x))
 
--- a grant judged on a cell of these numbers: its refusal, and for an accepted one burst b, which fits a well-formed cell
+-- a grant judged on a cell of these numbers: its refusal, and for an accepted one burst b, which fits a cell that is
+-- well-formed
 pub record Judged (c : CellConfig) (grant : ℕ) (b : Burst) (r : Result Burst Refusal) : Type 0 where
   pub number : refused_by r ≡ grant
   pub burst : IfOk r (λ d. d ≡ b)

@@ -29,7 +29,8 @@ kind_with (suc (suc n)) = Cell
 
 -- an element by its number where it is used, by its kind elsewhere
 unfoldable pub element_use_of : Layout → ℕ → ℕ → ℕ → ElementUse
-element_use_of g from width x = cond (used g from width x) (Used (number_of g from width x)) (Unused (kind_with (kind_of g x)))
+element_use_of g from width x =
+    cond (used g from width x) (Used (number_of g from width x)) (Unused (kind_with (kind_of g x)))
 
 -- one NCCE or both
 pub record Part (from width : ℕ) : Type 0 where

@@ -97,7 +97,8 @@ pub fn concerns(tone: u64, tones: u64, read: bool, w: Window) -> bool
     read && tone < w.tone + TONES && w.tone < tone + tones
 }
 
-// The tones of a grant, `tones` of them from `tone` on, counted at 3.75 kHz; a group of its slots lasts `ms` milliseconds.
+// The tones of a grant, `tones` of them from `tone` on, counted at 3.75 kHz; a group of its slots lasts `ms`
+// milliseconds.
 #[derive(Clone, Copy)]
 struct Granted {
     ms: u64,

@@ -1,2 +1,2 @@
--- Interface: none. Definitions speak of refusals by their numbers; `number_of` ties the code's reasons to these.
+-- Interface: none. All of it is for the code alone.
 pub mod Refusal

@@ -1,5 +1,6 @@
 -- For the code alone. What the quick code passes at once.
-use Rattle.std.specs.Prelude.{Bool, true, false, cond, ◌≡◌, ◌≢◌, List, Option, None, Some, get_or, ℕ, zero, suc, ◌+◌, ◌-◌, ◌^◌, ◌≤◌, ◌<◌, ltb}
+use Rattle.std.specs.Prelude.{Bool, true, false, cond, ◌≡◌, ◌≢◌, List, Option, None, Some, get_or, ℕ, zero}
+use Rattle.std.specs.Prelude.{suc, ◌+◌, ◌-◌, ◌^◌, ◌≤◌, ◌<◌, ltb}
 use Rattle.counting.specs.Counting.{rank, count}
 use Rattle.units.specs.declared.Lane.{Lane}
 use Rattle.units.specs.declared.Timetable.{Timetable}

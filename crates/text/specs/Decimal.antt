@@ -1,5 +1,6 @@
 -- For the code alone. A number from its decimal digits.
-use Rattle.std.specs.Prelude.{Bool, true, cond, not, ◌&&◌, List, [], ◌∷◌, ℕ, ◌+◌, ◌*◌, ◌-◌, eqb, leb, ltb, length, Option, Some, None}
+use Rattle.std.specs.Prelude.{Bool, true, cond, not, ◌&&◌, List, [], ◌∷◌, ℕ, ◌+◌, ◌*◌, ◌-◌, eqb}
+use Rattle.std.specs.Prelude.{leb, ltb, length, Option, Some, None}
 
 -- the bytes of the digits 0 to 9
 unfoldable pub is_digit : ℕ → Bool

@@ -30,7 +30,8 @@ pub record Prepared (g : Layout) (first : ℕ) (bits : List ℕ) : Type 0 where
   pub small : first < 2 ^ 32
 
 -- what goes out by an accepted call
-pub record Accepted (c : Cell) (anchor other : List ℕ) (g : NpdschGrant) (i : ℕ) (bits : List ℕ) (k : Call) : Type 0 where
+pub record Accepted (c : Cell) (anchor other : List ℕ) (g : NpdschGrant) (i : ℕ) (bits : List ℕ) (k : Call)
+    : Type 0 where
   pub prepared : Prepared (layout_of c.config) k.first bits
   pub shift : k.v ≡ c.config.identity % 6
   pub going : (x : ℕ) → goes_in (layout_of c.config) k.first x ≡ outgoing_of c anchor other g i x

@@ -1,6 +1,7 @@
 -- For the code alone. What the quick code counts: what each entry wants at the begin of a unit.
 use Rattle.std.specs.Prelude.{Bool, true, cond, ◌&&◌, ◌≡◌}
-use Rattle.std.specs.Prelude.{List, [], ◌∷◌, get_or, ℕ, zero, suc, ◌+◌, ◌-◌, ◌*◌, ◌/◌, ◌%◌, ◌^◌, min, max, ◌≤◌, ◌<◌, eqb, ltb}
+use Rattle.std.specs.Prelude.{List, [], ◌∷◌, get_or, ℕ, zero, suc, ◌+◌, ◌-◌, ◌*◌, ◌/◌, ◌%◌, ◌^◌, min}
+use Rattle.std.specs.Prelude.{max, ◌≤◌, ◌<◌, eqb, ltb}
 use Rattle.std.specs.Int.Count.{ones, count_trailing_zeros}
 use Rattle.counting.specs.Counting.{rank, count}
 use Rattle.spans.specs.declared.Pattern.{Pattern}
