@@ -1,6 +1,6 @@
 -- Listed numbers: what holds of every number of a list.
 use mathlib.Core.Bool.{Bool, true, false, not, ◌&&◌, ◌||◌}
-use mathlib.Core.List.{List, [], ◌∷◌, ◌++◌}
+use mathlib.Core.List.{List, [], ◌∷◌}
 use mathlib.Core.Path.{◌≡◌, refl, sym, ap, ap₂, ◌∙◌}
 use mathlib.Core.Logic.{◌⊎◌, ⊎_elim}
 use Prim.Native.Nat.{ℕ, ◌+◌, ◌*◌, ◌/◌, ◌%◌, ◌≤◌, ◌<◌}
@@ -8,14 +8,14 @@ use native.Mathlib.Nat.{mul_assoc, mul-mod_left, div-add-mod', le_of_mul-le-mul_
 use native.Mathlib.Omega.{arith}
 use lib.Dec.{eqb, leb}
 use mir.Val.{bool_byte}
-use borrow.Author.Tests.{eq-eqb, eqb-true, leb-true, le-leb, lt-leb}
-use Rattle.counting.proofs.Facts.{order, both_parts, either_case}
+use borrow.Author.Tests.{eq-eqb, eqb-true, leb-true, le-leb}
+use Rattle.counting.proofs.Facts.{both_parts, either_case}
 pub use Rattle.counting.proofs.Listed.{all_pass, of_list}
 use Rattle.nprach.specs.declared.Window.{Window}
 use Rattle.nprach.specs.declared.Windows.{Windows}
 use Rattle.nprach.specs.Quick.{doubles, scaled, steps}
 use Rattle.grid.specs.Grid.{uplink_subcarriers}
-use Rattle.nprach.specs.Windows.{is_one_of, periods, starts, repetitions, lengths, window_tones, is_listed, is_read, are_listed}
+use Rattle.nprach.specs.Windows.{is_one_of, periods, starts, lengths, window_tones, is_listed, is_read, are_listed}
 
 -- ---- the periods in parts of 8 ms, and in groups: each divides the later ones
 
