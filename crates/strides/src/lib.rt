@@ -47,6 +47,19 @@ pub enum Leap {
     To(Reached),
 }
 
+// The lane of entry i. No index: a table that is read at a variable place would be copied at each stride.
+fn lane(table: Timetable, i: usize) -> Lane
+    requires { i < 4 }
+    ensures { result ≡ lane_at table i }
+{
+    match i {
+        0 => table.lanes[0],
+        1 => table.lanes[1],
+        2 => table.lanes[2],
+        _ => table.lanes[3],
+    }
+}
+
 // How many units from unit n on have no window of the lane open.
 fn quiet(l: Lane, n: u64) -> u64
     requires { Ranged l × (n < 2 ^ 40) }
@@ -144,7 +157,7 @@ fn rest_of(table: Timetable, p: Pattern, kept: &mut Kept, i: usize) -> u64
     if let Some(rest) = kept[i] {
         return rest;
     }
-    let rest = alone(table, p, table.lanes[i]);
+    let rest = alone(table, p, lane(table, i));
     kept[i] = Some(rest);
     rest
 }
@@ -228,7 +241,7 @@ pub fn leap_from(
     match stretch_at(table, s.n, far) {
         Stretch::Quiet(d) => past(s, stride_quiet(table, p, s.n, s.free, d, end), true),
         Stretch::Alone(i) => {
-            let units = table.lanes[i].window;
+            let units = lane(table, i).window;
             if units <= end - s.n {
                 let rest = rest_of(table, p, kept, i);
                 past(s, stride_alone(table, p, s.n, i, units, rest), false)
