@@ -47,7 +47,7 @@ pub fn messages_in(si: &[u64]) -> Messages
 }
 
 // The numbers of messages, to be lent.
-pub fn numbers(ms: Messages) -> [u64; NUMBERS]
+pub fn numbers(ms: Messages) -> [u64; 15]
     ensures { result ≡ numbers_of ms }
 {
     [
