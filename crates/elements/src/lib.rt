@@ -44,7 +44,6 @@ impl ElementKind {
 }
 
 // What an element of a subframe is: used, by its number among the used ones; or not, by its kind.
-// The kind is a number: kind_of (specs) says it so, and answers carry it on as it is.
 #[derive(Clone, Copy)]
 pub enum ElementUse {
     Used(u64),
