@@ -41,12 +41,6 @@ pub const UNITS_OF_MS: u64 = 30_720;
 
 const TONES: u64 = 12;
 
-// The refusals: a fifth window, a number that is not listed, or tones past 47; no group is ever free on the granted
-// tones.
-pub const NOT_LISTED: u64 = 19;
-
-pub const NEVER_FREE: u64 = 20;
-
 fn is_period(x: u64) -> bool
     ensures { result ≡ is_one_of periods x }
 {
