@@ -30,8 +30,8 @@ fn log_of(x: u64) -> u64
     u64::trailing_zeros(x) as u64
 }
 
-// The same with one more schedule, if it is read. No Option: Messages has four schedules in any case, and the count says
-// which are read.
+// The same with one more schedule, if it is read. No Option: Messages has four schedules in any case, and its count
+// says which are read.
 #[tactic(auto, unfolding(crate::specs::Quick::logs_with))]
 fn with_schedule(logs: Logs, read: bool, s: Schedule) -> Logs
     requires { read ≡ true → HasLog s.every × HasLog s.period }
