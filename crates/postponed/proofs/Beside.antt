@@ -203,9 +203,6 @@ module _ {A : Type 0} (zeros : ℕ → A) (f : Sending → A) (fields spacing : 
       (rw (← e, ne_eqb (number_of r) 0 (numbered r)) refl) (numbered r)
 
   module _ (e : 0 ≡ fields) where
-    pub asked_beside : (ws : Windows) → answer_of zeros (refusal_beside spacing s ws) (f (sending_of s (open_beside spacing s ws))) ≡ answered ws
-    asked_beside ws = rw (← e) refl
-
     pub asked_alone : f (sending_of s all_open) ≡ answered none
     asked_alone =
         accepted_as zeros f (record { no = number none; sending = sending_of s (open_beside spacing s none) }) _

@@ -65,14 +65,8 @@ module _ (s : Shape) (f : Fits s) (p : ℕ) where
     pub line_rest : line - line / lines * lines ≡ p / s.tones % lines
     line_rest = sym (mod-eq-sub-div-mul line lines) ∙ ap (λ (x : ℕ). x % lines) on
 
-    pub line_fits : line - line / lines * lines + s.references < symbols
-    line_fits = omega (arith, line_rest, mod-lt (p / s.tones) some_lines, f.references)
-
     pub slots_fit : line / lines * (lines * s.tones) ≤ p
     slots_fit = omega (arith, ap (λ (x : ℕ). x / lines * (lines * s.tones)) on, ap (λ (x : ℕ). x * (lines * s.tones)) slot_of_lem, ap (λ (x : ℕ). p / slot_data s * x) (slot_data_lem s f), div-mul-le_self p (slot_data s))
-
-    pub lines_fit : line * s.tones ≤ p
-    lines_fit = omega (arith, ap (λ (x : ℕ). x * s.tones) on, div-mul-le_self p s.tones)
 
     element_of_lem : p - line / lines * (lines * s.tones) ≡ p % slot_data s
     element_of_lem =
@@ -99,9 +93,6 @@ module _ (s : Shape) (f : Fits s) (p : ℕ) where
 -- ---- a slot found by whole gap periods, where there is no window
 
 module _ (s : Shape) (f : Fits s) (x whole : ℕ) (by : whole ≡ x / gap_period s) where
-  pub periods_fit : whole * gap_period s ≤ x
-  periods_fit = omega (arith, ap (λ (y : ℕ). y * gap_period s) by, div-mul-le_self x (gap_period s))
-
   period_rest : x - whole * gap_period s ≡ x % gap_period s
   period_rest = ap (λ (y : ℕ). x - y * gap_period s) by ∙ sym (mod-eq-sub-div-mul x (gap_period s))
 

@@ -42,7 +42,8 @@ pub trait UplinkGrant: Copy {
     fn spacing(self) -> u64
         ensures { result ≡ spacing_of self };
 
-    // The shape of an accepted grant, which can be asked.
+    // The shape of an accepted grant, which can be asked. No law says so: its term could not cite the proofs of the
+    // grant's crate.
     fn shape(self) -> Shape
         requires { refusal_of self ≡ 0 }
         ensures { (result ≡ shape_of self) × Fits result × AtSpacing (spacing_of self) result };
@@ -64,6 +65,7 @@ pub fn plan<G: UplinkGrant>(g: G) -> UplinkPlan
     uplink::plan(g.shape(), AllOpen, block.size, block.order)
 }
 
+// Beside windows. With none, `plan` is the quicker way, and C calls both; forward and backward alike.
 pub fn plan_beside<G: UplinkGrant>(g: G, ws: Windows) -> UplinkPlan
     ensures { result ≡ plan_answer (G.size_of g) (G.order_of g)
         (question (G.refusal_of g) (G.spacing_of g) (G.shape_of g) ws) }

@@ -1,6 +1,6 @@
 use mathlib.Core.Path.{sym, ap, ◌∙◌}
 use Prim.Native.Nat.{◌<◌}
-use native.Mathlib.Nat.{mod-lt, div-lt_iff_lt-mul, le-div_iff_mul-le}
+use native.Mathlib.Nat.{div-lt_iff_lt-mul, le-div_iff_mul-le}
 use native.Mathlib.Omega.{arith}
 use Rattle.sending.proofs.Answer.{past_at}
 use Rattle.uplink.specs.declared.Split.{Split}
@@ -25,15 +25,6 @@ module _ (c : After-slot_data-w) where
   held =
       (div-lt_iff_lt-mul (some_data start.args.s start.requires.0)).0
       (omega (arith, unit, ap (λ (a : Split). a.i) start.requires.1))
-
-  rest : start.args.at.e < c.slot_data-w.result
-  rest =
-      omega (
-        arith,
-        ap (λ (a : Split). a.e) start.requires.1,
-        mod-lt start.args.p (some_data start.args.s start.requires.0),
-        c.slot_data-w.ensures.0,
-      )
 
 pub returns-then-at-sent_slots : goal.returns-then-at-sent_slots
 returns-then-at-sent_slots c =

@@ -1,10 +1,10 @@
 use mathlib.Core.Path.{◌≡◌}
-use Prim.Native.Nat.{ℕ, ◌+◌, ◌-◌, ◌*◌, ◌^◌, ◌≤◌, ◌<◌}
+use Prim.Native.Nat.{ℕ, ◌+◌, ◌-◌, ◌*◌, ◌^◌, ◌<◌}
 use native.Mathlib.Nat.{div-le_self}
 use native.Mathlib.Omega.{arith}
 use Rattle.closures.specs.Closures.{clear}
 use Rattle.uplink.specs.Timing.{slot_at}
-use Rattle.uplink.proofs.Grouped.{usable, begins, cycles, first_group_small, groups_within, first_found, slot_found, slot_small}
+use Rattle.uplink.proofs.Grouped.{usable, begins, cycles, first_group_small, first_found, slot_found, slot_small}
 use Rattle.uplink.proofs.timing.open_ends.Goals.{After-first_and_last-ends, Start}
 use Rattle.uplink.proofs.timing.open_ends.Goals as goal
 
@@ -17,9 +17,6 @@ module _ (c : After-first_and_last-ends) where
 
   last : c.first_and_last-ends.result.last * s.args.s.group + (s.args.i - c.over_group-j.result * s.args.s.group) ≡ slot_at s.args.s (clear s.args.nested.closures) s.args.i
   last = slot_found s.args.s s.requires.0 s.args.nested s.requires.1 _ s.requires.3 s.args.i _ _ c.over_group-j.ensures c.first_and_last-ends.ensures.1
-
-  within : c.over_group-j.result * s.args.s.group ≤ s.args.i
-  within = groups_within s.args.s s.requires.0 s.args.nested s.requires.1 _ s.requires.3 s.args.i _ c.over_group-j.ensures
 
   small : (i : ℕ) → i < 2 ^ 32 → slot_at s.args.s (clear s.args.nested.closures) i < 2 ^ 60
   small = slot_small s.args.s s.requires.0 s.args.nested.closures s.requires.1

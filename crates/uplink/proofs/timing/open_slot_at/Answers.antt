@@ -1,10 +1,10 @@
 use mathlib.Core.Path.{◌≡◌}
-use Prim.Native.Nat.{◌+◌, ◌-◌, ◌*◌, ◌^◌, ◌≤◌, ◌<◌}
+use Prim.Native.Nat.{◌+◌, ◌-◌, ◌*◌, ◌^◌, ◌<◌}
 use native.Mathlib.Nat.{div-le_self}
 use native.Mathlib.Omega.{arith}
 use Rattle.closures.specs.Closures.{clear}
 use Rattle.uplink.specs.Timing.{slot_at}
-use Rattle.uplink.proofs.Grouped.{usable, begins, cycles, first_group_small, groups_within, slot_found, slot_small}
+use Rattle.uplink.proofs.Grouped.{usable, begins, cycles, first_group_small, slot_found, slot_small}
 use Rattle.uplink.proofs.timing.open_slot_at.Goals.{After-nth-at, Start}
 use Rattle.uplink.proofs.timing.open_slot_at.Goals as goal
 
@@ -14,9 +14,6 @@ module _ (c : After-nth-at) where
 
   found : c.nth-at.result * s.args.s.group + (s.args.i - c.over_group-j.result * s.args.s.group) ≡ slot_at s.args.s (clear s.args.nested.closures) s.args.i
   found = slot_found s.args.s s.requires.0 s.args.nested s.requires.1 _ s.requires.3 s.args.i _ _ c.over_group-j.ensures c.nth-at.ensures
-
-  within : c.over_group-j.result * s.args.s.group ≤ s.args.i
-  within = groups_within s.args.s s.requires.0 s.args.nested s.requires.1 _ s.requires.3 s.args.i _ c.over_group-j.ensures
 
   small : slot_at s.args.s (clear s.args.nested.closures) s.args.i < 2 ^ 60
   small = slot_small s.args.s s.requires.0 s.args.nested.closures s.requires.1 s.args.i s.requires.4
