@@ -1,6 +1,6 @@
--- Listed numbers: what holds of every number of a list.
+-- Listed numbers: tests by lists, and what holds of every number of a list.
 use mathlib.Core.Bool.{Bool, true, false, not, ◌&&◌, ◌||◌}
-use mathlib.Core.List.{List, [], ◌∷◌}
+use mathlib.Core.List.{List, [], ◌∷◌, ◌++◌}
 use mathlib.Core.Path.{◌≡◌, refl, sym, ap, ap₂, ◌∙◌}
 use mathlib.Core.Logic.{◌⊎◌, ⊎_elim}
 use Prim.Native.Nat.{ℕ, ◌+◌, ◌*◌, ◌/◌, ◌%◌, ◌≤◌, ◌<◌}
@@ -8,14 +8,30 @@ use native.Mathlib.Nat.{mul_assoc, mul-mod_left, div-add-mod', le_of_mul-le-mul_
 use native.Mathlib.Omega.{arith}
 use lib.Dec.{eqb, leb}
 use mir.Val.{bool_byte}
-use borrow.Author.Tests.{eq-eqb, eqb-true, leb-true, le-leb}
-use Rattle.counting.proofs.Facts.{both_parts, either_case}
+use borrow.Author.Tests.{eq-eqb, eqb-true, leb-true, le-leb, lt-leb}
+use Rattle.counting.proofs.Facts.{order, both_parts, either_case}
 pub use Rattle.counting.proofs.Listed.{all_pass, of_list}
 use Rattle.nprach.specs.declared.Window.{Window}
 use Rattle.nprach.specs.declared.Windows.{Windows}
 use Rattle.nprach.specs.Quick.{doubles, scaled, steps}
 use Rattle.grid.specs.Grid.{uplink_subcarriers}
-use Rattle.nprach.specs.Windows.{is_one_of, periods, starts, lengths, window_tones, is_listed, is_read, are_listed}
+use Rattle.nprach.specs.Windows.{is_one_of, periods, starts, repetitions, lengths, window_tones, is_listed, is_read, are_listed}
+
+or_assoc : (a b c : Bool) → (a || b || c) ≡ (a || (b || c))
+or_assoc true b c = refl
+or_assoc false b c = refl
+
+append : (x : ℕ) (front back : List ℕ) → (is_one_of front x || is_one_of back x) ≡ is_one_of (front ++ back) x
+append x [] back = refl
+append x (n ∷ front) back = or_assoc (eqb x n) (is_one_of front x) (is_one_of back x) ∙ ap (λ (b : Bool). eqb x n || b) (append x front back)
+
+pub either_length : (x : ℕ) → (is_one_of (repetitions 172032) x || is_one_of (repetitions 196608) x) ≡ is_one_of lengths x
+either_length x = append x (repetitions 172032) (repetitions 196608)
+
+pub tone_fits : (t : ℕ) → leb t 36 ≡ leb (t + window_tones) (uplink_subcarriers 0)
+tone_fits t =
+    ⊎_elim (λ h. lt-leb t 36 h ∙ sym (lt-leb (t + window_tones) (uplink_subcarriers 0) (omega arith)))
+    (λ h. le-leb t 36 h ∙ sym (le-leb (t + window_tones) (uplink_subcarriers 0) (omega arith))) (order 36 t)
 
 -- ---- the periods in parts of 8 ms, and in groups: each divides the later ones
 
