@@ -1,6 +1,8 @@
 // A cell: its refusals, its bitmap in force, its free subframes as a pattern of spans, and why another is not usable.
 // What ends in `_lent` has the cell's eight numbers and, as lent numbers `si`, its messages: these are read where they
 // are needed, and a cell without any pays nothing for them. The questions on a `Cell` lend its messages to these.
+// The numbers, the messages and the two buffers stay four parameters, as C lends them: a record of them would be copied
+// from call to call.
 #![tactic(auto)]
 
 ghost use Rattle.std.specs.Prelude.{◌≡◌, true};
@@ -62,7 +64,8 @@ pub enum Cause {
     Bitmap = 6,
 }
 
-// The answer on one subframe: the refusal number, and why the subframe is not usable.
+// The answer on one subframe: the refusal number, and why the subframe is not usable. No Result: `cause_of` and the C
+// interface speak of these fields.
 #[derive(Clone, Copy)]
 pub struct CauseAnswer {
     pub no: u64,
@@ -292,8 +295,8 @@ fn judge_alone(c: CellConfig, own: &[u8]) -> u64
     number(formed_alone(c, own))
 }
 
-// Judge a cell: its refusal number, or 0. The test is the shortest, so that the compiler puts this in where it is
-// asked.
+// Judge a cell: its refusal number, or 0, as C hands it on. The test is the shortest, so that the compiler puts this in
+// where it is asked.
 pub fn judge_lent(c: CellConfig, si: &[u64], anchor: &[u8], other: &[u8]) -> u64
     ensures { result ≡ judge_of (lent_cell c si.now) anchor.now other.now }
 {
@@ -457,7 +460,7 @@ pub fn layout(c: CellConfig) -> Layout
     }
 }
 
-// The answer: the refusal number; E.
+// The answer: the refusal number; E. No Result: `element_count_of` and the C interface speak of these fields.
 #[derive(Clone, Copy)]
 pub struct ElementCount {
     pub no: u64,

@@ -59,7 +59,8 @@ const BLANK: Candidate = Candidate {
     last: 0,
 };
 
-// The answer: the refusal number; the start; how many candidates there are, and these, zeros past the count.
+// The answer: the refusal number; the start; how many candidates there are, and these, zeros past the count. No Result:
+// `search_of` and the C interface speak of these fields.
 #[derive(Clone, Copy)]
 pub struct SearchAnswer {
     pub no: u64,
