@@ -15,6 +15,7 @@ pub struct Symbol {
 }
 
 // What goes out at an element: nothing, a reference of a kind, or a symbol of the codeword by its number.
+// The kind stays a number: it is the one of backward's answer, which C gets.
 #[derive(Clone, Copy)]
 pub enum Outgoing {
     Silent,
@@ -23,6 +24,7 @@ pub enum Outgoing {
 }
 
 // The answer for one element; the last case has the symbol's two numbers.
+// No Result and no enum of kinds: numbers_of, which promises cite, reads refusal and kind off it for C.
 #[derive(Clone, Copy)]
 pub enum Element {
     Refused(u64),

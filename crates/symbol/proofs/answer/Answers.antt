@@ -9,8 +9,5 @@ returns-in-Ours c =
     let a = k.args in
     ap sent_of (c.symbol_at-s.ensures ∙ picked a.bits.now a.level _ _ c.symbols.ensures) ∙ sym (ap (answer_of a.bits.now a.level) c.in-Ours.is)
 
-pub symbols-requires : goal.symbols-requires
-symbols-requires c = tt
-
 pub symbol_at-s-requires : goal.symbol_at-s-requires
 symbol_at-s-requires c = let k = c in k.requires.has _ c.in-Ours.is
