@@ -14,9 +14,3 @@ returns-then-more-eq0 c =
 
 pub nth-t-requires : goal.nth-t-requires
 nth-t-requires c = let s = c in (s.requires.0, s.requires.1, s.requires.2, s.requires.3, omega (arith, s.requires.4))
-
-pub first_and_last-requires : goal.first_and_last-requires
-first_and_last-requires c = c.requires
-
-pub returns : goal.returns
-returns c = c.first_and_last.ensures

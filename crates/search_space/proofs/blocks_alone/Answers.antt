@@ -37,9 +37,6 @@ overflow_add-first c =
     let a = c.args in
     omega (arith, (small a.p a.start a.x _ c.loop-i.i c.requires.2 c.requires.3 c.rank_of-first.ensures c.loop-i-test.true).1)
 
-pub overflow_sub-size : goal.overflow_sub-size
-overflow_sub-size c = omega (arith, c.requires.3.size.0)
-
 pub ends_at-requires : goal.ends_at-requires
 ends_at-requires c =
     let a = c.args in (
@@ -48,9 +45,6 @@ ends_at-requires c =
       c.requires.1,
       omega (arith, (small a.p a.start a.x _ c.loop-i.i c.requires.2 c.requires.3 c.rank_of-first.ensures c.loop-i-test.true).1),
     )
-
-pub bounds-list-i : goal.bounds-list-i
-bounds-list-i c = omega (arith, c.loop-i-test.true, c.requires.3.many)
 
 pub loop-i-preserved : goal.loop-i-preserved
 loop-i-preserved c =

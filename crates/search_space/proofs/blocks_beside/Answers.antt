@@ -82,17 +82,11 @@ loop-i-init c = (
       ap (select (remaining c.args.ms (allows c.args.p)) all_periods c.args.start) e,
 )
 
-pub overflow_sub-size : goal.overflow_sub-size
-overflow_sub-size c = omega (arith, c.requires.4.size.0)
-
 pub block-ends-requires : goal.block-ends-requires
 block-ends-requires c =
     let s = c in
     let l = c.loop-i in
     (s.requires.0, s.requires.1, s.requires.2, l.invariant.2.0, omega (arith, l.invariant.2.1, s.requires.4.size.1))
-
-pub bounds-list-i : goal.bounds-list-i
-bounds-list-i c = omega (arith, c.loop-i-test.true, c.requires.4.many)
 
 pub returns : goal.returns
 returns c = record { each = λ k h. c.loop-i.invariant.1 k (omega (arith, c.loop-i-test.false)) }

@@ -12,12 +12,3 @@ returns-then-more-eq0 c =
 
 pub at-first-requires : goal.at-first-requires
 at-first-requires c = (c.requires.0, c.requires.1, c.requires.2, omega (arith, c.requires.3))
-
-pub overflow_add-k : goal.overflow_add-k
-overflow_add-k c = omega (arith, c.requires.3)
-
-pub at-last-requires : goal.at-last-requires
-at-last-requires c = c.requires
-
-pub returns : goal.returns
-returns c = (c.at-first.ensures, c.at-last.ensures)

@@ -32,17 +32,8 @@ bounds-firsts-x c = c.requires.row
 pub bounds-lasts-x : goal.bounds-lasts-x
 bounds-lasts-x c = c.requires.row
 
-pub offset_bounds-x : goal.offset_bounds-x
-offset_bounds-x c = omega (arith, c.requires.row)
-
 pub loop-k-init : goal.loop-k-init
 loop-k-init c = (refl, λ i h. absurd (omega arith), λ i h l. get_or-replicate 15 i blank blank l)
-
-pub digit-i-requires : goal.digit-i-requires
-digit-i-requires c = omega (arith, c.loop-k-test.true, c.requires.count)
-
-pub digit-j-requires : goal.digit-j-requires
-digit-j-requires c = omega (arith, c.loop-k-test.true, c.requires.count)
 
 pub bounds-b-i : goal.bounds-b-i
 unfolding first_block last_block
@@ -65,9 +56,6 @@ overflow_mul-list c = omega (arith, small c.args.x c.requires c.loop-k.k _ _ c.l
 pub bounds-b-j : goal.bounds-b-j
 unfolding first_block last_block
 bounds-b-j c = omega (arith, (between c.args.x c.requires c.loop-k.k _ _ c.loop-k-test.true c.digit-i.ensures c.digit-j.ensures).1)
-
-pub bounds-list-k : goal.bounds-list-k
-bounds-list-k c = omega (arith, c.loop-k-test.true, c.requires.count)
 
 pub loop-k-preserved : goal.loop-k-preserved
 unfolding first_block last_block

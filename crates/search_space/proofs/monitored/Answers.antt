@@ -51,12 +51,6 @@ start_from-start-requires c =
 pub cut_of-x-requires : goal.cut_of-x-requires
 cut_of-x-requires c = (accepted c.before.before.before).fields.rmax
 
-pub all_blocks-requires : goal.all_blocks-requires
-all_blocks-requires c = (c.requires.0, c.start_from-start.ensures.1, c.cut_of-x.ensures.1)
-
-pub listed-list-requires : goal.listed-list-requires
-listed-list-requires c = c.cut_of-x.ensures.1
-
 pub returns : goal.returns
 returns c =
     let x = c in
