@@ -27,15 +27,9 @@ loop-k-init c =
           ∙ ap (λ (x : List Float). take (2 * a.start) a.out.now ++ x) (laid_none _),
     )
 
-pub overflow_add-start : goal.overflow_add-start
-overflow_add-start c = omega (arith, c.loop-k-test.true, c.requires.0, c.requires.1)
-
 pub written-requires : goal.written-requires
 written-requires c = λ t.
     omega (arith, c.loop-k.invariant.1, c.requires.3, rank_strict (has_in c.args.row) c.loop-k.k subcarriers (sym c.has-ours.ensures ∙ t) c.loop-k-test.true)
-
-pub put-requires : goal.put-requires
-put-requires c = omega (arith, c.loop-k-test.true, c.loop-k.invariant.0, c.requires.0, c.requires.1)
 
 -- the symbol after element k
 pub overflow_add-n : goal.overflow_add-n

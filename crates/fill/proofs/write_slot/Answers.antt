@@ -17,9 +17,6 @@ use Rattle.fill.proofs.write_slot.Goals as goal
 pub loop-l-init : goal.loop-l-init
 loop-l-init c = (c.requires.0, none_yet c.args.layout (c.args.slot * slot_elements) c.args.c, laid_none _)
 
-pub used_row-row-requires : goal.used_row-row-requires
-used_row-row-requires c = (c.requires.2, c.requires.1, c.loop-l-test.true)
-
 pub write_row-n-requires : goal.write_row-n-requires
 write_row-n-requires c =
     let a = c.args in
