@@ -71,7 +71,7 @@ fn write_slot(
     n
 }
 
-// The 336 numbers of transmitted subframe i; answers the refusal number, or 0.
+// The 336 numbers of transmitted subframe i; answers the refusal number, or 0: a number, since it is C's answer.
 pub fn fill_lent(
     c: CellConfig,
     si: &[u64],

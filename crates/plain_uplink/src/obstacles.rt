@@ -21,7 +21,8 @@ pub struct Obstacle {
     pub reach: u64,
 }
 
-// Of each window what stands in the way, if anything, and the ms that a group lasts.
+// Of each window what stands in the way, if anything, and the ms that a group lasts. No ghost field for AllSound:
+// obstacles_of (specs) builds the value without a proof.
 #[derive(Clone, Copy)]
 pub struct Obstacles {
     pub ms: u64,
