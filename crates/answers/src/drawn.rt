@@ -20,7 +20,7 @@ pub struct Shown {
 
 // The frame of the subframe, its number in it, and which of those sent it is.
 #[tactic(auto, unfolding(crate::specs::Drawn::place_text))]
-fn put_place(x: Shown, out: &mut String) -> Result<(), AllocError>
+fn write_place(x: Shown, out: &mut String) -> Result<(), AllocError>
     ensures { OnOk result (string_bytes out.new ≡ string_bytes out.old ++ place_text x) }
 {
     let frame = x.subframe / 10 % FRAMES;
@@ -33,11 +33,11 @@ fn put_place(x: Shown, out: &mut String) -> Result<(), AllocError>
 }
 
 // The title of a subframe, the legend and the columns.
-pub fn put_subframe(x: Shown, out: &mut String) -> Result<(), AllocError>
+pub fn write_subframe(x: Shown, out: &mut String) -> Result<(), AllocError>
     ensures { OnOk result (string_bytes out.new ≡ string_bytes out.old ++ subframe_text x) }
 {
     write!(out, "subframe {}: ", x.unit)?;
-    put_place(x, out)?;
+    write_place(x, out)?;
     write!(
         out,
         "subframe {}
@@ -50,30 +50,30 @@ o ours, N narrowband reference, C cell reference, # control region, . anything e
 }
 
 // The title of a slot, up to its codeword slot.
-pub fn put_slot(x: Shown, out: &mut String) -> Result<(), AllocError>
+pub fn write_slot(x: Shown, out: &mut String) -> Result<(), AllocError>
     ensures { OnOk result (string_bytes out.new ≡ string_bytes out.old ++ slot_text x) }
 {
     write!(out, "slot {}: from subframe {}, ", x.unit, x.subframe)?;
-    put_place(x, out)?;
+    write_place(x, out)?;
     write!(out, "slot {}", x.codeword)
 }
 
 // The resource unit of a slot's title.
-pub fn put_unit(unit: u64, out: &mut String) -> Result<(), AllocError>
+pub fn write_unit(unit: u64, out: &mut String) -> Result<(), AllocError>
     ensures { OnOk result (string_bytes out.new ≡ string_bytes out.old ++ unit_text unit) }
 {
     write!(out, ", resource unit {unit}")
 }
 
 // The granted tones, the last words of a slot's title.
-pub fn put_tones(first: u64, last: u64, out: &mut String) -> Result<(), AllocError>
+pub fn write_tones(first: u64, last: u64, out: &mut String) -> Result<(), AllocError>
     ensures { OnOk result (string_bytes out.new ≡ string_bytes out.old ++ tones_text first last) }
 {
     writeln!(out, ", tones {first} to {last}")
 }
 
 // The legend of a slot, and its columns.
-pub fn put_slot_columns(slot: u64, out: &mut String) -> Result<(), AllocError>
+pub fn write_slot_columns(slot: u64, out: &mut String) -> Result<(), AllocError>
     ensures { OnOk result (string_bytes out.new ≡ string_bytes out.old ++ slot_columns_text slot) }
 {
     write!(
@@ -83,7 +83,7 @@ pub fn put_slot_columns(slot: u64, out: &mut String) -> Result<(), AllocError>
 }
 
 // How many frames are past the last row.
-pub fn put_more(frames: u64, out: &mut String) -> Result<(), AllocError>
+pub fn write_more(frames: u64, out: &mut String) -> Result<(), AllocError>
     ensures { OnOk result (string_bytes out.new ≡ string_bytes out.old ++ more_text frames) }
 {
     writeln!(out, "more frames: {frames}")

@@ -24,8 +24,10 @@ mod drawn;
 mod tests;
 mod told;
 
-pub use drawn::{Shown, put_more, put_slot, put_slot_columns, put_subframe, put_tones, put_unit};
-pub use told::{put_help, put_meaning};
+pub use drawn::{
+    Shown, write_more, write_slot, write_slot_columns, write_subframe, write_tones, write_unit,
+};
+pub use told::{write_help, write_meaning};
 
 fn fault_word(fault: Fault) -> &'static str
     ensures { result.now ≡ fault_word fault }
@@ -57,20 +59,20 @@ fn cause_word(cause: Cause) -> &'static str
 }
 
 // A fault, by the numbers of its line and its word.
-pub fn put_fault(fault: Fault, line: u64, word: usize, out: &mut String) -> Result<(), AllocError>
+pub fn write_fault(fault: Fault, line: u64, word: usize, out: &mut String) -> Result<(), AllocError>
     ensures { OnOk result (string_bytes out.new ≡ string_bytes out.old ++ fault_text fault line word) }
 {
     writeln!(out, "error={} line={line} word={word}", fault_word(fault))
 }
 
-pub fn put_cell(no: u64, out: &mut String) -> Result<(), AllocError>
+pub fn write_cell(no: u64, out: &mut String) -> Result<(), AllocError>
     ensures { OnOk result (string_bytes out.new ≡ string_bytes out.old ++ cell_text no) }
 {
     writeln!(out, "no={no}")
 }
 
 // Bytes in hex, a minus for none.
-fn put_hex(bytes: &[u8], out: &mut String) -> Result<(), AllocError>
+fn write_hex(bytes: &[u8], out: &mut String) -> Result<(), AllocError>
     ensures { OnOk result (string_bytes out.new ≡ string_bytes out.old ++ hex_of bytes.now) }
 {
     if bytes.is_empty() {
@@ -82,15 +84,15 @@ fn put_hex(bytes: &[u8], out: &mut String) -> Result<(), AllocError>
     Ok(())
 }
 
-pub fn put_bitmap(no: u64, part: &[u8], out: &mut String) -> Result<(), AllocError>
+pub fn write_bitmap(no: u64, part: &[u8], out: &mut String) -> Result<(), AllocError>
     ensures { OnOk result (string_bytes out.new ≡ string_bytes out.old ++ bitmap_text no part.now) }
 {
     write!(out, "no={no} part=")?;
-    put_hex(part, out)?;
+    write_hex(part, out)?;
     writeln!(out)
 }
 
-pub fn put_downlink_plan(x: DownlinkPlan, out: &mut String) -> Result<(), AllocError>
+pub fn write_downlink_plan(x: DownlinkPlan, out: &mut String) -> Result<(), AllocError>
     ensures { OnOk result (string_bytes out.new ≡ string_bytes out.old ++ downlink_plan_text x) }
 {
     let DownlinkPlan {
@@ -106,7 +108,7 @@ pub fn put_downlink_plan(x: DownlinkPlan, out: &mut String) -> Result<(), AllocE
     )
 }
 
-pub fn put_uplink_plan(x: UplinkPlan, out: &mut String) -> Result<(), AllocError>
+pub fn write_uplink_plan(x: UplinkPlan, out: &mut String) -> Result<(), AllocError>
     ensures { OnOk result (string_bytes out.new ≡ string_bytes out.old ++ uplink_plan_text x) }
 {
     let UplinkPlan {
@@ -124,7 +126,7 @@ pub fn put_uplink_plan(x: UplinkPlan, out: &mut String) -> Result<(), AllocError
     )
 }
 
-pub fn put_downlink_place(x: DownlinkPlace, out: &mut String) -> Result<(), AllocError>
+pub fn write_downlink_place(x: DownlinkPlace, out: &mut String) -> Result<(), AllocError>
     ensures { OnOk result (string_bytes out.new ≡ string_bytes out.old ++ downlink_place_text x) }
 {
     let DownlinkPlace {
@@ -138,7 +140,7 @@ pub fn put_downlink_place(x: DownlinkPlace, out: &mut String) -> Result<(), Allo
     writeln!(out, "no={no} t={t} slot={slot} l={l} k={k} symbol={symbol}")
 }
 
-pub fn put_uplink_place(x: UplinkPlace, out: &mut String) -> Result<(), AllocError>
+pub fn write_uplink_place(x: UplinkPlace, out: &mut String) -> Result<(), AllocError>
     ensures { OnOk result (string_bytes out.new ≡ string_bytes out.old ++ uplink_place_text x) }
 {
     let UplinkPlace {
@@ -151,14 +153,14 @@ pub fn put_uplink_place(x: UplinkPlace, out: &mut String) -> Result<(), AllocErr
     writeln!(out, "no={no} slot={slot} l={l} k={k} symbol={symbol}")
 }
 
-pub fn put_cause(x: CauseAnswer, out: &mut String) -> Result<(), AllocError>
+pub fn write_cause(x: CauseAnswer, out: &mut String) -> Result<(), AllocError>
     ensures { OnOk result (string_bytes out.new ≡ string_bytes out.old ++ cause_text x) }
 {
     let CauseAnswer { no, cause } = x;
     writeln!(out, "no={no} cause={}", cause_word(cause))
 }
 
-pub fn put_count(x: ElementCount, out: &mut String) -> Result<(), AllocError>
+pub fn write_count(x: ElementCount, out: &mut String) -> Result<(), AllocError>
     ensures { OnOk result (string_bytes out.new ≡ string_bytes out.old ++ count_text x) }
 {
     let ElementCount { no, e } = x;
@@ -166,7 +168,7 @@ pub fn put_count(x: ElementCount, out: &mut String) -> Result<(), AllocError>
 }
 
 // The candidates before the count.
-fn put_candidates(x: SearchAnswer, out: &mut String) -> Result<(), AllocError>
+fn write_candidates(x: SearchAnswer, out: &mut String) -> Result<(), AllocError>
     ensures { OnOk result (string_bytes out.new ≡ string_bytes out.old ++ candidates_text x) }
 {
     let listed = x.list.len().min(x.count as usize);
@@ -177,15 +179,15 @@ fn put_candidates(x: SearchAnswer, out: &mut String) -> Result<(), AllocError>
     Ok(())
 }
 
-pub fn put_search(x: SearchAnswer, out: &mut String) -> Result<(), AllocError>
+pub fn write_search(x: SearchAnswer, out: &mut String) -> Result<(), AllocError>
     ensures { OnOk result (string_bytes out.new ≡ string_bytes out.old ++ search_text x) }
 {
     write!(out, "no={} start={} count={}", x.no, x.start, x.count)?;
-    put_candidates(x, out)?;
+    write_candidates(x, out)?;
     writeln!(out)
 }
 
-fn put_back_values(x: Back, out: &mut String) -> Result<(), AllocError>
+fn write_back_values(x: Back, out: &mut String) -> Result<(), AllocError>
     ensures { OnOk result (string_bytes out.new ≡ string_bytes out.old ++ back_then x []) }
 {
     let Back {
@@ -201,23 +203,28 @@ fn put_back_values(x: Back, out: &mut String) -> Result<(), AllocError>
     )
 }
 
-pub fn put_back(x: Back, out: &mut String) -> Result<(), AllocError>
+pub fn write_back(x: Back, out: &mut String) -> Result<(), AllocError>
     ensures { OnOk result (string_bytes out.new ≡ string_bytes out.old ++ back_then x (codes "\n")) }
 {
-    put_back_values(x, out)?;
+    write_back_values(x, out)?;
     writeln!(out)
 }
 
-pub fn put_downlink_back(x: DownlinkBack, out: &mut String) -> Result<(), AllocError>
+pub fn write_downlink_back(x: DownlinkBack, out: &mut String) -> Result<(), AllocError>
     ensures { OnOk result (string_bytes out.new ≡ string_bytes out.old ++ downlink_back_text x) }
 {
     let DownlinkBack { back, cause } = x;
-    put_back_values(back, out)?;
+    write_back_values(back, out)?;
     writeln!(out, " cause={}", cause_word(cause))
 }
 
 // A skipped subframe of a picture's last line, and why.
-pub fn put_skipped(is_first: bool, t: u64, cause: Cause, out: &mut String) -> Result<(), AllocError>
+pub fn write_skipped(
+    is_first: bool,
+    t: u64,
+    cause: Cause,
+    out: &mut String,
+) -> Result<(), AllocError>
     ensures { OnOk result (string_bytes out.new ≡ string_bytes out.old ++ skipped_text is_first t cause) }
 {
     let comma = if is_first { "" } else { "," };
@@ -225,13 +232,13 @@ pub fn put_skipped(is_first: bool, t: u64, cause: Cause, out: &mut String) -> Re
 }
 
 // How many more were skipped than are listed.
-pub fn put_unlisted(n: u64, out: &mut String) -> Result<(), AllocError>
+pub fn write_unlisted(n: u64, out: &mut String) -> Result<(), AllocError>
     ensures { OnOk result (string_bytes out.new ≡ string_bytes out.old ++ unlisted_text n) }
 {
     writeln!(out, " and {n} more")
 }
 
-pub fn put_uplink_step(x: WalkPlace, p: u64, out: &mut String) -> Result<(), AllocError>
+pub fn write_uplink_step(x: WalkPlace, p: u64, out: &mut String) -> Result<(), AllocError>
     ensures { OnOk result (string_bytes out.new ≡ string_bytes out.old ++ uplink_step_text x p) }
 {
     let WalkPlace {
@@ -249,7 +256,7 @@ pub fn put_uplink_step(x: WalkPlace, p: u64, out: &mut String) -> Result<(), All
     )
 }
 
-pub fn put_downlink_step(x: WalkPlace, p: u64, out: &mut String) -> Result<(), AllocError>
+pub fn write_downlink_step(x: WalkPlace, p: u64, out: &mut String) -> Result<(), AllocError>
     ensures { OnOk result (string_bytes out.new ≡ string_bytes out.old ++ downlink_step_text x p) }
 {
     let WalkPlace {
@@ -267,7 +274,7 @@ pub fn put_downlink_step(x: WalkPlace, p: u64, out: &mut String) -> Result<(), A
     )
 }
 
-pub fn put_element(x: ElementNumbers, out: &mut String) -> Result<(), AllocError>
+pub fn write_element(x: ElementNumbers, out: &mut String) -> Result<(), AllocError>
     ensures { OnOk result (string_bytes out.new ≡ string_bytes out.old ++ element_text x) }
 {
     let re = text::pattern_of(x.re);
@@ -276,7 +283,7 @@ pub fn put_element(x: ElementNumbers, out: &mut String) -> Result<(), AllocError
 }
 
 // The patterns of a fill's numbers.
-pub fn put_fill(no: u64, numbers: &[f32], out: &mut String) -> Result<(), AllocError>
+pub fn write_fill(no: u64, numbers: &[f32], out: &mut String) -> Result<(), AllocError>
     ensures { OnOk result (string_bytes out.new ≡ string_bytes out.old ++ fill_text no numbers.now) }
 {
     write!(out, "no={no}")?;

@@ -5,12 +5,12 @@ use std::test::Fail;
 #[test]
 fn one_line(rt: HostRuntime) -> Result<(), Fail> {
     let mut out = String::new(rt.alloc());
-    put_fault(Fault::Name, 6, 4, &mut out)?;
-    put_cell(24, &mut out)?;
-    put_bitmap(0, &[0x0f, 0xa0], &mut out)?;
+    write_fault(Fault::Name, 6, 4, &mut out)?;
+    write_cell(24, &mut out)?;
+    write_bitmap(0, &[0x0f, 0xa0], &mut out)?;
     let cause = Cause::Sib1;
-    put_cause(CauseAnswer { no: 0, cause }, &mut out)?;
-    put_count(ElementCount { no: 0, e: 152 }, &mut out)?;
+    write_cause(CauseAnswer { no: 0, cause }, &mut out)?;
+    write_count(ElementCount { no: 0, e: 152 }, &mut out)?;
     assert_eq!(rt;
         out.as_str(),
         "error=name line=6 word=4\nno=24\nno=0 part=0fa0\nno=0 cause=sib1\nno=0 e=152\n"
@@ -28,7 +28,7 @@ fn grants(rt: HostRuntime) -> Result<(), Fail> {
         copies: 1,
         places: 1280,
     };
-    put_downlink_plan(plan, &mut out)?;
+    write_downlink_plan(plan, &mut out)?;
     let place = UplinkPlace {
         no: 0,
         slot: 5,
@@ -36,7 +36,7 @@ fn grants(rt: HostRuntime) -> Result<(), Fail> {
         k: 11,
         symbol: 7,
     };
-    put_uplink_place(place, &mut out)?;
+    write_uplink_place(place, &mut out)?;
     assert_eq!(rt;
         out.as_str(),
         "no=0 first=21 last=32 copies=1 places=1280\nno=0 slot=5 l=2 k=11 symbol=7\n"
@@ -47,10 +47,10 @@ fn grants(rt: HostRuntime) -> Result<(), Fail> {
 #[test]
 fn lists(rt: HostRuntime) -> Result<(), Fail> {
     let mut out = String::new(rt.alloc());
-    put_fill(0, &[42.0], &mut out)?;
-    put_skipped(true, 5, Cause::Npss, &mut out)?;
-    put_skipped(false, 9, Cause::Nsss, &mut out)?;
-    put_unlisted(3, &mut out)?;
+    write_fill(0, &[42.0], &mut out)?;
+    write_skipped(true, 5, Cause::Npss, &mut out)?;
+    write_skipped(false, 9, Cause::Nsss, &mut out)?;
+    write_unlisted(3, &mut out)?;
     let one = Candidate {
         first: 8,
         r: 1,
@@ -62,7 +62,7 @@ fn lists(rt: HostRuntime) -> Result<(), Fail> {
         count: 1,
         list: [one; 15],
     };
-    put_search(search, &mut out)?;
+    write_search(search, &mut out)?;
     assert_eq!(rt;
         out.as_str(),
         "no=0 42280000\n 5 npss, 9 nsss and 3 more\nno=0 start=8 count=1 8,1,9\n"
@@ -73,9 +73,9 @@ fn lists(rt: HostRuntime) -> Result<(), Fail> {
 #[test]
 fn told(rt: HostRuntime) -> Result<(), Fail> {
     let mut out = String::new(rt.alloc());
-    put_help(Some(b"control"), &mut out)?;
-    put_meaning(25, &mut out)?;
-    put_meaning(26, &mut out)?;
+    write_help(Some(b"control"), &mut out)?;
+    write_meaning(25, &mut out)?;
+    write_meaning(26, &mut out)?;
     assert_eq!(rt;
         out.as_str(),
         "no=0
@@ -98,10 +98,10 @@ fn drawn(rt: HostRuntime) -> Result<(), Fail> {
         sent: 4,
         codeword: 2,
     };
-    put_slot(shown, &mut out)?;
-    put_unit(1, &mut out)?;
-    put_tones(0, 11, &mut out)?;
-    put_more(12, &mut out)?;
+    write_slot(shown, &mut out)?;
+    write_unit(1, &mut out)?;
+    write_tones(0, 11, &mut out)?;
+    write_more(12, &mut out)?;
     assert_eq!(rt;
         out.as_str(),
         "slot 10251: from subframe 10251, frame 1, subframe 1 of it, i=3 of 4 transmitted, codeword slot 2, \
@@ -124,7 +124,7 @@ fn places(rt: HostRuntime) -> Result<(), Fail> {
         size: 1152,
         order: 2,
     };
-    put_uplink_plan(plan, &mut out)?;
+    write_uplink_plan(plan, &mut out)?;
     let place = DownlinkPlace {
         no: 0,
         t: 21,
@@ -133,14 +133,14 @@ fn places(rt: HostRuntime) -> Result<(), Fail> {
         k: 4,
         symbol: 5,
     };
-    put_downlink_place(place, &mut out)?;
+    write_downlink_place(place, &mut out)?;
     let element = ElementNumbers {
         no: 0,
         state: 4,
         re: 1.0,
         im: -2.0,
     };
-    put_element(element, &mut out)?;
+    write_element(element, &mut out)?;
     assert_eq!(rt;
         out.as_str(),
         "no=0 first=20 last=35 copies=2 places=2304 size=1152 order=2
@@ -161,9 +161,9 @@ fn steps(rt: HostRuntime) -> Result<(), Fail> {
         position: 7,
         kind: 0,
     };
-    put_back(back, &mut out)?;
+    write_back(back, &mut out)?;
     let cause = Cause::Message;
-    put_downlink_back(DownlinkBack { back, cause }, &mut out)?;
+    write_downlink_back(DownlinkBack { back, cause }, &mut out)?;
     let place = WalkPlace {
         no: 0,
         finished: 0,
@@ -173,8 +173,8 @@ fn steps(rt: HostRuntime) -> Result<(), Fail> {
         k: 4,
         symbol: 5,
     };
-    put_uplink_step(place, 8, &mut out)?;
-    put_downlink_step(place, 8, &mut out)?;
+    write_uplink_step(place, 8, &mut out)?;
+    write_downlink_step(place, 8, &mut out)?;
     assert_eq!(rt;
         out.as_str(),
         "no=0 ours=1 symbol=6 p=7 kind=0
@@ -196,8 +196,8 @@ fn columns(rt: HostRuntime) -> Result<(), Fail> {
         sent: 8,
         codeword: 0,
     };
-    put_subframe(shown, &mut out)?;
-    put_slot_columns(41, &mut out)?;
+    write_subframe(shown, &mut out)?;
+    write_slot_columns(41, &mut out)?;
     assert_eq!(rt;
         out.as_str(),
         "subframe 21: frame 2, subframe 1 of it, i=0 of 8 transmitted, codeword subframe 0

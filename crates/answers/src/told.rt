@@ -121,7 +121,7 @@ const REFUSALS: &str = "0 accepted
 ";
 
 // The lines of help that begin with a word and a space.
-fn put_lines_of(word: &[u8], out: &mut String) -> Result<(), AllocError> {
+fn write_lines_of(word: &[u8], out: &mut String) -> Result<(), AllocError> {
     for line in HELP.lines() {
         if let Some((first, _)) = line.split_once(' ') {
             if first.as_bytes() == word {
@@ -133,10 +133,10 @@ fn put_lines_of(word: &[u8], out: &mut String) -> Result<(), AllocError> {
 }
 
 // Help on a word, on all without one.
-pub fn put_help(word: Option<&[u8]>, out: &mut String) -> Result<(), AllocError> {
+pub fn write_help(word: Option<&[u8]>, out: &mut String) -> Result<(), AllocError> {
     writeln!(out, "no=0")?;
     match word {
-        Some(word) => put_lines_of(word, out),
+        Some(word) => write_lines_of(word, out),
         None => write!(out, "{HELP}"),
     }
 }
@@ -151,7 +151,7 @@ fn words_of(no: u64) -> &'static str {
 }
 
 // The words of a refusal number.
-pub fn put_meaning(no: u64, out: &mut String) -> Result<(), AllocError>
+pub fn write_meaning(no: u64, out: &mut String) -> Result<(), AllocError>
     ensures { OnOk result ((words : List ℕ) × (string_bytes out.new ≡ string_bytes out.old ++ meaning_text no words)) }
 {
     writeln!(out, "no={no} meaning={}", words_of(no))

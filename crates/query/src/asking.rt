@@ -7,19 +7,19 @@ use std::alloc::{AllocError, Global};
 fn bitmap(v: &Values, out: &mut String) -> Result<(), AllocError> {
     let c = v.cell();
     let no = nbiot::judge(c, &v.anchor, &v.other);
-    answers::put_bitmap(no, nbiot::bitmap(c, &v.anchor, &v.other), out)
+    answers::write_bitmap(no, nbiot::bitmap(c, &v.anchor, &v.other), out)
 }
 
 fn search(v: &Values, out: &mut String) -> Result<(), AllocError> {
     let x = nbiot::search(v.cell(), &v.anchor, &v.other, v.search_space());
-    answers::put_search(x, out)
+    answers::write_search(x, out)
 }
 
 fn plan(asked: Asked, out: &mut String) -> Result<(), AllocError> {
     if asked.kind.is_uplink() {
-        answers::put_uplink_plan(asked.plan_slots(), out)
+        answers::write_uplink_plan(asked.plan_slots(), out)
     } else {
-        answers::put_downlink_plan(asked.plan(), out)
+        answers::write_downlink_plan(asked.plan(), out)
     }
 }
 
@@ -27,9 +27,9 @@ fn forward(asked: Asked, out: &mut String) -> Result<(), AllocError> {
     let p = asked.values.p;
     let engine = asked.values.engine();
     if asked.kind.is_uplink() {
-        answers::put_uplink_place(asked.forward_slots(engine, p), out)
+        answers::write_uplink_place(asked.forward_slots(engine, p), out)
     } else {
-        answers::put_downlink_place(asked.forward(engine, p), out)
+        answers::write_downlink_place(asked.forward(engine, p), out)
     }
 }
 
@@ -44,15 +44,15 @@ fn backward(asked: Asked, out: &mut String) -> Result<(), AllocError> {
                 l,
                 k,
             };
-            answers::put_back(asked.standing(x), out)
+            answers::write_back(asked.standing(x), out)
         }
         Kind::Npbch | Kind::Sib1 => {
             let x = Place { t: v.t, slot, l, k };
-            answers::put_back(asked.standing(x), out)
+            answers::write_back(asked.standing(x), out)
         }
         Kind::Down | Kind::Control => {
             let x = Place { t: v.t, slot, l, k };
-            answers::put_downlink_back(asked.backward(x), out)
+            answers::write_downlink_back(asked.backward(x), out)
         }
     }
 }
@@ -62,9 +62,9 @@ fn step(kind: Kind, v: &mut Values, out: &mut String) -> Result<(), AllocError> 
     let s = nbiot::step_value(v.walk(kind), &v.anchor, &v.other, v.engine());
     v.p = s.walk.p;
     if kind.is_uplink() {
-        answers::put_uplink_step(s.answer, v.p, out)
+        answers::write_uplink_step(s.answer, v.p, out)
     } else {
-        answers::put_downlink_step(s.answer, v.p, out)
+        answers::write_downlink_step(s.answer, v.p, out)
     }
 }
 
@@ -83,7 +83,7 @@ fn fill(alloc: Global, v: &Values, out: &mut String) -> Result<(), AllocError> {
         v.level(),
         &mut room,
     );
-    answers::put_fill(no, &room, out)
+    answers::write_fill(no, &room, out)
 }
 
 fn element(v: &Values, out: &mut String) -> Result<(), AllocError> {
@@ -93,7 +93,7 @@ fn element(v: &Values, out: &mut String) -> Result<(), AllocError> {
     let e = nbiot::element(
         c, &v.anchor, &v.other, g, v.i, v.slot, v.l, v.k, &v.data, level,
     );
-    answers::put_element(symbol::numbers(e), out)
+    answers::write_element(symbol::numbers(e), out)
 }
 
 // Asks a question of the values and writes its answer.
@@ -106,16 +106,16 @@ pub fn ask(
     let v = &*values;
     match question {
         Question::Set => Ok(()),
-        Question::Cell => answers::put_cell(nbiot::judge(v.cell(), &v.anchor, &v.other), out),
+        Question::Cell => answers::write_cell(nbiot::judge(v.cell(), &v.anchor, &v.other), out),
         Question::Bitmap => bitmap(v, out),
         Question::Cause => {
-            answers::put_cause(nbiot::cause(v.cell(), &v.anchor, &v.other, v.t), out)
+            answers::write_cause(nbiot::cause(v.cell(), &v.anchor, &v.other, v.t), out)
         }
-        Question::Count => answers::put_count(nbiot::count(v.cell(), &v.anchor, &v.other), out),
+        Question::Count => answers::write_count(nbiot::count(v.cell(), &v.anchor, &v.other), out),
         Question::Search => search(v, out),
         Question::Fill => fill(alloc, v, out),
         Question::Element => element(v, out),
-        Question::Meaning => answers::put_meaning(v.no, out),
+        Question::Meaning => answers::write_meaning(v.no, out),
         Question::Plan(kind) => plan(Asked { kind, values: v }, out),
         Question::Forward(kind) => forward(Asked { kind, values: v }, out),
         Question::Backward(kind) => backward(Asked { kind, values: v }, out),

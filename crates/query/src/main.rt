@@ -73,10 +73,10 @@ impl Session {
         self.lines = self.lines.saturating_add(1);
         let line = questions::without_return(&self.line);
         let out = &mut self.answers;
-        match questions::read_line(alloc, line, &mut self.values)? {
+        match questions::take_line(alloc, line, &mut self.values)? {
             Line::Nothing => {}
-            Line::Wrong(fault, word) => answers::put_fault(fault, self.lines, word, out)?,
-            Line::Help(word) => answers::put_help(word, out)?,
+            Line::Wrong(fault, word) => answers::write_fault(fault, self.lines, word, out)?,
+            Line::Help(word) => answers::write_help(word, out)?,
             Line::Asked(question) => asking::ask(alloc, question, &mut self.values, out)?,
         }
         self.line.clear();

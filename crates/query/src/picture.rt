@@ -64,7 +64,7 @@ fn put_end(skipped: u64, out: &mut String) -> Result<(), AllocError> {
     } else if skipped <= LISTED {
         writeln!(out)
     } else {
-        answers::put_unlisted(skipped - LISTED, out)
+        answers::write_unlisted(skipped - LISTED, out)
     }
 }
 
@@ -133,7 +133,7 @@ impl<'a> Asked<'a> {
         for before in t..last.min(t.saturating_add(LISTED)) {
             let now = before + 1;
             let x = nbiot::cause(c, &v.anchor, &v.other, now);
-            answers::put_skipped(before == t, now, x.cause, out)?;
+            answers::write_skipped(before == t, now, x.cause, out)?;
         }
         Ok(())
     }
@@ -211,18 +211,18 @@ impl<'a> Asked<'a> {
 
     // A slot, whose first granted tone is named.
     fn put_slot(self, x: Shown, width: u64, tone: u64, out: &mut String) -> Result<(), AllocError> {
-        answers::put_slot(x, out)?;
+        answers::write_slot(x, out)?;
         if self.kind == Kind::Up {
-            answers::put_unit(x.codeword / slots_in_unit(width), out)?;
+            answers::write_unit(x.codeword / slots_in_unit(width), out)?;
         }
-        answers::put_tones(tone, self.last_tone(width, tone), out)?;
-        answers::put_slot_columns(x.unit, out)?;
+        answers::write_tones(tone, self.last_tone(width, tone), out)?;
+        answers::write_slot_columns(x.unit, out)?;
         self.put_rows(x.unit, out)
     }
 
     // A subframe, and what is skipped after it by a grant.
     fn put_subframe(self, x: Shown, sent: Sent, out: &mut String) -> Result<(), AllocError> {
-        answers::put_subframe(x, out)?;
+        answers::write_subframe(x, out)?;
         self.put_rows(x.unit, out)?;
         if self.kind.is_broadcast() {
             return Ok(());
@@ -261,7 +261,7 @@ pub fn put_picture(asked: Asked, out: &mut String) -> Result<(), AllocError> {
     let places = asked.places_of(width);
     let sent = Sent { places, width };
     let place = asked.forward(Engine::Quick, sent.first_position(asked.values.i));
-    answers::put_cell(place.no, out)?;
+    answers::write_cell(place.no, out)?;
     if place.no != 0 {
         return Ok(());
     }

@@ -212,13 +212,13 @@ impl<'a> Course<'a> {
         if frames <= ROWS {
             return Ok(());
         }
-        answers::put_more(frames - ROWS, out)
+        answers::write_more(frames - ROWS, out)
     }
 }
 
 pub fn put_timeline(asked: Asked, out: &mut String) -> Result<(), AllocError> {
     let x = asked.plan();
-    answers::put_cell(x.no, out)?;
+    answers::write_cell(x.no, out)?;
     if x.no != 0 {
         return Ok(());
     }

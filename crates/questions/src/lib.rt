@@ -6,5 +6,5 @@ mod reading;
 mod values;
 
 pub use question::{Fault, Kind, Question};
-pub use reading::{Line, read_line, without_return};
+pub use reading::{Line, take_line, without_return};
 pub use values::Values;

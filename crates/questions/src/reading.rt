@@ -184,7 +184,7 @@ fn keep_words<'a>(
 }
 
 // Reads a line, and keeps its values if it asks a question.
-pub fn read_line<'a>(
+pub fn take_line<'a>(
     alloc: Global,
     line: &'a [u8],
     values: &mut Values,
@@ -234,7 +234,7 @@ mod tests {
             (b"plan up ", Line::Wrong(Fault::Value, 3)),
         ];
         for (line, read) in cases {
-            let answer = read_line(rt.alloc(), line, &mut values)?;
+            let answer = take_line(rt.alloc(), line, &mut values)?;
             assert!(rt; answer == read);
         }
         Ok(())
@@ -258,7 +258,7 @@ mod tests {
             (b"set n=1 m1=1,2", Fault::Number),
         ];
         for (line, fault) in cases {
-            let answer = read_line(rt.alloc(), line, &mut values)?;
+            let answer = take_line(rt.alloc(), line, &mut values)?;
             assert!(rt; answer == Line::Wrong(fault, 3));
         }
         assert_eq!(rt; values.n, 0);
@@ -270,7 +270,7 @@ mod tests {
         let mut values = Values::new(rt.alloc());
         let line =
             b"plan up n=1 n=7 w4=1,2,3,4 m2=5,6,7 anchor=0aFF level=3f800000 room=1024 other=-";
-        let answer = read_line(rt.alloc(), line, &mut values)?;
+        let answer = take_line(rt.alloc(), line, &mut values)?;
         assert!(rt; answer == Line::Asked(Question::Plan(Kind::Up)));
         assert_eq!(rt; values.n, 7);
         assert_eq!(rt; values.windows[3].tone, 4);

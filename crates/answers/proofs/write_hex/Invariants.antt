@@ -1,7 +1,7 @@
 use Rattle.std.proofs.Common.{◌≡◌, ◌++◌, take, string_bytes}
 use Rattle.std.specs.List.{flat_map}
 use Rattle.answers.specs.Line.{hex}
-use Rattle.answers.proofs.put_hex.Given as goal
+use Rattle.answers.proofs.write_hex.Given as goal
 
 abbrev pub invariant-loop-b : goal.invariant-loop-b
 invariant-loop-b l = string_bytes l.out ≡ string_bytes l.initial.out ++ flat_map (λ x. hex 2 x) (take l.b-index l.bytes)
