@@ -105,8 +105,10 @@ fn outgoing(layout: Layout, first: u64, slot: u64, l: u64, k: u64) -> Outgoing
     let at = elements::use_at(layout, 0, Grid::SUBCARRIERS, slot, l, k);
     match at {
         ElementUse::Used(e) => Outgoing::Ours(first + e),
-        ElementUse::Unused(ElementKind::Plain) => Outgoing::Silent,
-        ElementUse::Unused(kind) => Outgoing::Reference(kind.number()),
+        ElementUse::Unused(kind) => match kind {
+            ElementKind::Plain => Outgoing::Silent,
+            _ => Outgoing::Reference(kind.number()),
+        },
     }
 }
 

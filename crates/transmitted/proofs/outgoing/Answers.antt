@@ -1,11 +1,14 @@
-use mathlib.Core.Bool.{true, false}
-use mathlib.Core.Path.{◌≡◌, sym, ◌∙◌}
+use mathlib.Core.Bool.{true}
+use mathlib.Core.Path.{◌≡◌, sym, ap, refl, ◌∙◌}
 use native.Mathlib.Omega.{arith}
 use Rattle.grid.specs.Grid.{subcarriers, element_of}
-use Rattle.elements.specs.Elements.{used, kind_of, number_of}
+use Rattle.elements.specs.declared.ElementKind.{ElementKind}
+use Rattle.elements.specs.declared.ElementKind.TheVariants.{Plain, Narrowband, Cell}
+use Rattle.elements.specs.Elements.{used, number_of}
+use Rattle.elements.specs.Scaffold.{kind_number}
 use Rattle.elements.proofs.Laws.{whole_part, used_listed, count_le, use_used, use_unused}
 use Rattle.transmitted.proofs.Going.{goes_ours, goes_silent, goes_reference}
-use Rattle.transmitted.proofs.outgoing.Goals.{In-Used, In-Unused}
+use Rattle.transmitted.proofs.outgoing.Goals.{In-Used}
 use Rattle.transmitted.proofs.outgoing.Goals as goal
 
 ours : (c : In-Used) →
@@ -16,13 +19,10 @@ ours c =
     let a = c.args in
     use_used a.layout 0 subcarriers (element_of a.slot a.l a.k) c.in-Used.e (sym c.use_at-at.ensures ∙ c.in-Used.is)
 
-other : (c : In-Unused) →
-    let a = c.args in
-    let x = element_of a.slot a.l a.k in
-    (used a.layout 0 subcarriers x ≡ false) × (kind_of a.layout x ≡ c.in-Unused.kind)
-other c =
-    let a = c.args in
-    use_unused a.layout 0 subcarriers (element_of a.slot a.l a.k) c.in-Unused.kind (sym c.use_at-at.ensures ∙ c.in-Unused.is)
+no_plain : (kind : ElementKind) → (kind ≡ Plain → ⊥) → kind_number kind ≡ 0 → ⊥
+no_plain Plain h e = h refl
+no_plain Narrowband h e = omega (arith, e)
+no_plain Cell h e = omega (arith, e)
 
 pub use_at-at-requires : goal.use_at-at-requires
 use_at-at-requires c = (c.requires.0, whole_part, c.requires.2, c.requires.3, c.requires.4)
@@ -32,11 +32,18 @@ overflow_add-result c =
     let a = c.args in
     omega (arith, c.requires.1, (ours c).1, (used_listed a.layout 0 subcarriers).below (element_of a.slot a.l a.k) (ours c).0, count_le a.layout 0 subcarriers)
 
-pub returns-then-kind-eq0 : goal.returns-then-kind-eq0
-returns-then-kind-eq0 c = goes_silent _ _ _ _ (other c.before).0 (sym (other c.before).1) c.if-kind-eq0.true
-
 pub returns-in-Used : goal.returns-in-Used
 returns-in-Used c = goes_ours _ _ _ _ (ours c).0 (sym (ours c).1)
 
-pub returns-else-kind-eq0 : goal.returns-else-kind-eq0
-returns-else-kind-eq0 c = goes_reference _ _ _ _ (other c.before).0 (sym (other c.before).1) c.if-kind-eq0.false
+pub returns-in-Plain : goal.returns-in-Plain
+returns-in-Plain c =
+    let a = c.args in
+    let o = use_unused a.layout 0 subcarriers (element_of a.slot a.l a.k) _ (sym c.use_at-at.ensures ∙ c.in-Unused.is) in
+    goes_silent _ _ _ _ o.0 (sym o.1) (ap kind_number c.in-Plain.is)
+
+pub returns-in_default : goal.returns-in_default
+returns-in_default c =
+    let a = c.args in
+    let o = use_unused a.layout 0 subcarriers (element_of a.slot a.l a.k) _ (sym c.use_at-at.ensures ∙ c.in-Unused.is) in
+    goes_reference _ _ _ _ o.0 (c.number.ensures ∙ sym o.1)
+    (λ z. no_plain c.in-Unused.kind c.in_default.not-Plain (sym c.number.ensures ∙ z))
