@@ -8,8 +8,8 @@ ghost use Rattle.grid.specs.Grid.{subcarrier_of, uplink_subcarriers};
 mod tables;
 
 pub use tables::{
-    byte, downlink_copies, downlink_delay, is_repetition, length, single_tone_order,
-    single_tone_row, size, up_to_four, uplink_copies, uplink_delay,
+    downlink_copies, downlink_delay, is_repetition, length, single_tone_order, single_tone_row,
+    size, up_to_four, uplink_copies, uplink_delay,
 };
 
 // The last subframe that a grant may name.

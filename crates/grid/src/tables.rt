@@ -29,13 +29,6 @@ const SINGLE_TONE_ROWS: [u8; 5] = [0, 2, 1, 3, 4];
 
 const SINGLE_TONE_ORDERS: [u8; 5] = [1, 1, 2, 2, 2];
 
-// An entry as a wider number.
-pub fn byte(x: u8) -> u64
-    ensures { result ≡ x }
-{
-    u64::from(x)
-}
-
 // Subframes of an NPDSCH, resource units of an NPUSCH.
 pub fn length(field: u64) -> u64
     requires { field < 8 }

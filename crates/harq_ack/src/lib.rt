@@ -56,8 +56,8 @@ fn delay(spacing: u64, field: u64) -> u64
     let i = (field / 4) as usize;
     numerology::by_spacing(
         spacing,
-        grid::byte(NARROW_DELAYS[i]),
-        grid::byte(WIDE_DELAYS[i]),
+        u64::from(NARROW_DELAYS[i]),
+        u64::from(WIDE_DELAYS[i]),
     )
 }
 

@@ -87,7 +87,7 @@ fn doubled_period(s: SearchSpace) -> u64
     ensures { (result ≡ doubled_period s) × (result ≤ 2 ^ 18) }
 {
     let g = s.g as usize;
-    s.rmax * grid::byte(DOUBLED_G[g])
+    s.rmax * u64::from(DOUBLED_G[g])
 }
 
 // The first number from x on that is `part` mod `period`.

@@ -8,8 +8,5 @@ use Rattle.harq_ack.proofs.delay.Goals as goal
 pub returns : goal.returns
 unfolding delay_of
 returns c =
-    let wide = c in
-    let narrow = wide in
-    let s = narrow in
     c.by_spacing.ensures
-    ∙ ap₂ (λ (x y : ℕ). by_spacing s.args.spacing x y) (narrow.byte.ensures ∙ by_fours_lem s.args.field s.requires) wide.byte-2.ensures
+    ∙ ap₂ (λ (x y : ℕ). by_spacing c.args.spacing x y) (c.from.ensures ∙ by_fours_lem c.args.field c.requires) c.from-2.ensures
