@@ -6,7 +6,7 @@ ghost use Rattle.refusals.specs.Refusal.{number_of, refused_by};
 ghost use Rattle.counting.specs.Counting.{next, rank, select};
 ghost use Rattle.grid.specs.Grid.{last_subframe};
 ghost use Rattle.grid.specs.Tables.{is_repetition};
-ghost use Rattle.spans.specs.Pattern.{allows, period_of, Regular, OnesOf};
+ghost use Rattle.spans.specs.Pattern.{allows, period_of, Regular};
 ghost use Rattle.messages.specs.Messages.{all_periods, are_listed, remaining};
 ghost use Rattle.cell.specs.Quick.{lent_cell};
 ghost use Rattle.subframes.specs.Scaffold.{left_in, Searchable};
@@ -19,7 +19,7 @@ ghost use Rattle.search_space.specs.Quick.{FirstFrom, cut_of, CutFits, BlocksOf,
 use cell::{Cell, CellConfig, Verdict};
 use messages::Messages;
 use refusals::Refusal;
-use spans::{Ends, Pattern};
+use spans::{Counted, Ends, Pattern};
 
 // Subframes of a hyperframe.
 const HYPERFRAME: u64 = 10240;
@@ -168,18 +168,18 @@ fn blocks_beside(ms: Messages, p: Pattern, start: u64, x: Cut) -> [Ends; 8]
     list
 }
 
-// The subframe before which k allowed ones lie, and the last of the `more` that follow it; a and b are the ones of the
-// two masks.
-fn ends_at(p: Pattern, a: u64, b: u64, k: u64, more: u64) -> Ends
-    requires { Regular p × OnesOf p a b × (0 < rank (allows p) (period_of p)) × (k + more < 2 ^ 32) }
-    ensures { ((allows p result.first ≡ true) × (rank (allows p) result.first ≡ k))
-        × ((allows p result.last ≡ true) × (rank (allows p) result.last ≡ k + more)) }
+// The subframe before which k allowed ones lie, and the last of the `more` that follow it.
+fn ends_at(counted: Counted, k: u64, more: u64) -> Ends
+    requires { (0 < rank (allows counted.pattern) (period_of counted.pattern)) × (k + more < 2 ^ 32) }
+    ensures { ((allows counted.pattern result.first ≡ true) × (rank (allows counted.pattern) result.first ≡ k))
+        × ((allows counted.pattern result.last ≡ true)
+        × (rank (allows counted.pattern) result.last ≡ k + more)) }
 {
-    let first = spans::at(p, a, b, k);
+    let first = counted.at(k);
     if more == 0 {
         return Ends { first, last: first };
     }
-    let last = spans::at(p, a, b, k + more);
+    let last = counted.at(k + more);
     Ends { first, last }
 }
 
@@ -189,12 +189,11 @@ fn blocks_alone(p: Pattern, start: u64, x: Cut) -> [Ends; 8]
     ensures { BlocksOf (select (allows p) (period_of p) start) x result }
 {
     let size = x.size;
-    let a = counting::ones_of(p.sib1);
-    let b = counting::ones_of(p.usual);
-    let first = spans::rank_of(p, a, b, start);
+    let counted = Counted::new(p);
+    let first = counted.rank_of(start);
     let mut list = [NO_BLOCK; 8];
     for i in 0..x.many {
-        list[i as usize] = ends_at(p, a, b, first + i * size, size - 1);
+        list[i as usize] = ends_at(counted, first + i * size, size - 1);
     }
     list
 }

@@ -166,31 +166,6 @@ impl Counted {
     }
 }
 
-// The same two where the ones a and b of the masks are known.
-pub fn rank_of(p: Pattern, a: u64, b: u64, t: u64) -> u64
-    requires { Regular p × OnesOf p a b }
-    ensures { result ≡ rank (allows p) t }
-{
-    let counted = Counted {
-        pattern: p,
-        sib1_ones: a,
-        usual_ones: b,
-    };
-    counted.rank_of(t)
-}
-
-pub fn at(p: Pattern, a: u64, b: u64, k: u64) -> u64
-    requires { Regular p × OnesOf p a b × (0 < rank (allows p) (period_of p)) × (k < 2 ^ 32) }
-    ensures { (allows p result ≡ true) × (rank (allows p) result ≡ k) }
-{
-    let counted = Counted {
-        pattern: p,
-        sib1_ones: a,
-        usual_ones: b,
-    };
-    counted.at(k)
-}
-
 // The j-th allowed subframe from a given one on, counted from 0.
 pub fn nth(p: Pattern, from: u64, j: u64) -> u64
     requires { Regular p × (0 < rank (allows p) (period_of p)) × (from < 2 ^ 31) × (j < 2 ^ 31) }

@@ -113,9 +113,7 @@ fn land(table: Timetable, p: Pattern, s: Sight) -> u64
         → Here ms (allows p) table s.n s.wants s.k
         → Nth (remaining ms (allows p)) (begin_of table s.n) s.k result) }
 {
-    let a = counting::ones_of(p.sib1);
-    let b = counting::ones_of(p.usual);
-    spans::at(p, a, b, s.free + units::all_need(table, s.n, s.wants) + s.k)
+    spans::Counted::new(p).at(s.free + units::all_need(table, s.n, s.wants) + s.k)
 }
 
 // To where the subframe is at hand that follows the sight's after j more: in one period, or whole periods by division.

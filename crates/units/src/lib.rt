@@ -229,9 +229,7 @@ pub fn free_before(p: Pattern, t: u64) -> u64
     requires { Allowing p × (t < 2 ^ 31) }
     ensures { result ≡ rank (allows p) t }
 {
-    let a = counting::ones_of(p.sib1);
-    let b = counting::ones_of(p.usual);
-    spans::rank_of(p, a, b, t)
+    spans::Counted::new(p).rank_of(t)
 }
 
 // The unit in which the window opened that is open at unit n; else n.

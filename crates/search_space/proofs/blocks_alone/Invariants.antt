@@ -9,4 +9,4 @@ use Rattle.search_space.proofs.blocks_alone.Given as goal
 abbrev pub invariant-loop-i : goal.invariant-loop-i
 invariant-loop-i l =
     (length l.list ≡ 8)
-    × ((j : ℕ) → j < l.i → get_or l.list j no_block ≡ block_of (select (allows l.p) (period_of l.p) l.start) l.size j)
+    × ((j : ℕ) → j < l.i → get_or l.list j no_block ≡ block_of (select (allows l.counted.pattern) (period_of l.counted.pattern) l.start) l.size j)

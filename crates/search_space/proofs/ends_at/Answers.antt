@@ -11,4 +11,4 @@ returns-then-more-eq0 c =
     (r, (r.0, r.1 ∙ e))
 
 pub at-first-requires : goal.at-first-requires
-at-first-requires c = (c.requires.0, c.requires.1, c.requires.2, omega (arith, c.requires.3))
+at-first-requires c = (c.requires.0, omega (arith, c.requires.1))

@@ -35,9 +35,7 @@ overflow_add-s-2 c = omega (arith, before_small (goal.at.overflow_add-s-2 c).Aft
 
 pub at-requires : goal.at-requires
 at-requires c = (
-  c.requires.1.regular,
-  record { sib1 = c.ones_of-a.ensures; usual = c.ones_of-b.ensures },
-  c.requires.1.some,
+  rw c.new.ensures c.requires.1.some,
   omega (arith, before_small (goal.at.at-requires c).After-all_need),
 )
 
@@ -48,7 +46,7 @@ returns c =
     let g = c.args.s in
     let P : ℕ = period_of p in
     let j : ℕ = g.free + c.all_need.result + g.k in
-    let e = c.at.ensures in
+    let e = rw c.new.ensures at c.at.ensures in
     let again = repeats p c.requires.1.regular in
     let few : j + 1 ≤ 2 ^ 31 = omega (arith, before_small (goal.at.returns c).After-all_need) in
     let short : P ≤ 640 = omega (arith, few_spans p c.requires.1.regular) in
