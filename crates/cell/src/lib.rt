@@ -72,7 +72,8 @@ pub struct CauseAnswer {
     pub cause: Cause,
 }
 
-// An accepted cell: the pattern of its free subframes, and whether messages are laid.
+// An accepted cell: the pattern of its free subframes, and whether messages are laid. No Option: the pattern is asked
+// either way.
 #[derive(Clone, Copy)]
 pub struct Verdict {
     pub laid: bool,

@@ -75,7 +75,8 @@ struct Spot {
     rest: u64,
 }
 
-// Used subcarriers of a row of all twelve: none where the row is shut, else all but the marks.
+// Used subcarriers of a row of all twelve: none where the row is shut, else all but the marks. No Option: has_in, of
+// each element of a fill, takes the flag and the marks without a branch.
 #[derive(Clone, Copy)]
 pub struct Row {
     pub shut: bool,

@@ -33,7 +33,8 @@ pub enum Stretch {
 // What a window of each entry leaves that meets no other, if it was counted.
 pub type Kept = [Option<u64>; 4];
 
-// Where the k-th is; whether its subframe is at hand there: what remains does so evenly.
+// Where the k-th is; whether its subframe is at hand there: what remains does so evenly. No Option: the sight is asked
+// either way.
 #[derive(Clone, Copy)]
 pub struct Reached {
     pub sight: Sight,

@@ -34,7 +34,7 @@ pub enum Element {
 }
 
 // An element's answer in numbers: the refusal; 0 silent, 1 or 2 a reference of that kind, 4 a symbol; the symbol's
-// two numbers.
+// two numbers. Numbers: they are what C is answered.
 #[derive(Clone, Copy)]
 pub struct ElementNumbers {
     pub no: u64,

@@ -45,7 +45,7 @@ pub struct Shape {
 }
 
 // Plan's answer: the refusal number; the first and last slot, the copies, the places, the transport block's size and
-// the modulation order.
+// the modulation order. No Result: `plan_shown`, `refused_plan` and the C interface speak of these fields.
 #[derive(Clone, Copy, PartialEq, Eq)]
 pub struct UplinkPlan {
     pub no: u64,
@@ -57,7 +57,8 @@ pub struct UplinkPlan {
     pub order: u64,
 }
 
-// Forward's answer: the refusal number; slot, symbol and subcarrier of the place, and the codeword symbol there.
+// Forward's answer: the refusal number; slot, symbol and subcarrier of the place, and the codeword symbol there. No
+// Result, as above.
 #[derive(Clone, Copy, PartialEq, Eq)]
 pub struct UplinkPlace {
     pub no: u64,
