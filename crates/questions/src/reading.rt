@@ -28,7 +28,7 @@ pub enum Line<'a> {
 #[derive(Clone, Copy)]
 enum Failure {
     Wrong(Fault),
-    OutOfMemory,
+    OutOfMemory(AllocError),
 }
 
 impl From<Fault> for Failure {
@@ -38,8 +38,8 @@ impl From<Fault> for Failure {
 }
 
 impl From<AllocError> for Failure {
-    fn from(_error: AllocError) -> Failure {
-        Failure::OutOfMemory
+    fn from(error: AllocError) -> Failure {
+        Failure::OutOfMemory(error)
     }
 }
 
@@ -176,7 +176,7 @@ fn keep_words<'a>(
         match keep_word(alloc, word, &mut kept) {
             Ok(()) => {}
             Err(Failure::Wrong(fault)) => return Ok(Line::Wrong(fault, number)),
-            Err(Failure::OutOfMemory) => return Err(AllocError),
+            Err(Failure::OutOfMemory(error)) => return Err(error),
         }
     }
     *values = kept;
