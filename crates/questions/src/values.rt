@@ -96,7 +96,8 @@ impl Values {
     ghost use Rattle.std.specs.Float.{binary32};
     ghost use Rattle.std.specs.Float.Ieee.{of_bits};
     ghost use Rattle.walk.specs.declared.Engine.TheVariants.{Quick, Plain};
-    ghost use Rattle.questions.specs.Values.{IsStart};
+    ghost use Rattle.questions.specs.Values.{IsStart, cell_of, npdsch_of, npdcch_of, search_space_of, npusch_of};
+    ghost use Rattle.questions.specs.Values.{harq_ack_of, windows_of, walk_of};
 
     // All 0 or empty, but the room and the messages' window.
     pub fn new(alloc: Global) -> Values
@@ -218,7 +219,9 @@ impl Values {
         Some(place)
     }
 
-    pub fn cell(&self) -> Cell {
+    pub fn cell(&self) -> Cell
+        ensures { result ≡ cell_of self.now }
+    {
         let config = CellConfig {
             mode: self.mode,
             carrier: self.carrier,
@@ -242,7 +245,9 @@ impl Values {
         Cell { config, messages }
     }
 
-    pub fn npdsch_grant(&self) -> NpdschGrant {
+    pub fn npdsch_grant(&self) -> NpdschGrant
+        ensures { result ≡ npdsch_of self.now }
+    {
         NpdschGrant {
             n: self.n,
             delay: self.delay,
@@ -252,7 +257,9 @@ impl Values {
         }
     }
 
-    pub fn npdcch_grant(&self) -> NpdcchGrant {
+    pub fn npdcch_grant(&self) -> NpdcchGrant
+        ensures { result ≡ npdcch_of self.now }
+    {
         NpdcchGrant {
             n: self.n,
             r: self.r,
@@ -261,7 +268,9 @@ impl Values {
         }
     }
 
-    pub fn search_space(&self) -> SearchSpace {
+    pub fn search_space(&self) -> SearchSpace
+        ensures { result ≡ search_space_of self.now }
+    {
         SearchSpace {
             n: self.n,
             rmax: self.rmax,
@@ -270,7 +279,9 @@ impl Values {
         }
     }
 
-    pub fn npusch_grant(&self) -> NpuschGrant {
+    pub fn npusch_grant(&self) -> NpuschGrant
+        ensures { result ≡ npusch_of self.now }
+    {
         NpuschGrant {
             n: self.n,
             spacing: self.spacing,
@@ -282,7 +293,9 @@ impl Values {
         }
     }
 
-    pub fn harq_ack_grant(&self) -> HarqAckGrant {
+    pub fn harq_ack_grant(&self) -> HarqAckGrant
+        ensures { result ≡ harq_ack_of self.now }
+    {
         HarqAckGrant {
             n: self.n,
             spacing: self.spacing,
@@ -291,7 +304,9 @@ impl Values {
         }
     }
 
-    pub fn windows(&self) -> Windows {
+    pub fn windows(&self) -> Windows
+        ensures { result ≡ windows_of self.now }
+    {
         let [w1, w2, w3, w4] = self.windows;
         Windows {
             count: self.window_count,
@@ -303,7 +318,9 @@ impl Values {
     }
 
     // The record of a walk at the position p; a kind of the broadcast is taken as control.
-    pub fn walk(&self, kind: Kind) -> Walk {
+    pub fn walk(&self, kind: Kind) -> Walk
+        ensures { result ≡ walk_of self.now kind }
+    {
         let grant = match kind {
             Kind::Up => Grant::Npusch(self.npusch_grant(), self.windows()),
             Kind::Ack => Grant::HarqAck(self.harq_ack_grant(), self.windows()),
