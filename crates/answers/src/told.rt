@@ -1,5 +1,5 @@
 // What is told in words: help, and the meanings of the refusal numbers.
-ghost use Rattle.std.specs.Prelude.{◌≡◌, ◌++◌, List, ℕ, OnOk, string_bytes};
+ghost use Rattle.std.specs.Prelude.{◌≡◌, ◌++◌, List, None, ℕ, OnOk, codes, string_bytes};
 ghost use Rattle.answers.specs.Answers.{meaning_text};
 
 use std::alloc::AllocError;
@@ -121,7 +121,9 @@ const REFUSALS: &str = "0 accepted
 ";
 
 // The lines of help that begin with a word and a space.
-fn write_lines_of(word: &[u8], out: &mut String) -> Result<(), AllocError> {
+fn write_lines_of(word: &[u8], out: &mut String) -> Result<(), AllocError>
+    ensures { OnOk result ((lines : List ℕ) × (string_bytes out.new ≡ string_bytes out.old ++ lines)) }
+{
     for line in HELP.lines() {
         if let Some((first, _)) = line.split_once(' ') {
             if first.as_bytes() == word {
@@ -133,7 +135,12 @@ fn write_lines_of(word: &[u8], out: &mut String) -> Result<(), AllocError> {
 }
 
 // Help on a word, on all without one.
-pub fn write_help(word: Option<&[u8]>, out: &mut String) -> Result<(), AllocError> {
+pub fn write_help(word: Option<&[u8]>, out: &mut String) -> Result<(), AllocError>
+    ensures all { word.entry ≡ None →
+        OnOk result (string_bytes out.new ≡ string_bytes out.old ++ (codes "no=0\n" ++ HELP.now)) }
+    ensures begun { OnOk result ((rest : List ℕ) ×
+        (string_bytes out.new ≡ string_bytes out.old ++ (codes "no=0\n" ++ rest))) }
+{
     writeln!(out, "no=0")?;
     match word {
         Some(word) => write_lines_of(word, out),
