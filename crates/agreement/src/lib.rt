@@ -29,10 +29,10 @@ fn same_downlink(a: DownlinkPlace, b: DownlinkPlace) -> bool
     a == b
 }
 
-fn same_step(a: WalkPlace, b: WalkPlace) -> bool
-    ensures { Tells a b result }
+fn same_step(quick: WalkPlace, plain: WalkPlace) -> bool
+    ensures { Tells quick plain result }
 {
-    a == b
+    quick == plain
 }
 
 // ---- forward of each kind of grant

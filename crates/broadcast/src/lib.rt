@@ -168,7 +168,7 @@ fn placed_npbch(c: Cell, anchor: &[u8], other: &[u8], p: u64) -> Result<Downlink
 pub fn forward_npbch(c: Cell, anchor: &[u8], other: &[u8], p: u64) -> DownlinkPlace
     ensures { result ≡ forward_of c anchor.now other.now (npbch_of c.config) p }
 {
-    placed_npbch(c, anchor, other, p).unwrap_or_else(downlink::refused_place)
+    placed_npbch(c, anchor, other, p).unwrap_or_else(downlink::place_refused)
 }
 
 fn placed_sib1(c: Cell, anchor: &[u8], other: &[u8], p: u64) -> Result<DownlinkPlace, Refusal>
@@ -185,7 +185,7 @@ fn placed_sib1(c: Cell, anchor: &[u8], other: &[u8], p: u64) -> Result<DownlinkP
 pub fn forward_sib1(c: Cell, anchor: &[u8], other: &[u8], p: u64) -> DownlinkPlace
     ensures { result ≡ forward_of c anchor.now other.now (sib1_of c.config) p }
 {
-    placed_sib1(c, anchor, other, p).unwrap_or_else(downlink::refused_place)
+    placed_sib1(c, anchor, other, p).unwrap_or_else(downlink::place_refused)
 }
 
 // The refusals of a question on a place.

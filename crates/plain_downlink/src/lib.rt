@@ -148,7 +148,7 @@ fn burst_forward(
     let w = count_used(b.layout, b.low, b.width);
     let total = downlink::sent_subframes(b) * w;
     if position >= total {
-        return downlink::refused_place(Refusal::NoSuchPlace);
+        return downlink::place_refused(Refusal::NoSuchPlace);
     }
     let i = position / w;
     let e = position % w;
@@ -188,7 +188,7 @@ fn forward_lent<G: DownlinkGrant>(
         ≡ forward_answer
         (question_on (lent_cell c si.now) anchor.now other.now (G.refusal g) (G.burst_of c g)) p }
 {
-    forwarded(c, si, anchor, other, g, p).unwrap_or_else(downlink::refused_place)
+    forwarded(c, si, anchor, other, g, p).unwrap_or_else(downlink::place_refused)
 }
 
 // The same on a cell, which lends its messages.

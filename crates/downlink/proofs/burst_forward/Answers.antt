@@ -23,7 +23,7 @@ pub returns-then-position-total : goal.returns-then-position-total
 returns-then-position-total c =
     let a = c.args in
     let all = all a.b _ _ c.sent_subframes.ensures.0 c.used_elements-w.ensures.0 in
-    c.refused_place.ensures
+    c.place_refused.ensures
     ∙ sym (past_at refused_place place_of (sending_of (left_in a.v.pattern a.v.laid (messages_in a.si.now)) all_periods a.b) a.position (omega (arith, all, c.if-position-total.true)))
 
 pub subframe_at-t-requires : goal.subframe_at-t-requires

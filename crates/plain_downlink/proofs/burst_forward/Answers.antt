@@ -36,7 +36,7 @@ overflow_mul-total c = omega (arith, places_small c.sent_subframes.result c.coun
 pub returns-then-position-total : goal.returns-then-position-total
 returns-then-position-total c =
     let a = c.args in
-    c.refused_place.ensures
+    c.place_refused.ensures
     ∙ sym (past_at refused_place place_of (sending_of (left_in a.p a.laid (messages_in a.si.now)) all_periods a.b) a.position
     (omega (arith, all a.b _ _ c.sent_subframes.ensures.0 c.count_used-w.ensures.0, c.if-position-total.true)))
 
