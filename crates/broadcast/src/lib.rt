@@ -121,7 +121,7 @@ fn sib1_index(identity: u64, schedule: u64, t: u64) -> u64
 fn refusal(c: Cell, anchor: &[u8], other: &[u8]) -> Result<(), Refusal>
     ensures { refused_by result ≡ question_refusal c anchor.now other.now (carrier_refusal c.config) }
 {
-    cell::judged(c, anchor, other)?;
+    cell::accept(c, anchor, other)?;
     if c.config.carrier != 0 {
         return Err(Refusal::NoBroadcast);
     }

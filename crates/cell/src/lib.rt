@@ -286,28 +286,42 @@ fn number<A: Drop>(r: Result<A, Refusal>) -> u64
     }
 }
 
-// The refusal number of eight numbers, by their own buffer.
-fn judge_alone(c: CellConfig, own: &[u8]) -> u64
-    ensures { (ms : Messages) → is_silent ms ≡ true → result ≡ cell_refusal (with_messages c ms) own.now }
+// Whether eight numbers are accepted, by their own buffer.
+fn accept_own(c: CellConfig, own: &[u8]) -> Result<(), Refusal>
+    ensures { (ms : Messages) → is_silent ms ≡ true → refused_by result ≡ cell_refusal (with_messages c ms) own.now }
 {
-    if let Err(refusal) = config_refusal(c, own) {
-        return refusal.number();
-    }
-    number(formed_alone(c, own))
+    config_refusal(c, own)?;
+    formed_alone(c, own)?;
+    Ok(())
 }
 
-// Judge a cell: its refusal number, or 0, as C hands it on. The test is the shortest, so that the compiler puts this in
-// where it is asked.
-pub fn judge_lent(c: CellConfig, si: &[u64], anchor: &[u8], other: &[u8]) -> u64
-    ensures { result ≡ judge_of (lent_cell c si.now) anchor.now other.now }
+// Whether a cell is accepted. The test is the shortest, so that the compiler puts this in where it is asked.
+fn accept_lent(c: CellConfig, si: &[u64], anchor: &[u8], other: &[u8]) -> Result<(), Refusal>
+    ensures { refused_by result ≡ judge_of (lent_cell c si.now) anchor.now other.now }
 {
     if subframes::are_none(si) {
         if c.carrier == 0 {
-            return judge_alone(c, anchor);
+            return accept_own(c, anchor);
         }
-        return judge_alone(c, other);
+        return accept_own(c, other);
     }
-    number(judged_beside(c, si, anchor, other))
+    judged_beside(c, si, anchor, other)?;
+    Ok(())
+}
+
+// The refusal of a cell, if it is refused: for those who ask nothing else of it.
+pub fn accept(c: Cell, anchor: &[u8], other: &[u8]) -> Result<(), Refusal>
+    ensures { refused_by result ≡ judge_of c anchor.now other.now }
+{
+    let si = subframes::numbers(c.messages);
+    accept_lent(c.config, &si, anchor, other)
+}
+
+// Judge a cell: its refusal number, or 0, as C hands it on.
+pub fn judge_lent(c: CellConfig, si: &[u64], anchor: &[u8], other: &[u8]) -> u64
+    ensures { result ≡ judge_of (lent_cell c si.now) anchor.now other.now }
+{
+    number(accept_lent(c, si, anchor, other))
 }
 
 pub fn judge(c: Cell, anchor: &[u8], other: &[u8]) -> u64
