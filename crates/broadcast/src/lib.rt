@@ -136,6 +136,8 @@ struct Position {
     symbol: u64,
 }
 
+// The compiler puts this in where it is asked, since the layout of NPBCH is a constant.
+#[inline(always)]
 fn located(b: Burst, p: u64) -> Result<Position, Refusal>
     requires { Fits b }
     ensures { MatchResult result (LiesAt b p) (λ e. (e ≡ refusal.NoSuchPlace) × (places b ≤ p)) }
@@ -231,6 +233,7 @@ fn sib1_found(identity: u64, schedule: u64, t: u64) -> Option<u64>
 }
 
 // What stands at an element of the i-th subframe of a burst, or of one that is not the burst's.
+#[inline(always)]
 fn standing(b: Burst, i: Option<u64>, slot: u64, l: u64, k: u64) -> Back
     requires { Fits b × (inside_grid slot l k ≡ true) × ((n : ℕ) → i ≡ Some n → n ≤ 2 ^ 20) }
     ensures { MatchOption i (result ≡ back_of (Content.not_ours 0))
