@@ -6,9 +6,9 @@ use Prim.Native.Nat.{ℕ, zero, suc, ◌+◌, ◌*◌, ◌<◌, ◌≤◌}
 use native.Mathlib.Nat.{add-zero, zero-add, suc-add, zero-mul, add_comm, suc-mul}
 use native.Mathlib.Numerals.{add-one}
 use native.Mathlib.Omega.{arith}
-use Rattle.std.specs.List.{filter, flat_map, range_with_len}
+use Rattle.std.specs.List.{All, filter, flat_map, range_with_len}
 use Rattle.std.proofs.lemmas.List.{map-append, append-nil}
-use Rattle.std.proofs.lemmas.List.Elements.{filter-append}
+use Rattle.std.proofs.lemmas.List.Elements.{All-append, filter-append}
 
 on : (a : ℕ) → suc a ≡ a + 1
 on a = omega arith
@@ -93,3 +93,10 @@ cells_kept u T v c w passes is n =
     rows_kept u T v w (λ l. map (c l) (range_with_len 0 T))
     (λ l. row_moved u v (c l) w T (l * T) 0
     (λ i k. ap (λ (x : ℕ). v (c l x)) (zero-add i) ∙ passes l i k) (λ i k. ap (c l) (zero-add i) ∙ is l i k)) n
+
+-- what holds of each number of each row
+pub rows_hold : (P : ℕ → Type 0) (h : ℕ → List ℕ) (n a : ℕ) → ((k : ℕ) → a ≤ k → k < a + n → All P (h k)) → All P (flat_map h (range_with_len a n))
+rows_hold P h zero a each = λ k d l. absurd (omega arith)
+rows_hold P h (suc n) a each =
+    All-append P (h a) (flat_map h (range_with_len (a + 1) n)) (each a (omega arith) (omega arith))
+    (rows_hold P h n (a + 1) (λ k l m. each k (omega arith) (omega arith)))

@@ -1,5 +1,6 @@
 -- The obstacles of a shape are the windows that it is asked beside: they block the groups that overlap one.
-use mathlib.Core.Bool.{Bool, true, false, cond, not, ◌&&◌, ◌||◌}
+use mathlib.Core.Bool.{Bool, true, false, cond, not, ◌&&◌, ◌||◌, true≢false}
+use mathlib.Core.List.{List, [], ◌∷◌}
 use mathlib.Core.Path.{◌≡◌, refl, sym, ap, ap₂, subst, ◌∙◌}
 use Prim.Native.Nat.{ℕ, ◌+◌, ◌*◌}
 use Rattle.uplink.specs.declared.Shape.{Shape}
@@ -11,9 +12,11 @@ use Rattle.nprach.specs.Scaffold.{reach}
 use Rattle.nprach.proofs.Spaced.{accepted_windows}
 use Rattle.postponed.specs.Beside.{refusal_beside, open_beside, AtSpacing}
 use Rattle.postponed.proofs.Beside.{open_repeats}
+use Rattle.plain_uplink.specs.declared.obstacles.Obstacle.{Obstacle}
 use Rattle.plain_uplink.specs.declared.obstacles.Obstacles.{Obstacles}
-use Rattle.std.specs.Prelude.{Some, None}
-use Rattle.plain_uplink.specs.Obstacles.{obstacle_of, obstacles_of, obstacles_on, blocks, clear_of}
+use Rattle.std.specs.Prelude.{Option, Some, None, is_some}
+use Rattle.std.specs.List.{list_any}
+use Rattle.plain_uplink.specs.Obstacles.{obstacle_of, obstacles_of, obstacles_on, any_stands, blocks, clear_of}
 
 -- none of four, by pairs
 none_of : (x y z w : Bool) → not (x || (y || (z || (w || false)))) ≡ ((not x && not y) && (not z && not w))
@@ -22,6 +25,16 @@ none_of false true z w = refl
 none_of false false true w = refl
 none_of false false false true = refl
 none_of false false false false = refl
+
+-- where no window stands, each group is clear
+pub none_stands : (os : Obstacles) (u : ℕ) → any_stands os ≡ false → clear_of os u ≡ true
+unfolding clear_of blocks
+none_stands os u h = ap not (by os.windows h)
+  where
+    by : (ws : List (Option Obstacle)) → list_any is_some ws ≡ false → list_any (λ w. blocks w (os.ms * u + os.ms)) ws ≡ false
+    by [] h = refl
+    by (None ∷ ws) h = by ws h
+    by (Some o ∷ ws) h = absurd (true≢false h)
 
 module _ (ms a n : ℕ) where
   one_blocks : (read : Bool) (w : Window) (u : ℕ) → blocks (obstacle_of ms a n read w) (ms * u + ms) ≡ meets ms a n read w u

@@ -1,7 +1,7 @@
 -- For the code alone. Random access windows as a walk over slots asks them: 02 L4. `is_clear` of nprach says the same
 -- of the windows.
 use Rattle.std.specs.Prelude.{Bool, false, cond, not, ◌&&◌, ℕ, ◌+◌, ◌-◌, ◌*◌, ◌%◌, ◌≤◌, ◌<◌, ltb}
-use Rattle.std.specs.Prelude.{Option, Some, None, IfSome, [], ◌∷◌}
+use Rattle.std.specs.Prelude.{Option, Some, None, IfSome, is_some, [], ◌∷◌}
 use Rattle.std.specs.List.{All, list_any}
 use Rattle.numerology.specs.Numerology.{group_ms, narrow_tones}
 use Rattle.uplink.specs.declared.Shape.{Shape}
@@ -28,6 +28,10 @@ obstacles_of ms a n ws = record {
 abbrev pub obstacles_on : ℕ → Shape → Windows → Obstacles
 obstacles_on spacing s ws =
     obstacles_of (group_ms spacing) (narrow_tones spacing * s.tone) (narrow_tones spacing * s.tones) ws
+
+-- a window stands
+abbrev pub any_stands : Obstacles → Bool
+any_stands os = list_any is_some os.windows
 
 -- it stands, and the last of its windows that begins before e, in ms, ends past the begin of a group that ends at e
 unfoldable pub blocks : Option Obstacle → ℕ → Bool

@@ -5,7 +5,7 @@ ghost use Rattle.refusals.specs.Refusal.{refused_by};
 ghost use Rattle.uplink.specs.Fits.{Fits};
 ghost use Rattle.nprach.specs.Windows.{is_listed, are_listed, all_periods};
 ghost use Rattle.postponed.specs.Beside.{refusal_beside, AtSpacing};
-ghost use Rattle.plain_uplink.specs.Obstacles.{obstacle_of, obstacles_of, obstacles_on, blocks, clear_of};
+ghost use Rattle.plain_uplink.specs.Obstacles.{obstacle_of, obstacles_of, obstacles_on, any_stands, blocks, clear_of};
 ghost use Rattle.plain_uplink.specs.Obstacles.{Sound, AllSound};
 
 use nprach::{Window, Windows};
@@ -68,6 +68,13 @@ pub fn beside(spacing: u64, s: Shape, ws: Windows) -> Obstacles
     let scale = numerology::narrow_tones(spacing);
     let ms = numerology::group_ms(spacing);
     all(ms, scale * tone, scale * tones, ws)
+}
+
+// Some window stands.
+pub fn any_stands(os: Obstacles) -> bool
+    ensures { result ≡ any_stands os }
+{
+    os.windows.iter().any(|w| w.is_some())
 }
 
 // A group that ends at time `end`, in ms, overlaps a window that stands: the last one that begins before that ends
