@@ -1,8 +1,8 @@
-// The elements of a slot, one at a time in the order of their numbers.
-ghost use Rattle.std.specs.Prelude.{◌≡◌, ◌^◌, ◌<◌};
+// The elements of a slot, one at a time: symbol by symbol, along the subcarriers.
+ghost use Rattle.std.specs.Prelude.{◌&&◌, ◌≡◌, ◌^◌, ◌<◌};
 ghost use Rattle.grid.specs.Grid.{uplink_symbol_of, uplink_subcarrier_of};
 ghost use Rattle.uplink.specs.Fits.{Fits};
-ghost use Rattle.uplink.specs.Elements.{carries_data, slot_data, element_at};
+ghost use Rattle.uplink.specs.Elements.{is_data_symbol, is_granted, slot_data, element_at};
 
 use grid::UplinkGrid;
 use uplink::Shape;
@@ -14,14 +14,12 @@ pub struct Element {
     pub k: u64,
 }
 
-// Element x carries data.
-fn carries_data(s: Shape, x: u64) -> bool
+// An element carries data.
+fn carries_data(s: Shape, at: Element) -> bool
     requires { Fits s }
-    ensures { result ≡ carries_data s x }
+    ensures { result ≡ (is_data_symbol s at.l && is_granted s at.k) }
 {
-    let l = x / s.subcarriers;
-    let k = x % s.subcarriers;
-    ((l < UplinkGrid::SYMBOLS) & !uplink::is_reference(s, l)) & uplink::is_granted(s, k)
+    ((at.l < UplinkGrid::SYMBOLS) & !uplink::is_reference(s, at.l)) & uplink::is_granted(s, at.k)
 }
 
 // How many elements of a slot carry data.
@@ -29,8 +27,9 @@ pub fn slot_data(s: Shape) -> u64
     requires { Fits s }
     ensures { (result ≡ slot_data s) × (0 < result) × (result < 2 ^ 19) }
 {
-    (0..UplinkGrid::SYMBOLS * s.subcarriers)
-        .filter(|&x| carries_data(s, x))
+    (0..UplinkGrid::SYMBOLS)
+        .flat_map(|l| (0..s.subcarriers).map(move |k| Element { l, k }))
+        .filter(|&at| carries_data(s, at))
         .count() as u64
 }
 
@@ -40,12 +39,9 @@ pub fn nth(s: Shape, e: u64) -> Element
     ensures { (result.l ≡ uplink_symbol_of s.subcarriers (element_at s e))
         × (result.k ≡ uplink_subcarrier_of s.subcarriers (element_at s e)) }
 {
-    let x = (0..UplinkGrid::SYMBOLS * s.subcarriers)
-        .filter(|&x| carries_data(s, x))
+    (0..UplinkGrid::SYMBOLS)
+        .flat_map(|l| (0..s.subcarriers).map(move |k| Element { l, k }))
+        .filter(|&at| carries_data(s, at))
         .nth(e as usize)
-        .unwrap();
-    Element {
-        l: x / s.subcarriers,
-        k: x % s.subcarriers,
-    }
+        .unwrap()
 }

@@ -1,32 +1,42 @@
 use Rattle.std.proofs.Common.{rules, tests}
-use Rattle.std.proofs.lemmas.Iterator.{YieldsList-from_range}
-use Rattle.std.proofs.lemmas.Iterator.Adapters.{option_map_id}
-use Rattle.std.proofs.lemmas.Iterator.Consumers.{YieldsList-from_filter, nth_from_yields_List}
-use Rattle.std.proofs.lemmas.Option.{same_Some}
+use Rattle.std.proofs.lemmas.Iterator.{YieldsList-from_range, YieldsList-from_map}
+use Rattle.std.proofs.lemmas.Iterator.Adapters.{YieldsList-from_flat_map, option_map_id}
+use Rattle.std.proofs.lemmas.Iterator.Consumers.{YieldsList-at, YieldsList-from_filter, nth_from_yields_List}
+use Rattle.std.proofs.lemmas.Option.{same_Some, slice_get-map}
+use Rattle.std.specs.List.{slice_get}
+use Rattle.std.specs.Option.{option_map}
 use Rattle.std.specs.Prelude.{Some}
 use mathlib.Core.Path.{◌≡◌, refl, sym, ap, ◌∙◌}
 use native.Mathlib.Omega.{arith}
-use Rattle.grid.specs.Grid.{uplink_elements, uplink_symbol_of, uplink_subcarrier_of}
+use Rattle.grid.specs.Grid.{uplink_elements}
 use Rattle.uplink.specs.Elements.{carries_data, slot_data, element_at}
 use Rattle.chains.proofs.Ranges.{range_selects}
+use Rattle.plain_uplink.proofs.DataRows.{place_at, has_data, row_of, data_of_rows}
 use Rattle.plain_uplink.proofs.elements.nth.Goals.{After-nth}
 use Rattle.plain_uplink.proofs.elements.nth.Goals as goal
 
-found : (c : After-nth) → c.nth.result ≡ Some (element_at c.args.s c.args.e)
+found : (c : After-nth) → c.nth.result ≡ Some (place_at c.args.s.subcarriers (element_at c.args.s c.args.e))
 unfolding slot_data element_at
 found c =
     let s = c.args.s in
+    let e = c.args.e in
     sym (option_map_id c.nth.result)
-    ∙ nth_from_yields_List c.nth.result _ c.args.e c.nth.ensures.ran
-    (YieldsList-from_filter _ (carries_data s) (YieldsList-from_range 0 _ (uplink_elements s.subcarriers) c.filter.ensures.source (omega arith)) c.filter.ensures.closure
+    ∙ nth_from_yields_List c.nth.result _ e c.nth.ensures.ran
+    (YieldsList-from_filter _ (has_data s)
+    (YieldsList-at c.filter.ensures.source (YieldsList-from_flat_map _ _ _ (λ x. x) (row_of s.subcarriers) _
+    (λ l u q k. (search (rules, tests), λ j o. YieldsList-at o (YieldsList-from_map _ (λ k. record { l = l; k = k }) {f = record { 0 = l }}
+    (YieldsList-from_range 0 s.subcarriers _ (search (rules, tests)) (omega arith)) (search (rules, tests)) (λ x r q k. search (rules, tests)))))
+    (YieldsList-from_range 0 _ 7 c.flat_map.ensures.source (omega arith))
+    c.flat_map.ensures.closure c.flat_map.ensures.front c.flat_map.ensures.back c.flat_map.ensures.done)) c.filter.ensures.closure
     (λ x b q k. search (rules, tests)))
-    ∙ range_selects (carries_data s) (uplink_elements s.subcarriers) c.args.e c.requires.1
+    ∙ ap (λ xs. slice_get xs e) (data_of_rows s c.requires.0)
+    ∙ slice_get-map (place_at s.subcarriers) _ e
+    ∙ ap (option_map (place_at s.subcarriers)) (range_selects (carries_data s) (uplink_elements s.subcarriers) e c.requires.1)
 
-pub unwrap-x-requires : goal.unwrap-x-requires
-unwrap-x-requires c = rw (found c) refl
+pub unwrap-requires : goal.unwrap-requires
+unwrap-requires c = rw (found c) refl
 
 pub returns : goal.returns
 returns c =
-    let T = c.args.s.subcarriers in
-    let e = same_Some _ _ (sym c.unwrap-x.ensures ∙ found c.before) in
-    (ap (uplink_symbol_of T) e, ap (uplink_subcarrier_of T) e)
+    let e = same_Some _ _ (sym c.unwrap.ensures ∙ found c.before) in
+    (ap (λ x. x.l) e, ap (λ x. x.k) e)
