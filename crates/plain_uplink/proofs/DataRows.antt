@@ -2,7 +2,7 @@
 use mathlib.Core.Bool.{Bool, ◌&&◌}
 use mathlib.Core.List.{List, map}
 use mathlib.Core.Path.{◌≡◌, sym}
-use Prim.Native.Nat.{ℕ, ◌<◌}
+use Prim.Native.Nat.{ℕ}
 use Rattle.std.specs.List.{filter, flat_map, range_with_len}
 use Rattle.grid.specs.Grid.{symbols, uplink_elements, uplink_symbol_of, uplink_subcarrier_of}
 use Rattle.grid.proofs.Numbering.{uplink_symbol_of_lem, uplink_subcarrier_of_lem}

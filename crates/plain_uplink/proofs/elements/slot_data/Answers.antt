@@ -28,8 +28,11 @@ count-requires-clause-fits c =
     inr (runs_fit
     (YieldsList-from_filter _ (has_data s)
     (YieldsList-at c.filter.ensures.source (YieldsList-from_flat_map _ _ _ (λ x. x) (row_of s.subcarriers) _
-    (λ l u q k. (search (rules, tests), λ j o. YieldsList-at o (YieldsList-from_map _ (λ k. record { l = l; k = k }) {f = record { 0 = l }}
-    (YieldsList-from_range 0 s.subcarriers _ (search (rules, tests)) (omega arith)) (search (rules, tests)) (λ x r q k. search (rules, tests)))))
+    (λ l u q k. (
+      search (rules, tests),
+      λ j o. YieldsList-at o (YieldsList-from_map _ (λ k. record { l = l; k = k }) {f = record { 0 = l }}
+          (YieldsList-from_range 0 s.subcarriers _ (search (rules, tests)) (omega arith)) (search (rules, tests)) (λ x r q k. search (rules, tests))),
+    ))
     (YieldsList-from_range 0 _ 7 c.flat_map.ensures.source (omega arith))
     c.flat_map.ensures.closure c.flat_map.ensures.front c.flat_map.ensures.back c.flat_map.ensures.done)) c.filter.ensures.closure
     (λ x b q k. search (rules, tests)))
@@ -42,8 +45,11 @@ returns c =
     count_from_yields_List c.filter.result c.count.result c.count.ensures.ran
     (YieldsList-from_filter _ (has_data s)
     (YieldsList-at c.filter.ensures.source (YieldsList-from_flat_map _ _ _ (λ x. x) (row_of s.subcarriers) _
-    (λ l u q k. (search (rules, tests), λ j o. YieldsList-at o (YieldsList-from_map _ (λ k. record { l = l; k = k }) {f = record { 0 = l }}
-    (YieldsList-from_range 0 s.subcarriers _ (search (rules, tests)) (omega arith)) (search (rules, tests)) (λ x r q k. search (rules, tests)))))
+    (λ l u q k. (
+      search (rules, tests),
+      λ j o. YieldsList-at o (YieldsList-from_map _ (λ k. record { l = l; k = k }) {f = record { 0 = l }}
+          (YieldsList-from_range 0 s.subcarriers _ (search (rules, tests)) (omega arith)) (search (rules, tests)) (λ x r q k. search (rules, tests))),
+    ))
     (YieldsList-from_range 0 _ 7 c.flat_map.ensures.source (omega arith))
     c.flat_map.ensures.closure c.flat_map.ensures.front c.flat_map.ensures.back c.flat_map.ensures.done)) c.filter.ensures.closure
     (λ x b q k. search (rules, tests)))

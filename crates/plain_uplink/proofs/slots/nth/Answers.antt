@@ -7,9 +7,9 @@ use Rattle.std.proofs.lemmas.Option.{same_Some}
 use Rattle.std.specs.List.{range_with_len, flat_map, filter, slice_get}
 use Rattle.std.specs.Prelude.{Some}
 use Rattle.std.specs.declared.ops.Range.{Range}
-use mathlib.Core.Bool.{true, false}
+use mathlib.Core.Bool.{false}
 use mathlib.Core.Path.{◌≡◌, refl, sym, ap, ◌∙◌}
-use Prim.Native.Nat.{ℕ, ◌+◌, ◌-◌, ◌*◌, ◌%◌, ◌^◌, ◌≤◌, ◌<◌}
+use Prim.Native.Nat.{ℕ, ◌+◌, ◌*◌, ◌%◌, ◌^◌, ◌≤◌, ◌<◌}
 use native.Mathlib.Nat.{mul-le-mul, mul_assoc}
 use native.Mathlib.Omega.{arith}
 use lib.Arith.{digits_mod}
@@ -47,29 +47,40 @@ nth-requires c =
     let block : ℕ → Range ℕ = λ k. record { start = k * gap_period s; end = k * gap_period s + s.block } in
     let callee = ap (λ f. f.iter.f) c.filter.ensures.source ∙ c.flat_map.ensures.closure in
     let p : c.filter.result.iter.iter.f.0.now ≡ gap_period s = ap (λ f. f.0.now) callee in
-    let q : c.filter.result.iter.iter.f.1.now ≡ s.block = ap (λ f. f.1.now) callee in
-    ((((λ h.
-    ((tt,
-    serves_from_places (YieldsList-from_range 0 _ n (ap (λ f. f.iter.iter) c.filter.ensures.source ∙ c.flat_map.ensures.source) (omega arith))
-    (λ x q k. search (rules, tests)) (λ x k l e.
-    let within : x < n = omega (arith, e, get_or-range_with_len 0 n k x (omega (arith, l, length-range_with_len 0 n)), l, length-range_with_len 0 n) in
-    let small : x * c.filter.result.iter.iter.f.0.now + c.filter.result.iter.iter.f.1.now < 2 ^ 60 =
-    omega (arith, ap (λ (y : ℕ). x * y) p, q, fits x n (gap_period s) s.block within a b c.requires.0.block_small) in
-    ((λ κ r g i h k. omega (arith, small)), (λ κ r g i h k. omega (arith, small)), (λ κ r g i h k l. omega (arith, small))))),
-    serves_from_places (YieldsList-from_map _ block
-    (YieldsList-from_range 0 _ n (ap (λ f. f.iter.iter) c.filter.ensures.source ∙ c.flat_map.ensures.source) (omega arith)) callee
-    (λ x r q k. search (rules, tests)))
-    (λ x q k. refl) (λ x k l e j o.
-    let v : j ≡ block k =
-    o ∙ e ∙ get_or-map-range_with_len block 0 n k k x (omega (arith, l, length-map-range_with_len block 0 n)) (omega arith) in
-    (tt, tt, omega (arith, ap (λ r. r.start) v, ap (λ r. r.end) v, c.requires.0.block_small))))),
-    tt, λ x e. (tt, tt)), λ x e. (tt, tt)), tt,
-    serves_from_places (YieldsList-at c.filter.ensures.source (YieldsList-from_flat_map _ _ _ (λ x. x) (λ k. range_with_len (k * gap_period s) s.block) _
-    (λ x u q k. (search (rules, tests), λ j o. YieldsList-from_range (x * gap_period s) (x * gap_period s + s.block) s.block (o ∙ search (rules, tests)) (omega arith)))
-    (YieldsList-from_range 0 _ n c.flat_map.ensures.source (omega arith))
-    c.flat_map.ensures.closure c.flat_map.ensures.front c.flat_map.ensures.back c.flat_map.ensures.done))
-    (λ x q k. search (rules, tests)) (λ x k l e y i κ r g j f t u w.
-    rw c.filter.ensures.closure (c.requires.0, c.requires.1, c.any_stands-any.ensures, omega (arith, i, e, all_fit n (gap_period s) s.block a b c.requires.0.block_small k x l))))
+    let q : c.filter.result.iter.iter.f.1.now ≡ s.block = ap (λ f. f.1.now) callee in (
+      (
+        (
+          (λ h. (
+            (
+              tt,
+              serves_from_places (YieldsList-from_range 0 _ n (ap (λ f. f.iter.iter) c.filter.ensures.source ∙ c.flat_map.ensures.source) (omega arith))
+                  (λ x q k. search (rules, tests)) (λ x k l e.
+                  let within : x < n = omega (arith, e, get_or-range_with_len 0 n k x (omega (arith, l, length-range_with_len 0 n)), l, length-range_with_len 0 n) in
+                  let small : x * c.filter.result.iter.iter.f.0.now + c.filter.result.iter.iter.f.1.now < 2 ^ 60 =
+                  omega (arith, ap (λ (y : ℕ). x * y) p, q, fits x n (gap_period s) s.block within a b c.requires.0.block_small) in
+                  ((λ κ r g i h k. omega (arith, small)), (λ κ r g i h k. omega (arith, small)), (λ κ r g i h k l. omega (arith, small)))),
+            ),
+            serves_from_places (YieldsList-from_map _ block
+                (YieldsList-from_range 0 _ n (ap (λ f. f.iter.iter) c.filter.ensures.source ∙ c.flat_map.ensures.source) (omega arith)) callee
+                (λ x r q k. search (rules, tests)))
+                (λ x q k. refl) (λ x k l e j o.
+                let v : j ≡ block k =
+                o ∙ e ∙ get_or-map-range_with_len block 0 n k k x (omega (arith, l, length-map-range_with_len block 0 n)) (omega arith) in
+                (tt, tt, omega (arith, ap (λ r. r.start) v, ap (λ r. r.end) v, c.requires.0.block_small))),
+          )),
+          tt,
+          λ x e. (tt, tt),
+        ),
+        λ x e. (tt, tt),
+      ),
+      tt,
+      serves_from_places (YieldsList-at c.filter.ensures.source (YieldsList-from_flat_map _ _ _ (λ x. x) (λ k. range_with_len (k * gap_period s) s.block) _
+          (λ x u q k. (search (rules, tests), λ j o. YieldsList-from_range (x * gap_period s) (x * gap_period s + s.block) s.block (o ∙ search (rules, tests)) (omega arith)))
+          (YieldsList-from_range 0 _ n c.flat_map.ensures.source (omega arith))
+          c.flat_map.ensures.closure c.flat_map.ensures.front c.flat_map.ensures.back c.flat_map.ensures.done))
+          (λ x q k. search (rules, tests)) (λ x k l e y i κ r g j f t u w.
+          rw c.filter.ensures.closure (c.requires.0, c.requires.1, c.any_stands-any.ensures, omega (arith, i, e, all_fit n (gap_period s) s.block a b c.requires.0.block_small k x l))),
+    )
 
 -- ---- what is found
 
