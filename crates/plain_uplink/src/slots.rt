@@ -19,7 +19,7 @@ fn is_open(s: Shape, os: Obstacles, any: bool, x: u64) -> bool
     !any || obstacles::is_clear(os, (s.first + x) / s.group)
 }
 
-// Transmitted slot i: the i-th whose group is clear among the first 256 of each 296 ms.
+// Transmitted slot i: the last of the first i + 1 whose group is clear among the first 256 of each 296 ms.
 pub fn nth(s: Shape, os: Obstacles, i: u64) -> u64
     requires { Fits s × AllSound os × OpenRepeats s (clear_of os) × (i < 2 ^ 32) }
     ensures { result ≡ slot_at s (clear_of os) i }
@@ -30,6 +30,7 @@ pub fn nth(s: Shape, os: Obstacles, i: u64) -> u64
         + (0..(i + 1) * GAP_PERIODS)
             .flat_map(|k| k * period..k * period + s.block)
             .filter(|&x| is_open(s, os, any, x))
-            .nth(i as usize)
+            .take(i as usize + 1)
+            .last()
             .unwrap()
 }

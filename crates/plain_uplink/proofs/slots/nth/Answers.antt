@@ -1,7 +1,7 @@
 use Rattle.std.proofs.Common.{rules, tests, length, get_or}
-use Rattle.std.proofs.lemmas.Iterator.{YieldsList-from_range, YieldsList-from_map}
-use Rattle.std.proofs.lemmas.Iterator.Adapters.{YieldsList-from_flat_map, serves_from_places, option_map_id}
-use Rattle.std.proofs.lemmas.Iterator.Consumers.{YieldsList-at, YieldsList-from_filter, nth_from_yields_List}
+use Rattle.std.proofs.lemmas.Iterator.{YieldsList-from_range, YieldsList-from_map, YieldsList-from_take}
+use Rattle.std.proofs.lemmas.Iterator.Adapters.{YieldsList-from_flat_map, serves_from_places}
+use Rattle.std.proofs.lemmas.Iterator.Consumers.{YieldsList-at, YieldsList-from_filter}
 use Rattle.std.proofs.lemmas.List.FromFn.{get_or-range_with_len, get_or-map-range_with_len, length-range_with_len, length-map-range_with_len}
 use Rattle.std.proofs.lemmas.Option.{same_Some}
 use Rattle.std.specs.List.{range_with_len, flat_map, filter, slice_get}
@@ -21,9 +21,10 @@ use Rattle.uplink.specs.Timing.{gap_period, in_block, group_at, active, period, 
 use Rattle.uplink.proofs.GapPeriods.{repeats}
 use Rattle.plain_uplink.specs.declared.obstacles.Obstacles.{Obstacles}
 use Rattle.plain_uplink.specs.Obstacles.{clear_of}
+use Rattle.chains.proofs.Counted.{last_of_list, last_taken}
 use Rattle.chains.proofs.Ranges.{period_selects}
 use Rattle.chains.proofs.Rows.{rows_hold, blocks_kept}
-use Rattle.plain_uplink.proofs.slots.nth.Goals.{After-nth, After-unwrap}
+use Rattle.plain_uplink.proofs.slots.nth.Goals.{After-last, After-unwrap}
 use Rattle.plain_uplink.proofs.slots.nth.Goals as goal
 
 fits : (x n P b : ℕ) → x < n → n ≤ 2 ^ 42 → P ≤ 2 ^ 17 → b < 2 ^ 16 → x * P + b < 2 ^ 60
@@ -38,8 +39,8 @@ all_fit n P b h k l =
     rows_hold (λ x. x < 2 ^ 60) (λ x. range_with_len (x * P) b) n 0
     (λ x p q i d r. omega (arith, fits x n P b (omega arith) h k l, r, length-range_with_len (x * P) b, get_or-range_with_len (x * P) b i d (omega (arith, r, length-range_with_len (x * P) b))))
 
-pub nth-requires : goal.nth-requires
-nth-requires c =
+pub last-requires-clause-can : goal.last-requires-clause-can
+last-requires-clause-can c =
     let s = c.args.s in
     let n = (c.args.i + 1) * 320 in
     let a : n ≤ 2 ^ 42 = omega (arith, c.requires.3) in
@@ -47,7 +48,8 @@ nth-requires c =
     let block : ℕ → Range ℕ = λ k. record { start = k * gap_period s; end = k * gap_period s + s.block } in
     let callee = ap (λ f. f.iter.f) c.filter.ensures.source ∙ c.flat_map.ensures.closure in
     let p : c.filter.result.iter.iter.f.0.now ≡ gap_period s = ap (λ f. f.0.now) callee in
-    let q : c.filter.result.iter.iter.f.1.now ≡ s.block = ap (λ f. f.1.now) callee in (
+    let q : c.filter.result.iter.iter.f.1.now ≡ s.block = ap (λ f. f.1.now) callee in
+    rw c.take.ensures.source (
       (
         (
           (λ h. (
@@ -97,25 +99,26 @@ module _ (s : Shape) (os : Obstacles) where
       rw e
       (rw (le-ltb ((k * gap_period s + (s.block + i)) % gap_period s) s.block (omega (arith, digits_mod k {m = gap_period s} {r = s.block + i} (omega arith)))) refl)
 
-found : (c : After-nth)
-    → c.nth.result ≡ Some (select (active c.args.s (clear_of c.args.os)) (period c.args.s) 0 c.args.i)
+found : (c : After-last)
+    → c.last.result ≡ Some (select (active c.args.s (clear_of c.args.os)) (period c.args.s) 0 c.args.i)
 found c =
     let s = c.args.s in
     let u = active s (clear_of c.args.os) in
     let n = (c.args.i + 1) * 320 in
     let i = c.args.i in
-    sym (option_map_id c.nth.result)
-    ∙ nth_from_yields_List c.nth.result _ i c.nth.ensures.ran
-    (YieldsList-from_filter _ (λ x. clear_of c.args.os (group_at s (s.first + x)))
+    last_of_list c.last.result c.last.ensures.ran
+    (YieldsList-from_take (i + 1)
+    (YieldsList-at c.take.ensures.source (YieldsList-from_filter _ (λ x. clear_of c.args.os (group_at s (s.first + x)))
     (YieldsList-at c.filter.ensures.source (YieldsList-from_flat_map _ _ _ (λ x. x) (λ k. range_with_len (k * gap_period s) s.block) _
     (λ x u q k. (search (rules, tests), λ j o. YieldsList-from_range (x * gap_period s) (x * gap_period s + s.block) s.block (o ∙ search (rules, tests)) (omega arith)))
     (YieldsList-from_range 0 _ n c.flat_map.ensures.source (omega arith))
     c.flat_map.ensures.closure c.flat_map.ensures.front c.flat_map.ensures.back c.flat_map.ensures.done)) c.filter.ensures.closure
-    (λ x b q k. search (rules, tests)))
-    ∙ ap (λ xs. slice_get xs i)
+    (λ x b q k. search (rules, tests)))) c.take.ensures.count)
+    ∙ last_taken _ i (select u (period s) 0 i)
+    (ap (λ xs. slice_get xs i)
     (blocks_kept u (λ x. clear_of c.args.os (group_at s (s.first + x))) s.block s.gap (inside s c.args.os) (outside s c.args.os) n
     ∙ ap (λ (m : ℕ). filter u (range_with_len 0 m)) (mul_assoc (i + 1) 320 (gap_period s)))
-    ∙ period_selects u (period s) (repeats s (clear_of c.args.os) c.requires.0 c.requires.2) c.requires.2.some 0 i
+    ∙ period_selects u (period s) (repeats s (clear_of c.args.os) c.requires.0 c.requires.2) c.requires.2.some 0 i)
 
 pub unwrap-requires : goal.unwrap-requires
 unwrap-requires c = rw (found c) refl
