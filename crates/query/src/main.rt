@@ -62,7 +62,7 @@ impl Session {
         Ok(Session {
             line: Vec::with_capacity(alloc, KEPT)?,
             lines: 0,
-            values: Values::new(alloc),
+            values: Values::new(),
             answers: String::new(alloc),
         })
     }
@@ -73,7 +73,7 @@ impl Session {
         self.lines = self.lines.saturating_add(1);
         let line = questions::without_return(&self.line);
         let out = &mut self.answers;
-        match questions::take_line(alloc, line, &mut self.values)? {
+        match questions::take_line(line, &mut self.values) {
             Line::Nothing => {}
             Line::Wrong(fault, word) => answers::write_fault(fault, self.lines, word, out)?,
             Line::Help(word) => answers::write_help(word, out)?,

@@ -1,5 +1,5 @@
 -- For the code alone. The values that no line has given, and which value stands where in what is asked.
-use Rattle.std.specs.Prelude.{◌≡◌, List, [], ◌∷◌, ◌++◌, ℕ, flat_map, get_or, vec_len}
+use Rattle.std.specs.Prelude.{◌≡◌, List, [], ◌∷◌, ◌++◌, ℕ, flat_map, get_or}
 use Rattle.std.specs.List.{repeat}
 use Rattle.cell.specs.declared.Cell.{Cell}
 use Rattle.cell.specs.declared.CellConfig.{CellConfig}
@@ -15,6 +15,7 @@ use Rattle.questions.specs.declared.question.Kind.{Kind}
 use Rattle.questions.specs.declared.question.Kind.TheVariants.{Up, Ack, Down, Control, Npbch, Sib1}
 use Rattle.questions.specs.declared.values.Values.{Values}
 use Rattle.search_space.specs.declared.SearchSpace.{SearchSpace}
+use Rattle.text.specs.Buffer.{buffer_bytes}
 use Rattle.walk.specs.declared.Grant.{Grant}
 use Rattle.walk.specs.declared.Grant.TheVariants.{Npusch, HarqAck, Npdsch, Npdcch}
 use Rattle.walk.specs.declared.Walk.{Walk}
@@ -38,9 +39,9 @@ pub record IsStart (v : Values) : Type 0 where
   pub room : v.room ≡ 336
   pub siwindow : v.siwindow ≡ 160
   pub others : numbers v ≡ repeat 63 (0 ∷ [])
-  pub anchor : vec_len v.anchor ≡ 0
-  pub other : vec_len v.other ≡ 0
-  pub bytes : vec_len v.«data» ≡ 0
+  pub anchor : buffer_bytes v.anchor ≡ []
+  pub other : buffer_bytes v.other ≡ []
+  pub bytes : buffer_bytes v.«data» ≡ []
 
 -- ---- which value stands where
 

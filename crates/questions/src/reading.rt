@@ -9,7 +9,7 @@ use crate::question::{Fault, Kind, Question};
 use crate::values::{Place, Values};
 use messages::Schedule;
 use nprach::Window;
-use std::alloc::{AllocError, Global};
+use text::{Buffer, HexError};
 
 // The longest line, its end aside.
 const LONGEST: usize = 4096;
@@ -24,22 +24,12 @@ pub enum Line<'a> {
     Asked(Question),
 }
 
-// Why a value is not kept.
-#[derive(Clone, Copy)]
-enum Failure {
-    Wrong(Fault),
-    OutOfMemory(AllocError),
-}
-
-impl From<Fault> for Failure {
-    fn from(fault: Fault) -> Failure {
-        Failure::Wrong(fault)
-    }
-}
-
-impl From<AllocError> for Failure {
-    fn from(error: AllocError) -> Failure {
-        Failure::OutOfMemory(error)
+impl From<HexError> for Fault {
+    fn from(error: HexError) -> Fault {
+        match error {
+            HexError::NotHex => Fault::Hex,
+            HexError::TooLong => Fault::Size,
+        }
     }
 }
 
@@ -84,37 +74,34 @@ fn read_schedule(word: &[u8]) -> Result<Schedule, Fault> {
     })
 }
 
-fn read_bytes(alloc: Global, word: &[u8], most: usize) -> Result<Vec<u8>, Failure> {
+fn read_bytes<const N: usize>(word: &[u8]) -> Result<Buffer<N>, Fault> {
     if matches!(word, b"-") {
-        return Ok(Vec::new(alloc));
+        return Ok(Buffer::new());
     }
-    let bytes = text::bytes(alloc, word)?.ok_or(Fault::Hex)?;
-    if bytes.len() > most {
-        return Err(Failure::Wrong(Fault::Size));
-    }
-    Ok(bytes)
+    Ok(text::bytes(word)?)
 }
 
 // Four bytes, the highest first.
-fn read_pattern(alloc: Global, word: &[u8]) -> Result<u32, Failure> {
-    let bytes = text::bytes(alloc, word)?.ok_or(Fault::Hex)?;
+fn read_pattern(word: &[u8]) -> Result<u32, Fault> {
+    let bytes = text::bytes::<4>(word)?;
     match bytes.as_slice() {
         [a, b, c, d] => Ok(u32::from_be_bytes([*a, *b, *c, *d])),
-        _ => Err(Failure::Wrong(Fault::Size)),
+        _ => Err(Fault::Size),
     }
 }
 
 // Keeps the value of a word, a name and what stands after its equals sign.
-fn keep_word(alloc: Global, word: &[u8], values: &mut Values) -> Result<(), Failure> {
+fn keep_word(word: &[u8], values: &mut Values) -> Result<(), Fault> {
     if word.contains(&b'\t') || word.contains(&b'\r') {
-        return Err(Failure::Wrong(Fault::Value));
+        return Err(Fault::Value);
     }
     let (name, value) = text::split_once(word, b'=').ok_or(Fault::Value)?;
     match values.place(name).ok_or(Fault::Name)? {
         Place::Number(number) => *number = read_number(value, u64::MAX)?,
         Place::Limited(number, largest) => *number = read_number(value, largest)?,
-        Place::Pattern(pattern) => *pattern = read_pattern(alloc, value)?,
-        Place::Buffer(buffer, most) => *buffer = read_bytes(alloc, value, most)?,
+        Place::Pattern(pattern) => *pattern = read_pattern(value)?,
+        Place::Bitmap(bitmap) => *bitmap = read_bytes(value)?,
+        Place::Bytes(bytes) => *bytes = read_bytes(value)?,
         Place::Window(window) => *window = read_window(value)?,
         Place::Schedule(schedule) => *schedule = read_schedule(value)?,
     }
@@ -122,86 +109,73 @@ fn keep_word(alloc: Global, word: &[u8], values: &mut Values) -> Result<(), Fail
 }
 
 // A word that help tells of: a question, a kind or a name.
-fn is_known(alloc: Global, word: &[u8]) -> bool {
+fn is_known(word: &[u8]) -> bool {
     matches!(word, b"help")
         || Question::of(word, None) != Err(Fault::Question)
         || Kind::of(word).is_some()
-        || Values::new(alloc).place(word).is_some()
+        || Values::new().place(word).is_some()
 }
 
-// Help, by the words after that one.
-fn read_help<'a>(alloc: Global, words: &[&'a [u8]]) -> Line<'a> {
-    match words {
-        [] => Line::Help(None),
-        [word, ..] if !is_known(alloc, word) => Line::Wrong(Fault::Name, 2),
-        [word] => Line::Help(Some(*word)),
-        _ => Line::Wrong(Fault::Value, 3),
+// Help, by the word after that one, and whether more follow.
+fn read_help(word: Option<&[u8]>, more: bool) -> Line<'_> {
+    match word {
+        None => Line::Help(None),
+        Some(word) if !is_known(word) => Line::Wrong(Fault::Name, 2),
+        Some(_) if more => Line::Wrong(Fault::Value, 3),
+        Some(word) => Line::Help(Some(word)),
     }
 }
 
-// A line's words, of which the last are values.
-fn read_words<'a>(
-    alloc: Global,
-    words: &[&'a [u8]],
-    values: &mut Values,
-) -> Result<Line<'a>, AllocError>
+// A line's words, with spaces between them, of which the last are values.
+fn read_words<'a>(line: &'a [u8], values: &mut Values) -> Line<'a>
     ensures kept { asks result ≡ false → values.new ≡ values.old }
 {
-    match words {
-        [] => Ok(Line::Nothing),
-        [b"help", rest @ ..] => Ok(read_help(alloc, rest)),
-        [first, rest @ ..] => {
-            let kind = rest.first().and_then(|word| Kind::of(word));
-            match Question::of(first, kind) {
-                Err(Fault::Kind) => Ok(Line::Wrong(Fault::Kind, 2)),
-                Err(fault) => Ok(Line::Wrong(fault, 1)),
-                Ok(question) => keep_words(alloc, words, question, values),
-            }
-        }
+    let mut words = line.split(|b| *b == b' ');
+    let Some(first) = words.next() else {
+        return Line::Nothing;
+    };
+    let second = words.next();
+    if matches!(first, b"help") {
+        return read_help(second, words.next().is_some());
+    }
+    let kind = second.and_then(|word| Kind::of(word));
+    match Question::of(first, kind) {
+        Err(Fault::Kind) => Line::Wrong(Fault::Kind, 2),
+        Err(fault) => Line::Wrong(fault, 1),
+        Ok(question) => keep_words(line, question, values),
     }
 }
 
-// Keeps the values of a question's words, if each of them is good.
-fn keep_words<'a>(
-    alloc: Global,
-    words: &[&'a [u8]],
-    question: Question,
-    values: &mut Values,
-) -> Result<Line<'a>, AllocError>
+// Keeps the values of the words of a question's line, if each of them is good.
+fn keep_words<'a>(line: &'a [u8], question: Question, values: &mut Values) -> Line<'a>
     ensures kept { asks result ≡ false → values.new ≡ values.old }
 {
     let named = if question.kind().is_some() { 2 } else { 1 };
-    let mut kept = values.clone()?;
+    let mut kept = *values;
+    let words = line.split(|b| *b == b' ');
     for (number, word) in (1..).zip(words).skip(named) {
-        match keep_word(alloc, word, &mut kept) {
-            Ok(()) => {}
-            Err(Failure::Wrong(fault)) => return Ok(Line::Wrong(fault, number)),
-            Err(Failure::OutOfMemory(error)) => return Err(error),
+        if let Err(fault) = keep_word(word, &mut kept) {
+            return Line::Wrong(fault, number);
         }
     }
     *values = kept;
-    Ok(Line::Asked(question))
+    Line::Asked(question)
 }
 
 // Reads a line, and keeps its values if it asks a question.
-pub fn take_line<'a>(
-    alloc: Global,
-    line: &'a [u8],
-    values: &mut Values,
-) -> Result<Line<'a>, AllocError>
+pub fn take_line<'a>(line: &'a [u8], values: &mut Values) -> Line<'a>
     ensures kept { asks result ≡ false → values.new ≡ values.old }
-    ensures nothing { length line.now ≡ 0 → result ≡ Ok Nothing }
-    ensures remark { slice_get line.now 0 ≡ Some 35 → result ≡ Ok Nothing }
-    ensures long { 4096 < length line.now → slice_get line.now 0 ≢ Some 35 → result ≡ Ok (Wrong Long 0) }
+    ensures nothing { length line.now ≡ 0 → result ≡ Nothing }
+    ensures remark { slice_get line.now 0 ≡ Some 35 → result ≡ Nothing }
+    ensures long { 4096 < length line.now → slice_get line.now 0 ≢ Some 35 → result ≡ Wrong Long 0 }
 {
     if matches!(line, [] | [b'#', ..]) {
-        return Ok(Line::Nothing);
+        return Line::Nothing;
     }
     if line.len() > LONGEST {
-        return Ok(Line::Wrong(Fault::Long, 0));
+        return Line::Wrong(Fault::Long, 0);
     }
-    let words: Vec<&'a [u8]> = line.split(|b| *b == b' ').collect(alloc)?;
-    read_words(alloc, words.as_slice(), values)
+    read_words(line, values)
 }
 
 // A line without the carriage return at its end.
@@ -214,11 +188,10 @@ pub fn without_return(line: &[u8]) -> &[u8]
 #[cfg(test)]
 mod tests {
     use super::*;
-    use std::test::Fail;
 
     #[test]
-    fn questions(rt: HostRuntime) -> Result<(), Fail> {
-        let mut values = Values::new(rt.alloc());
+    fn questions(rt: HostRuntime) {
+        let mut values = Values::new();
         let cases: [(&[u8], Line); 12] = [
             (b"", Line::Nothing),
             (b"# plan", Line::Nothing),
@@ -234,16 +207,15 @@ mod tests {
             (b"plan up ", Line::Wrong(Fault::Value, 3)),
         ];
         for (line, read) in cases {
-            let answer = take_line(rt.alloc(), line, &mut values)?;
+            let answer = take_line(line, &mut values);
             assert!(rt; answer == read);
         }
-        Ok(())
     }
 
     #[test]
-    fn faults_of_values(rt: HostRuntime) -> Result<(), Fail> {
-        let mut values = Values::new(rt.alloc());
-        let cases: [(&[u8], Fault); 12] = [
+    fn faults_of_values(rt: HostRuntime) {
+        let mut values = Values::new();
+        let cases: [(&[u8], Fault); 14] = [
             (b"set n=1 n", Fault::Value),
             (b"set n=1 n=\t1", Fault::Value),
             (b"set n=1 q=1", Fault::Name),
@@ -253,24 +225,25 @@ mod tests {
             (b"set n=1 anchor=abc", Fault::Hex),
             (b"set n=1 level=-", Fault::Hex),
             (b"set n=1 level=0011", Fault::Size),
+            (b"set n=1 level=0011223344", Fault::Size),
+            (b"set n=1 level=001122334g", Fault::Hex),
             (b"set n=1 w1=1,2,3", Fault::Number),
             (b"set n=1 w1=1,2,3,4,5", Fault::Number),
             (b"set n=1 m1=1,2", Fault::Number),
         ];
         for (line, fault) in cases {
-            let answer = take_line(rt.alloc(), line, &mut values)?;
+            let answer = take_line(line, &mut values);
             assert!(rt; answer == Line::Wrong(fault, 3));
         }
         assert_eq!(rt; values.n, 0);
-        Ok(())
     }
 
     #[test]
-    fn values_kept(rt: HostRuntime) -> Result<(), Fail> {
-        let mut values = Values::new(rt.alloc());
+    fn values_kept(rt: HostRuntime) {
+        let mut values = Values::new();
         let line =
             b"plan up n=1 n=7 w4=1,2,3,4 m2=5,6,7 anchor=0aFF level=3f800000 room=1024 other=-";
-        let answer = take_line(rt.alloc(), line, &mut values)?;
+        let answer = take_line(line, &mut values);
         assert!(rt; answer == Line::Asked(Question::Plan(Kind::Up)));
         assert_eq!(rt; values.n, 7);
         assert_eq!(rt; values.windows[3].tone, 4);
@@ -279,7 +252,17 @@ mod tests {
         assert_eq!(rt; values.level, 0x3f80_0000);
         assert_eq!(rt; values.room, 1024);
         assert_eq!(rt; values.siwindow, 160);
-        Ok(())
+    }
+
+    #[test]
+    fn bytes_that_fit(rt: HostRuntime) {
+        let mut values = Values::new();
+        let mut line = [b'0'; 145];
+        line[..15].copy_from_slice(b"set n=1 anchor=");
+        assert!(rt; take_line(&line, &mut values) == Line::Wrong(Fault::Size, 3));
+        assert!(rt; take_line(&line[..144], &mut values) == Line::Wrong(Fault::Hex, 3));
+        assert!(rt; take_line(&line[..143], &mut values) == Line::Asked(Question::Set));
+        assert_eq!(rt; values.anchor.as_slice(), [0; 64].as_slice());
     }
 
     #[test]

@@ -8,7 +8,7 @@ use npdsch::NpdschGrant;
 use nprach::{Window, Windows};
 use npusch::NpuschGrant;
 use search_space::SearchSpace;
-use std::alloc::Global;
+use text::Buffer;
 use walk::{Engine, Grant, Walk};
 
 const LARGEST_ROOM: u64 = 1024;
@@ -33,7 +33,7 @@ const NO_WINDOW: Window = Window {
     tone: 0,
 };
 
-#[derive(Clone, Drop)]
+#[derive(Clone, Copy)]
 pub struct Values {
     pub mode: u64,
     pub carrier: u64,
@@ -43,8 +43,8 @@ pub struct Values {
     pub control: u64,
     pub sib1: u64,
     pub bits: u64,
-    pub anchor: Vec<u8>,
-    pub other: Vec<u8>,
+    pub anchor: Buffer<BITMAP_BYTES>,
+    pub other: Buffer<BITMAP_BYTES>,
     pub siwindow: u64,
     pub sioffset: u64,
     pub message_count: u64,
@@ -75,7 +75,7 @@ pub struct Values {
     pub engine: u64,
     // The bit pattern of an f32.
     pub level: u32,
-    pub data: Vec<u8>,
+    pub data: Buffer<DATA_BYTES>,
     pub room: u64,
     pub no: u64,
 }
@@ -86,7 +86,8 @@ pub(crate) enum Place<'a> {
     Number(&'a mut u64),
     Limited(&'a mut u64, u64),
     Pattern(&'a mut u32),
-    Buffer(&'a mut Vec<u8>, usize),
+    Bitmap(&'a mut Buffer<BITMAP_BYTES>),
+    Bytes(&'a mut Buffer<DATA_BYTES>),
     Window(&'a mut Window),
     Schedule(&'a mut Schedule),
 }
@@ -100,7 +101,7 @@ impl Values {
     ghost use Rattle.questions.specs.Values.{harq_ack_of, windows_of, walk_of};
 
     // All 0 or empty, but the room and the messages' window.
-    pub fn new(alloc: Global) -> Values
+    pub fn new() -> Values
         ensures { IsStart result }
     {
         Values {
@@ -112,8 +113,8 @@ impl Values {
             control: 0,
             sib1: 0,
             bits: 0,
-            anchor: Vec::new(alloc),
-            other: Vec::new(alloc),
+            anchor: Buffer::new(),
+            other: Buffer::new(),
             siwindow: 160,
             sioffset: 0,
             message_count: 0,
@@ -143,7 +144,7 @@ impl Values {
             i: 0,
             engine: 0,
             level: 0,
-            data: Vec::new(alloc),
+            data: Buffer::new(),
             room: 336,
             no: 0,
         }
@@ -160,8 +161,8 @@ impl Values {
             b"control" => Place::Number(&mut self.control),
             b"sib1" => Place::Number(&mut self.sib1),
             b"bits" => Place::Number(&mut self.bits),
-            b"anchor" => Place::Buffer(&mut self.anchor, BITMAP_BYTES),
-            b"other" => Place::Buffer(&mut self.other, BITMAP_BYTES),
+            b"anchor" => Place::Bitmap(&mut self.anchor),
+            b"other" => Place::Bitmap(&mut self.other),
             b"siwindow" => Place::Number(&mut self.siwindow),
             b"sioffset" => Place::Number(&mut self.sioffset),
             b"messages" => Place::Number(&mut self.message_count),
@@ -211,7 +212,7 @@ impl Values {
             b"i" => Place::Number(&mut self.i),
             b"engine" => Place::Limited(&mut self.engine, LARGEST_ENGINE),
             b"level" => Place::Pattern(&mut self.level),
-            b"data" => Place::Buffer(&mut self.data, DATA_BYTES),
+            b"data" => Place::Bytes(&mut self.data),
             b"room" => Place::Limited(&mut self.room, LARGEST_ROOM),
             b"no" => Place::Number(&mut self.no),
             _ => return None,

@@ -1,5 +1,8 @@
 -- For the code alone. Bytes in hex.
-use Rattle.std.specs.Prelude.{cond, ◌&&◌, List, [], ◌∷◌, ℕ, ◌+◌, ◌*◌, ◌-◌, leb, Option, Some, None}
+use Rattle.std.specs.Prelude.{cond, ◌&&◌, List, [], ◌∷◌, ℕ, ◌+◌, ◌*◌, ◌-◌, leb, length, Option, Some, None}
+use Rattle.std.specs.Prelude.{Result, Ok, Err}
+use Rattle.text.specs.declared.hex.HexError.{HexError}
+use Rattle.text.specs.declared.hex.HexError.TheVariants.{NotHex, TooLong}
 
 -- a hex digit's number, in either case
 unfoldable pub digit_of : ℕ → Option ℕ
@@ -32,3 +35,8 @@ pairs_of (a ∷ b ∷ s) = before (pair_of a b) (pairs_of s)
 unfoldable pub bytes_of : List ℕ → Option (List ℕ)
 bytes_of [] = None
 bytes_of (a ∷ s) = pairs_of (a ∷ s)
+
+-- at most n bytes; what is no hex is told before what is too long
+unfoldable pub within : ℕ → Option (List ℕ) → Result (List ℕ) HexError
+within n None = Err NotHex
+within n (Some bytes) = cond (leb (length bytes) n) (Ok bytes) (Err TooLong)

@@ -1,8 +1,10 @@
 // Bytes in hex, two digits each.
-ghost use Rattle.std.specs.Prelude.{◌≡◌, ◌<◌, IfOk, IfSome, option_map};
-ghost use Rattle.text.specs.Hex.{digit_of, pair_of, bytes_of};
+ghost use Rattle.std.specs.Prelude.{◌≡◌, ◌<◌, IfSome};
+ghost use Rattle.std.specs.Result.{result_map_both};
+ghost use Rattle.text.specs.Buffer.{buffer_bytes};
+ghost use Rattle.text.specs.Hex.{digit_of, pair_of, bytes_of, within};
 
-use std::alloc::{AllocError, Global};
+use crate::buffer::Buffer;
 
 // A hex digit's number, in either case.
 #[tactic(auto, unfolding(crate::specs::Hex::digit_of))]
@@ -26,26 +28,40 @@ fn pair(high: u8, low: u8) -> Option<u8>
     Some(16 * digit(high)? + digit(low)?)
 }
 
-// The bytes of a hex text, at least one.
-pub fn bytes(alloc: Global, s: &[u8]) -> Result<Option<Vec<u8>>, AllocError>
-    ensures { IfOk result (λ o. option_map (λ v. v.items) o ≡ bytes_of s.now) }
+// Why a text gives no bytes: it is no hex, or its bytes are more than there is room for.
+#[derive(Clone, Copy, PartialEq, Eq)]
+pub enum HexError {
+    NotHex,
+    TooLong,
+}
+
+// The bytes of a hex text, at least one and at most N.
+pub fn bytes<const N: usize>(s: &[u8]) -> Result<Buffer<N>, HexError>
+    ensures { result_map_both buffer_bytes (λ e. e) result ≡ within N (bytes_of s.now) }
 {
     if s.is_empty() {
-        return Ok(None);
+        return Err(HexError::NotHex);
     }
-    let mut out = Vec::new(alloc);
+    let mut room = [0; N];
+    let mut count = 0;
     let mut rest = s;
     while let [high, low, after @ ..] = rest {
         let Some(byte) = pair(*high, *low) else {
-            return Ok(None);
+            return Err(HexError::NotHex);
         };
-        out.push(byte)?;
+        if count < N {
+            room[count] = byte;
+        }
+        count += 1;
         rest = after;
     }
     if rest.is_empty() {
-        Ok(Some(out))
+        if count > N {
+            return Err(HexError::TooLong);
+        }
+        Ok(Buffer { room, count })
     } else {
-        Ok(None)
+        Err(HexError::NotHex)
     }
 }
 
@@ -56,16 +72,22 @@ mod tests {
 
     #[test]
     fn bytes_of_a_text(rt: HostRuntime) -> Result<(), Fail> {
-        let read = bytes(rt.alloc(), b"0aFf")?.ok_or("no bytes")?;
+        let read = bytes::<2>(b"0aFf").ok().ok_or("no bytes")?;
         assert_eq!(rt; read.as_slice(), [0x0a, 0xff].as_slice());
         Ok(())
     }
 
     #[test]
-    fn no_bytes(rt: HostRuntime) -> Result<(), Fail> {
-        assert!(rt; bytes(rt.alloc(), b"")?.is_none());
-        assert!(rt; bytes(rt.alloc(), b"0")?.is_none());
-        assert!(rt; bytes(rt.alloc(), b"0g")?.is_none());
-        Ok(())
+    fn no_bytes(rt: HostRuntime) {
+        assert!(rt; bytes::<2>(b"").err() == Some(HexError::NotHex));
+        assert!(rt; bytes::<2>(b"0").err() == Some(HexError::NotHex));
+        assert!(rt; bytes::<2>(b"0g").err() == Some(HexError::NotHex));
+    }
+
+    #[test]
+    fn too_many_bytes(rt: HostRuntime) {
+        assert!(rt; bytes::<2>(b"012345").err() == Some(HexError::TooLong));
+        assert!(rt; bytes::<2>(b"0123450").err() == Some(HexError::NotHex));
+        assert!(rt; bytes::<2>(b"01234g").err() == Some(HexError::NotHex));
     }
 }
