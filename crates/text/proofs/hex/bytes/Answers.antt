@@ -41,14 +41,14 @@ loop-rest-preserved g c =
 
 pub returns-then-count-2 : goal.returns-then-count-2
 returns-then-count-2 g c =
-    too_long _ _ _ _ _ c.loop-rest.invariant.reads (grind (arith, c.if-is_empty-2.ensures)) (grind (arith, c.if-is_empty.ensures)) c.if-count-2.true
+    too_long _ _ _ _ _ c.loop-rest.invariant.reads (grind arith) (grind (arith, c.if-is_empty.ensures)) c.if-count-2.true
 
 pub returns-else-count-2 : goal.returns-else-count-2
 returns-else-count-2 g c =
-    kept_whole _ _ _ _ _ c.loop-rest.invariant.reads (grind (arith, c.if-is_empty-2.ensures)) (grind (arith, c.if-is_empty.ensures)) (omega arith)
+    kept_whole _ _ _ _ _ c.loop-rest.invariant.reads (grind arith) (grind (arith, c.if-is_empty.ensures)) (omega arith)
 
 -- an odd digit
 pub returns-else-is_empty-2 : goal.returns-else-is_empty-2
 returns-else-is_empty-2 g c =
-    not_hex _ _ (one_left _ _ c.in_default.len_below (grind (arith, c.if-is_empty-2.ensures))
+    not_hex _ _ (one_left _ _ c.in_default.len_below (grind arith)
     ∙ sym (some_text _ (grind (arith, c.if-is_empty.ensures)) ∙ c.loop-rest.invariant.reads.read))
