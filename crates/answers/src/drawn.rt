@@ -1,5 +1,5 @@
 // The words over and under what is drawn: a transmitted subframe or slot, and a grant's frames.
-ghost use Rattle.std.specs.Prelude.{◌≡◌, ◌++◌, OnOk, string_bytes};
+ghost use Rattle.std.specs.Prelude.{◌≡◌, ◌≤◌, ◌+◌, ◌++◌, OnOk, length, string_bytes};
 ghost use Rattle.answers.specs.Drawn.{place_text, subframe_text, slot_text, unit_text, tones_text};
 ghost use Rattle.answers.specs.Drawn.{slot_columns_text, more_text};
 
@@ -19,9 +19,10 @@ pub struct Shown {
 }
 
 // The frame of the subframe, its number in it, and which of those sent it is.
-#[tactic(auto, unfolding(crate::specs::Drawn::place_text))]
+#[tactic(auto, using(crate::proofs::Room::rooms), unfolding(crate::specs::Drawn::place_text))]
 fn write_place(x: Shown, out: &mut String) -> Result<(), AllocError>
-    ensures { OnOk result (string_bytes out.new ≡ string_bytes out.old ++ place_text x) }
+    ensures text { OnOk result (string_bytes out.new ≡ string_bytes out.old ++ place_text x) }
+    ensures room { OnOk result (length (string_bytes out.new) ≤ length (string_bytes out.old) + 160) }
 {
     let frame = x.subframe / 10 % FRAMES;
     let within = x.subframe % 10;
@@ -34,7 +35,8 @@ fn write_place(x: Shown, out: &mut String) -> Result<(), AllocError>
 
 // The title of a subframe, the legend and the columns.
 pub fn write_subframe(x: Shown, out: &mut String) -> Result<(), AllocError>
-    ensures { OnOk result (string_bytes out.new ≡ string_bytes out.old ++ subframe_text x) }
+    ensures text { OnOk result (string_bytes out.new ≡ string_bytes out.old ++ subframe_text x) }
+    ensures room { OnOk result (length (string_bytes out.new) ≤ length (string_bytes out.old) + 384) }
 {
     write!(out, "subframe {}: ", x.unit)?;
     write_place(x, out)?;
@@ -51,7 +53,8 @@ o ours, N narrowband reference, C cell reference, # control region, . anything e
 
 // The title of a slot, up to its codeword slot.
 pub fn write_slot(x: Shown, out: &mut String) -> Result<(), AllocError>
-    ensures { OnOk result (string_bytes out.new ≡ string_bytes out.old ++ slot_text x) }
+    ensures text { OnOk result (string_bytes out.new ≡ string_bytes out.old ++ slot_text x) }
+    ensures room { OnOk result (length (string_bytes out.new) ≤ length (string_bytes out.old) + 256) }
 {
     write!(out, "slot {}: from subframe {}, ", x.unit, x.subframe)?;
     write_place(x, out)?;
@@ -60,21 +63,24 @@ pub fn write_slot(x: Shown, out: &mut String) -> Result<(), AllocError>
 
 // The resource unit of a slot's title.
 pub fn write_unit(unit: u64, out: &mut String) -> Result<(), AllocError>
-    ensures { OnOk result (string_bytes out.new ≡ string_bytes out.old ++ unit_text unit) }
+    ensures text { OnOk result (string_bytes out.new ≡ string_bytes out.old ++ unit_text unit) }
+    ensures room { OnOk result (length (string_bytes out.new) ≤ length (string_bytes out.old) + 64) }
 {
     write!(out, ", resource unit {unit}")
 }
 
 // The granted tones, the last words of a slot's title.
 pub fn write_tones(first: u64, last: u64, out: &mut String) -> Result<(), AllocError>
-    ensures { OnOk result (string_bytes out.new ≡ string_bytes out.old ++ tones_text first last) }
+    ensures text { OnOk result (string_bytes out.new ≡ string_bytes out.old ++ tones_text first last) }
+    ensures room { OnOk result (length (string_bytes out.new) ≤ length (string_bytes out.old) + 64) }
 {
     writeln!(out, ", tones {first} to {last}")
 }
 
 // The legend of a slot, and its columns.
 pub fn write_slot_columns(slot: u64, out: &mut String) -> Result<(), AllocError>
-    ensures { OnOk result (string_bytes out.new ≡ string_bytes out.old ++ slot_columns_text slot) }
+    ensures text { OnOk result (string_bytes out.new ≡ string_bytes out.old ++ slot_columns_text slot) }
+    ensures room { OnOk result (length (string_bytes out.new) ≤ length (string_bytes out.old) + 128) }
 {
     write!(
         out,
@@ -84,7 +90,8 @@ pub fn write_slot_columns(slot: u64, out: &mut String) -> Result<(), AllocError>
 
 // How many frames are past the last row.
 pub fn write_more(frames: u64, out: &mut String) -> Result<(), AllocError>
-    ensures { OnOk result (string_bytes out.new ≡ string_bytes out.old ++ more_text frames) }
+    ensures text { OnOk result (string_bytes out.new ≡ string_bytes out.old ++ more_text frames) }
+    ensures room { OnOk result (length (string_bytes out.new) ≤ length (string_bytes out.old) + 64) }
 {
     writeln!(out, "more frames: {frames}")
 }

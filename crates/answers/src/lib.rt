@@ -1,7 +1,7 @@
 // The answers' lines, written to a text.
-#![tactic(auto)]
+#![tactic(auto, using(crate::proofs::Room::rooms))]
 
-ghost use Rattle.std.specs.Prelude.{◌≡◌, [], ◌++◌, OnOk, codes, string_bytes};
+ghost use Rattle.std.specs.Prelude.{◌≡◌, ◌≤◌, ◌+◌, ◌*◌, [], ◌++◌, OnOk, codes, length, string_bytes};
 ghost use Rattle.answers.specs.Line.{hex_of};
 ghost use Rattle.answers.specs.Answers.{fault_text, cell_text, bitmap_text, downlink_plan_text, uplink_plan_text};
 ghost use Rattle.answers.specs.Answers.{downlink_place_text, uplink_place_text, cause_text, count_text, back_then};
@@ -30,7 +30,8 @@ pub use drawn::{
 pub use told::{write_help, write_meaning};
 
 fn fault_word(fault: Fault) -> &'static str
-    ensures { result.now ≡ fault_word fault }
+    ensures word { result.now ≡ fault_word fault }
+    ensures room { length result.now ≤ 16 }
 {
     match fault {
         Fault::Long => "long",
@@ -45,7 +46,8 @@ fn fault_word(fault: Fault) -> &'static str
 }
 
 fn cause_word(cause: Cause) -> &'static str
-    ensures { result.now ≡ cause_word cause }
+    ensures word { result.now ≡ cause_word cause }
+    ensures room { length result.now ≤ 7 }
 {
     match cause {
         Cause::None => "none",
@@ -60,20 +62,24 @@ fn cause_word(cause: Cause) -> &'static str
 
 // A fault, by the numbers of its line and its word.
 pub fn write_fault(fault: Fault, line: u64, word: usize, out: &mut String) -> Result<(), AllocError>
-    ensures { OnOk result (string_bytes out.new ≡ string_bytes out.old ++ fault_text fault line word) }
+    ensures text { OnOk result (string_bytes out.new ≡ string_bytes out.old ++ fault_text fault line word) }
+    ensures room { OnOk result (length (string_bytes out.new) ≤ length (string_bytes out.old) + 320) }
 {
     writeln!(out, "error={} line={line} word={word}", fault_word(fault))
 }
 
 pub fn write_cell(no: u64, out: &mut String) -> Result<(), AllocError>
-    ensures { OnOk result (string_bytes out.new ≡ string_bytes out.old ++ cell_text no) }
+    ensures text { OnOk result (string_bytes out.new ≡ string_bytes out.old ++ cell_text no) }
+    ensures room { OnOk result (length (string_bytes out.new) ≤ length (string_bytes out.old) + 320) }
 {
     writeln!(out, "no={no}")
 }
 
 // Bytes in hex, a minus for none.
 fn write_hex(bytes: &[u8], out: &mut String) -> Result<(), AllocError>
-    ensures { OnOk result (string_bytes out.new ≡ string_bytes out.old ++ hex_of bytes.now) }
+    ensures text { OnOk result (string_bytes out.new ≡ string_bytes out.old ++ hex_of bytes.now) }
+    ensures room { OnOk result
+        (length (string_bytes out.new) ≤ length (string_bytes out.old) + (length bytes.now * 2 + 1)) }
 {
     if bytes.is_empty() {
         return write!(out, "-");
@@ -85,7 +91,9 @@ fn write_hex(bytes: &[u8], out: &mut String) -> Result<(), AllocError>
 }
 
 pub fn write_bitmap(no: u64, part: &[u8], out: &mut String) -> Result<(), AllocError>
-    ensures { OnOk result (string_bytes out.new ≡ string_bytes out.old ++ bitmap_text no part.now) }
+    ensures text { OnOk result (string_bytes out.new ≡ string_bytes out.old ++ bitmap_text no part.now) }
+    ensures room { length part.now ≤ 64 →
+        OnOk result (length (string_bytes out.new) ≤ length (string_bytes out.old) + 320) }
 {
     write!(out, "no={no} part=")?;
     write_hex(part, out)?;
@@ -93,7 +101,8 @@ pub fn write_bitmap(no: u64, part: &[u8], out: &mut String) -> Result<(), AllocE
 }
 
 pub fn write_downlink_plan(x: DownlinkPlan, out: &mut String) -> Result<(), AllocError>
-    ensures { OnOk result (string_bytes out.new ≡ string_bytes out.old ++ downlink_plan_text x) }
+    ensures text { OnOk result (string_bytes out.new ≡ string_bytes out.old ++ downlink_plan_text x) }
+    ensures room { OnOk result (length (string_bytes out.new) ≤ length (string_bytes out.old) + 320) }
 {
     let DownlinkPlan {
         no,
@@ -109,7 +118,8 @@ pub fn write_downlink_plan(x: DownlinkPlan, out: &mut String) -> Result<(), Allo
 }
 
 pub fn write_uplink_plan(x: UplinkPlan, out: &mut String) -> Result<(), AllocError>
-    ensures { OnOk result (string_bytes out.new ≡ string_bytes out.old ++ uplink_plan_text x) }
+    ensures text { OnOk result (string_bytes out.new ≡ string_bytes out.old ++ uplink_plan_text x) }
+    ensures room { OnOk result (length (string_bytes out.new) ≤ length (string_bytes out.old) + 320) }
 {
     let UplinkPlan {
         no,
@@ -127,7 +137,8 @@ pub fn write_uplink_plan(x: UplinkPlan, out: &mut String) -> Result<(), AllocErr
 }
 
 pub fn write_downlink_place(x: DownlinkPlace, out: &mut String) -> Result<(), AllocError>
-    ensures { OnOk result (string_bytes out.new ≡ string_bytes out.old ++ downlink_place_text x) }
+    ensures text { OnOk result (string_bytes out.new ≡ string_bytes out.old ++ downlink_place_text x) }
+    ensures room { OnOk result (length (string_bytes out.new) ≤ length (string_bytes out.old) + 320) }
 {
     let DownlinkPlace {
         no,
@@ -141,7 +152,8 @@ pub fn write_downlink_place(x: DownlinkPlace, out: &mut String) -> Result<(), Al
 }
 
 pub fn write_uplink_place(x: UplinkPlace, out: &mut String) -> Result<(), AllocError>
-    ensures { OnOk result (string_bytes out.new ≡ string_bytes out.old ++ uplink_place_text x) }
+    ensures text { OnOk result (string_bytes out.new ≡ string_bytes out.old ++ uplink_place_text x) }
+    ensures room { OnOk result (length (string_bytes out.new) ≤ length (string_bytes out.old) + 320) }
 {
     let UplinkPlace {
         no,
@@ -154,14 +166,16 @@ pub fn write_uplink_place(x: UplinkPlace, out: &mut String) -> Result<(), AllocE
 }
 
 pub fn write_cause(x: CauseAnswer, out: &mut String) -> Result<(), AllocError>
-    ensures { OnOk result (string_bytes out.new ≡ string_bytes out.old ++ cause_text x) }
+    ensures text { OnOk result (string_bytes out.new ≡ string_bytes out.old ++ cause_text x) }
+    ensures room { OnOk result (length (string_bytes out.new) ≤ length (string_bytes out.old) + 320) }
 {
     let CauseAnswer { no, cause } = x;
     writeln!(out, "no={no} cause={}", cause_word(cause))
 }
 
 pub fn write_count(x: ElementCount, out: &mut String) -> Result<(), AllocError>
-    ensures { OnOk result (string_bytes out.new ≡ string_bytes out.old ++ count_text x) }
+    ensures text { OnOk result (string_bytes out.new ≡ string_bytes out.old ++ count_text x) }
+    ensures room { OnOk result (length (string_bytes out.new) ≤ length (string_bytes out.old) + 320) }
 {
     let ElementCount { no, e } = x;
     writeln!(out, "no={no} e={e}")
@@ -169,7 +183,8 @@ pub fn write_count(x: ElementCount, out: &mut String) -> Result<(), AllocError>
 
 // The candidates before the count.
 fn write_candidates(x: SearchAnswer, out: &mut String) -> Result<(), AllocError>
-    ensures { OnOk result (string_bytes out.new ≡ string_bytes out.old ++ candidates_text x) }
+    ensures text { OnOk result (string_bytes out.new ≡ string_bytes out.old ++ candidates_text x) }
+    ensures room { OnOk result (length (string_bytes out.new) ≤ length (string_bytes out.old) + 1440) }
 {
     let listed = x.list.len().min(x.count as usize);
     for candidate in &x.list[..listed] {
@@ -180,7 +195,8 @@ fn write_candidates(x: SearchAnswer, out: &mut String) -> Result<(), AllocError>
 }
 
 pub fn write_search(x: SearchAnswer, out: &mut String) -> Result<(), AllocError>
-    ensures { OnOk result (string_bytes out.new ≡ string_bytes out.old ++ search_text x) }
+    ensures text { OnOk result (string_bytes out.new ≡ string_bytes out.old ++ search_text x) }
+    ensures room { OnOk result (length (string_bytes out.new) ≤ length (string_bytes out.old) + 2048) }
 {
     write!(out, "no={} start={} count={}", x.no, x.start, x.count)?;
     write_candidates(x, out)?;
@@ -188,7 +204,8 @@ pub fn write_search(x: SearchAnswer, out: &mut String) -> Result<(), AllocError>
 }
 
 fn write_back_values(x: Back, out: &mut String) -> Result<(), AllocError>
-    ensures { OnOk result (string_bytes out.new ≡ string_bytes out.old ++ back_then x []) }
+    ensures text { OnOk result (string_bytes out.new ≡ string_bytes out.old ++ back_then x []) }
+    ensures room { OnOk result (length (string_bytes out.new) ≤ length (string_bytes out.old) + 160) }
 {
     let Back {
         no,
@@ -204,14 +221,16 @@ fn write_back_values(x: Back, out: &mut String) -> Result<(), AllocError>
 }
 
 pub fn write_back(x: Back, out: &mut String) -> Result<(), AllocError>
-    ensures { OnOk result (string_bytes out.new ≡ string_bytes out.old ++ back_then x (codes "\n")) }
+    ensures text { OnOk result (string_bytes out.new ≡ string_bytes out.old ++ back_then x (codes "\n")) }
+    ensures room { OnOk result (length (string_bytes out.new) ≤ length (string_bytes out.old) + 320) }
 {
     write_back_values(x, out)?;
     writeln!(out)
 }
 
 pub fn write_downlink_back(x: DownlinkBack, out: &mut String) -> Result<(), AllocError>
-    ensures { OnOk result (string_bytes out.new ≡ string_bytes out.old ++ downlink_back_text x) }
+    ensures text { OnOk result (string_bytes out.new ≡ string_bytes out.old ++ downlink_back_text x) }
+    ensures room { OnOk result (length (string_bytes out.new) ≤ length (string_bytes out.old) + 320) }
 {
     let DownlinkBack { back, cause } = x;
     write_back_values(back, out)?;
@@ -225,7 +244,8 @@ pub fn write_skipped(
     cause: Cause,
     out: &mut String,
 ) -> Result<(), AllocError>
-    ensures { OnOk result (string_bytes out.new ≡ string_bytes out.old ++ skipped_text is_first t cause) }
+    ensures text { OnOk result (string_bytes out.new ≡ string_bytes out.old ++ skipped_text is_first t cause) }
+    ensures room { OnOk result (length (string_bytes out.new) ≤ length (string_bytes out.old) + 32) }
 {
     let comma = if is_first { "" } else { "," };
     write!(out, "{comma} {t} {}", cause_word(cause))
@@ -233,13 +253,15 @@ pub fn write_skipped(
 
 // How many more were skipped than are listed.
 pub fn write_unlisted(n: u64, out: &mut String) -> Result<(), AllocError>
-    ensures { OnOk result (string_bytes out.new ≡ string_bytes out.old ++ unlisted_text n) }
+    ensures text { OnOk result (string_bytes out.new ≡ string_bytes out.old ++ unlisted_text n) }
+    ensures room { OnOk result (length (string_bytes out.new) ≤ length (string_bytes out.old) + 64) }
 {
     writeln!(out, " and {n} more")
 }
 
 pub fn write_uplink_step(x: WalkPlace, p: u64, out: &mut String) -> Result<(), AllocError>
-    ensures { OnOk result (string_bytes out.new ≡ string_bytes out.old ++ uplink_step_text x p) }
+    ensures text { OnOk result (string_bytes out.new ≡ string_bytes out.old ++ uplink_step_text x p) }
+    ensures room { OnOk result (length (string_bytes out.new) ≤ length (string_bytes out.old) + 320) }
 {
     let WalkPlace {
         no,
@@ -257,7 +279,8 @@ pub fn write_uplink_step(x: WalkPlace, p: u64, out: &mut String) -> Result<(), A
 }
 
 pub fn write_downlink_step(x: WalkPlace, p: u64, out: &mut String) -> Result<(), AllocError>
-    ensures { OnOk result (string_bytes out.new ≡ string_bytes out.old ++ downlink_step_text x p) }
+    ensures text { OnOk result (string_bytes out.new ≡ string_bytes out.old ++ downlink_step_text x p) }
+    ensures room { OnOk result (length (string_bytes out.new) ≤ length (string_bytes out.old) + 320) }
 {
     let WalkPlace {
         no,
@@ -275,7 +298,8 @@ pub fn write_downlink_step(x: WalkPlace, p: u64, out: &mut String) -> Result<(),
 }
 
 pub fn write_element(x: ElementNumbers, out: &mut String) -> Result<(), AllocError>
-    ensures { OnOk result (string_bytes out.new ≡ string_bytes out.old ++ element_text x) }
+    ensures text { OnOk result (string_bytes out.new ≡ string_bytes out.old ++ element_text x) }
+    ensures room { OnOk result (length (string_bytes out.new) ≤ length (string_bytes out.old) + 320) }
 {
     let re = text::pattern_of(x.re);
     let im = text::pattern_of(x.im);
@@ -284,7 +308,9 @@ pub fn write_element(x: ElementNumbers, out: &mut String) -> Result<(), AllocErr
 
 // The patterns of a fill's numbers.
 pub fn write_fill(no: u64, numbers: &[f32], out: &mut String) -> Result<(), AllocError>
-    ensures { OnOk result (string_bytes out.new ≡ string_bytes out.old ++ fill_text no numbers.now) }
+    ensures text { OnOk result (string_bytes out.new ≡ string_bytes out.old ++ fill_text no numbers.now) }
+    ensures room { length numbers.now ≤ 1024 →
+        OnOk result (length (string_bytes out.new) ≤ length (string_bytes out.old) + 16384) }
 {
     write!(out, "no={no}")?;
     for x in numbers {

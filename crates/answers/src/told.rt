@@ -1,5 +1,5 @@
 // What is told in words: help, and the meanings of the refusal numbers.
-ghost use Rattle.std.specs.Prelude.{◌≡◌, ◌++◌, List, None, ℕ, OnOk, codes, string_bytes};
+ghost use Rattle.std.specs.Prelude.{◌≡◌, ◌≤◌, ◌+◌, ◌++◌, List, None, ℕ, OnOk, codes, length, string_bytes};
 ghost use Rattle.answers.specs.Answers.{meaning_text};
 
 use std::alloc::AllocError;
@@ -122,7 +122,8 @@ const REFUSALS: &str = "0 accepted
 
 // The lines of help that begin with a word and a space.
 fn write_lines_of(word: &[u8], out: &mut String) -> Result<(), AllocError>
-    ensures { OnOk result ((lines : List ℕ) × (string_bytes out.new ≡ string_bytes out.old ++ lines)) }
+    ensures lines { OnOk result ((lines : List ℕ) × (string_bytes out.new ≡ string_bytes out.old ++ lines)) }
+    ensures room { OnOk result (length (string_bytes out.new) ≤ length (string_bytes out.old) + 12634) }
 {
     for line in HELP.lines() {
         if let Some((first, _)) = line.split_once(' ') {
@@ -140,6 +141,7 @@ pub fn write_help(word: Option<&[u8]>, out: &mut String) -> Result<(), AllocErro
         OnOk result (string_bytes out.new ≡ string_bytes out.old ++ (codes "no=0\n" ++ HELP.now)) }
     ensures begun { OnOk result ((rest : List ℕ) ×
         (string_bytes out.new ≡ string_bytes out.old ++ (codes "no=0\n" ++ rest))) }
+    ensures room { OnOk result (length (string_bytes out.new) ≤ length (string_bytes out.old) + 16384) }
 {
     writeln!(out, "no=0")?;
     match word {
@@ -149,7 +151,9 @@ pub fn write_help(word: Option<&[u8]>, out: &mut String) -> Result<(), AllocErro
 }
 
 // The words of a refusal number.
-fn words_of(no: u64) -> &'static str {
+fn words_of(no: u64) -> &'static str
+    ensures { length result.now ≤ length REFUSALS.now }
+{
     REFUSALS
         .lines()
         .filter_map(|line| line.split_once(' '))
@@ -159,7 +163,9 @@ fn words_of(no: u64) -> &'static str {
 
 // The words of a refusal number.
 pub fn write_meaning(no: u64, out: &mut String) -> Result<(), AllocError>
-    ensures { OnOk result ((words : List ℕ) × (string_bytes out.new ≡ string_bytes out.old ++ meaning_text no words)) }
+    ensures text { OnOk result ((words : List ℕ) ×
+        (string_bytes out.new ≡ string_bytes out.old ++ meaning_text no words)) }
+    ensures room { OnOk result (length (string_bytes out.new) ≤ length (string_bytes out.old) + 16384) }
 {
     writeln!(out, "no={no} meaning={}", words_of(no))
 }

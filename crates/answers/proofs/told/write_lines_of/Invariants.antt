@@ -1,5 +1,9 @@
-use Rattle.std.proofs.Common.{◌≡◌, ◌++◌, List, ℕ, string_bytes}
+use Rattle.std.proofs.Common.{◌≡◌, ◌≤◌, ◌+◌, ◌*◌, ◌++◌, List, ℕ, length, string_bytes}
+use Rattle.std.specs.Str.Iter.{lines_rest}
 use Rattle.answers.proofs.told.write_lines_of.Given as goal
 
 abbrev pub invariant-loop-line : goal.invariant-loop-line
-invariant-loop-line l = (lines : List ℕ) × (string_bytes l.out ≡ string_bytes l.initial.out ++ lines)
+invariant-loop-line l =
+    ((lines : List ℕ) × (string_bytes l.out ≡ string_bytes l.initial.out ++ lines))
+    × (length (string_bytes l.out) + length (lines_rest l.line-iterator) * 2 ≤
+    length (string_bytes l.initial.out) + 12634)
