@@ -1,21 +1,29 @@
 // The questions, asked of the values, and their answers written.
+ghost use Rattle.std.specs.Prelude.{◌+◌, ◌≤◌, length, string_bytes, OnOk};
+
 use crate::asked::{Asked, Place};
 use crate::{picture, timeline};
 use questions::{Kind, Question, Values};
 use std::alloc::{AllocError, Global};
 
-fn bitmap(v: &Values, out: &mut String) -> Result<(), AllocError> {
+fn bitmap(v: &Values, out: &mut String) -> Result<(), AllocError>
+    ensures room { OnOk result (length (string_bytes out.new) ≤ length (string_bytes out.old) + 320) }
+{
     let c = v.cell();
     let no = nbiot::judge(c, &v.anchor, &v.other);
     answers::write_bitmap(no, nbiot::bitmap(c, &v.anchor, &v.other), out)
 }
 
-fn search(v: &Values, out: &mut String) -> Result<(), AllocError> {
+fn search(v: &Values, out: &mut String) -> Result<(), AllocError>
+    ensures room { OnOk result (length (string_bytes out.new) ≤ length (string_bytes out.old) + 2048) }
+{
     let x = nbiot::search(v.cell(), &v.anchor, &v.other, v.search_space());
     answers::write_search(x, out)
 }
 
-fn plan(asked: Asked, out: &mut String) -> Result<(), AllocError> {
+fn plan(asked: Asked, out: &mut String) -> Result<(), AllocError>
+    ensures room { OnOk result (length (string_bytes out.new) ≤ length (string_bytes out.old) + 320) }
+{
     if asked.kind.is_uplink() {
         answers::write_uplink_plan(asked.plan_slots(), out)
     } else {
@@ -23,7 +31,9 @@ fn plan(asked: Asked, out: &mut String) -> Result<(), AllocError> {
     }
 }
 
-fn forward(asked: Asked, out: &mut String) -> Result<(), AllocError> {
+fn forward(asked: Asked, out: &mut String) -> Result<(), AllocError>
+    ensures room { OnOk result (length (string_bytes out.new) ≤ length (string_bytes out.old) + 320) }
+{
     let p = asked.values.p;
     let engine = asked.values.engine();
     if asked.kind.is_uplink() {
@@ -33,7 +43,9 @@ fn forward(asked: Asked, out: &mut String) -> Result<(), AllocError> {
     }
 }
 
-fn backward(asked: Asked, out: &mut String) -> Result<(), AllocError> {
+fn backward(asked: Asked, out: &mut String) -> Result<(), AllocError>
+    ensures room { OnOk result (length (string_bytes out.new) ≤ length (string_bytes out.old) + 320) }
+{
     let v = asked.values;
     let (slot, l, k) = (v.slot, v.l, v.k);
     match asked.kind {
@@ -58,7 +70,9 @@ fn backward(asked: Asked, out: &mut String) -> Result<(), AllocError> {
 }
 
 // The position after the step is kept.
-fn step(kind: Kind, v: &mut Values, out: &mut String) -> Result<(), AllocError> {
+fn step(kind: Kind, v: &mut Values, out: &mut String) -> Result<(), AllocError>
+    ensures room { OnOk result (length (string_bytes out.new) ≤ length (string_bytes out.old) + 320) }
+{
     let s = nbiot::step_value(v.walk(kind), &v.anchor, &v.other, v.engine());
     v.p = s.walk.p;
     if kind.is_uplink() {
@@ -68,9 +82,14 @@ fn step(kind: Kind, v: &mut Values, out: &mut String) -> Result<(), AllocError> 
     }
 }
 
+// The most numbers that are lent to a fill.
+const LENT: u64 = 1024;
+
 // A fill of the room lent, whose numbers are all 42 before, shown as it stands afterwards.
-fn fill(alloc: Global, v: &Values, out: &mut String) -> Result<(), AllocError> {
-    let mut room = vec![in alloc; 42.0f32; v.room as usize]?;
+fn fill(alloc: Global, v: &Values, out: &mut String) -> Result<(), AllocError>
+    ensures room { OnOk result (length (string_bytes out.new) ≤ length (string_bytes out.old) + 16384) }
+{
+    let mut room = vec![in alloc; 42.0f32; v.room.min(LENT) as usize]?;
     let c = v.cell();
     let g = v.npdsch_grant();
     let no = nbiot::fill(
@@ -86,7 +105,9 @@ fn fill(alloc: Global, v: &Values, out: &mut String) -> Result<(), AllocError> {
     answers::write_fill(no, &room, out)
 }
 
-fn element(v: &Values, out: &mut String) -> Result<(), AllocError> {
+fn element(v: &Values, out: &mut String) -> Result<(), AllocError>
+    ensures room { OnOk result (length (string_bytes out.new) ≤ length (string_bytes out.old) + 320) }
+{
     let c = v.cell();
     let g = v.npdsch_grant();
     let level = v.level();
@@ -102,7 +123,9 @@ pub fn ask(
     question: Question,
     values: &mut Values,
     out: &mut String,
-) -> Result<(), AllocError> {
+) -> Result<(), AllocError>
+    ensures room { OnOk result (length (string_bytes out.new) ≤ length (string_bytes out.old) + 16384) }
+{
     let v = &*values;
     match question {
         Question::Set => Ok(()),

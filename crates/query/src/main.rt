@@ -1,6 +1,8 @@
 // Reads questions on standard input, one a line, and writes an answer line for each on standard output.
 #![tactic(auto)]
 
+ghost use Rattle.std.specs.Prelude.{◌≡◌, ◌+◌, ◌≤◌, length, string_bytes, IfOk, OnErr, OnOk};
+
 use questions::{Line, Values};
 use std::alloc::{AllocError, AllocFailed, Global};
 use std::fmt;
@@ -47,51 +49,66 @@ impl<T: Drop> From<AllocFailed<T>> for Failure {
     }
 }
 
-// Where the input stands: the line begun, and how many ended before it; the values kept, and the answers that are not
-// yet written.
+// Where the input stands: the line begun, and how many ended before it; the values kept, the answer begun, and the
+// whole answers that are not yet written.
 #[derive(Drop)]
 struct Session {
     line: Vec<u8>,
     lines: u64,
     values: Values,
+    begun: String,
     answers: String,
 }
 
 impl Session {
-    fn new(alloc: Global) -> Result<Session, AllocError> {
+    fn new(alloc: Global) -> Result<Session, AllocError>
+        ensures { IfOk result (λ session. length (string_bytes session.answers) ≡ 0) }
+    {
         Ok(Session {
             line: Vec::with_capacity(alloc, KEPT)?,
             lines: 0,
             values: Values::new(),
+            begun: String::new(alloc),
             answers: String::new(alloc),
         })
     }
 
-    // Answers the line, which ends here.
-    fn answer(&mut self, alloc: Global) -> Result<(), AllocError> {
+    // Answers the line, which ends here; where no memory is left, it has no answer.
+    fn answer(&mut self, alloc: Global) -> Result<(), AllocError>
+        ensures room { OnOk result
+            (length (string_bytes self.new.answers) ≤ length (string_bytes self.old.answers) + 16384) }
+        ensures kept { OnErr result (string_bytes self.new.answers ≡ string_bytes self.old.answers) }
+    {
         // No input has more lines than are counted.
         self.lines = self.lines.saturating_add(1);
         let line = questions::without_return(&self.line);
-        let out = &mut self.answers;
+        self.begun.clear();
+        let out = &mut self.begun;
         match questions::take_line(line, &mut self.values) {
             Line::Nothing => {}
             Line::Wrong(fault, word) => answers::write_fault(fault, self.lines, word, out)?,
             Line::Help(word) => answers::write_help(word, out)?,
             Line::Asked(question) => asking::ask(alloc, question, &mut self.values, out)?,
         }
+        self.answers.push_str(&self.begun)?;
         self.line.clear();
         Ok(())
     }
 
-    fn write_out(&mut self, rt: &impl Print) -> Result<(), Failure> {
+    fn write_out(&mut self, rt: &impl Print) -> Result<(), Failure>
+        ensures { OnOk result (length (string_bytes self.new.answers) ≡ 0) }
+    {
         rt.write_all(self.answers.as_bytes())
             .map_err(|_| Failure::Output)?;
         self.answers.clear();
         Ok(())
     }
 
-    // Takes a block of input, byte by byte, answers each line that ends in it, and writes the answers.
-    fn take(&mut self, rt: &(impl Print + AllocGlobal), block: &[u8]) -> Result<(), Failure> {
+    // Takes a block of input, byte by byte, and answers each line that ends in it.
+    fn answer_lines(&mut self, rt: &(impl Print + AllocGlobal), block: &[u8]) -> Result<(), Failure>
+        requires { length (string_bytes self.old.answers) ≤ 65536 }
+        ensures { OnOk result (length (string_bytes self.new.answers) ≤ 65536) }
+    {
         for b in block {
             if *b == b'\n' {
                 if self.answers.len() > FULL {
@@ -102,7 +119,20 @@ impl Session {
                 self.line.push(*b)?;
             }
         }
-        self.write_out(rt)
+        Ok(())
+    }
+
+    // Takes a block of input and writes its answers; where no memory is left for a line, those of the lines before it.
+    fn take(&mut self, rt: &(impl Print + AllocGlobal), block: &[u8]) -> Result<(), Failure>
+        requires { length (string_bytes self.old.answers) ≤ 65536 }
+        ensures { OnOk result (length (string_bytes self.new.answers) ≤ 65536) }
+    {
+        let answered = self.answer_lines(rt, block);
+        if matches!(answered, Err(Failure::Output)) {
+            return answered;
+        }
+        self.write_out(rt)?;
+        answered
     }
 }
 

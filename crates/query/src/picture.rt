@@ -1,6 +1,6 @@
 // A picture of one transmitted subframe or slot, drawn from what backward answers at each place of it, and the
 // subframes skipped after it.
-ghost use Rattle.std.specs.Prelude.{◌≤◌};
+ghost use Rattle.std.specs.Prelude.{◌+◌, ◌<◌, ◌≤◌, length, string_bytes, OnOk};
 
 use crate::asked::{Asked, Place};
 use answers::Shown;
@@ -48,7 +48,10 @@ pub fn slots_in_unit(width: u64) -> u64
     }
 }
 
-fn mark(b: Back, reference: char, in_control: bool) -> char {
+fn mark(b: Back, reference: char, in_control: bool) -> char
+    requires { reference < 128 }
+    ensures { result < 128 }
+{
     match (b.ours, b.kind) {
         (1, _) => 'o',
         (_, 1) => reference,
@@ -58,7 +61,9 @@ fn mark(b: Back, reference: char, in_control: bool) -> char {
 }
 
 // The end of the line of skipped subframes: how many are not listed.
-fn put_end(skipped: u64, out: &mut String) -> Result<(), AllocError> {
+fn put_end(skipped: u64, out: &mut String) -> Result<(), AllocError>
+    ensures room { OnOk result (length (string_bytes out.new) ≤ length (string_bytes out.old) + 64) }
+{
     if skipped == 0 {
         writeln!(out, " none")
     } else if skipped <= LISTED {
@@ -80,7 +85,9 @@ impl<'a> Asked<'a> {
     }
 
     // The signs of one subcarrier in a slot.
-    fn put_signs(self, t: u64, slot: u64, k: u64, out: &mut String) -> Result<(), AllocError> {
+    fn put_signs(self, t: u64, slot: u64, k: u64, out: &mut String) -> Result<(), AllocError>
+        ensures room { OnOk result (length (string_bytes out.new) ≤ length (string_bytes out.old) + 7) }
+    {
         let reference = if self.kind.is_uplink() { 'R' } else { 'N' };
         let control = self.drawn_control();
         for l in 0..7 {
@@ -91,7 +98,9 @@ impl<'a> Asked<'a> {
     }
 
     // One subcarrier: its number, and its signs, first slot first.
-    fn put_row(self, t: u64, k: u64, out: &mut String) -> Result<(), AllocError> {
+    fn put_row(self, t: u64, k: u64, out: &mut String) -> Result<(), AllocError>
+        ensures room { OnOk result (length (string_bytes out.new) ≤ length (string_bytes out.old) + 40) }
+    {
         let slots = if self.kind.is_uplink() { 1 } else { 2 };
         write!(out, "k {k:>2}")?;
         for slot in 0..slots {
@@ -102,7 +111,9 @@ impl<'a> Asked<'a> {
     }
 
     // How many subcarriers the grid has.
-    fn subcarriers(self) -> u64 {
+    fn subcarriers(self) -> u64
+        ensures { result ≤ 48 }
+    {
         if self.kind.is_uplink() && !self.values.is_15_khz() {
             48
         } else {
@@ -111,7 +122,9 @@ impl<'a> Asked<'a> {
     }
 
     // The rows, the highest subcarrier on top.
-    fn put_rows(self, t: u64, out: &mut String) -> Result<(), AllocError> {
+    fn put_rows(self, t: u64, out: &mut String) -> Result<(), AllocError>
+        ensures room { OnOk result (length (string_bytes out.new) ≤ length (string_bytes out.old) + 1920) }
+    {
         for k in (0..self.subcarriers()).rev() {
             self.put_row(t, k, out)?;
         }
@@ -126,7 +139,9 @@ impl<'a> Asked<'a> {
     }
 
     // The subframes after t up to the last, each with its cause, as far as they are listed.
-    fn put_skips(self, t: u64, last: u64, out: &mut String) -> Result<(), AllocError> {
+    fn put_skips(self, t: u64, last: u64, out: &mut String) -> Result<(), AllocError>
+        ensures room { OnOk result (length (string_bytes out.new) ≤ length (string_bytes out.old) + 6408) }
+    {
         let v = self.values;
         let c = v.cell();
         write!(out, "skipped:")?;
@@ -210,7 +225,9 @@ impl<'a> Asked<'a> {
     }
 
     // A slot, whose first granted tone is named.
-    fn put_slot(self, x: Shown, width: u64, tone: u64, out: &mut String) -> Result<(), AllocError> {
+    fn put_slot(self, x: Shown, width: u64, tone: u64, out: &mut String) -> Result<(), AllocError>
+        ensures room { OnOk result (length (string_bytes out.new) ≤ length (string_bytes out.old) + 8192) }
+    {
         answers::write_slot(x, out)?;
         if self.kind == Kind::Up {
             answers::write_unit(x.codeword / slots_in_unit(width), out)?;
@@ -221,7 +238,9 @@ impl<'a> Asked<'a> {
     }
 
     // A subframe, and what is skipped after it by a grant.
-    fn put_subframe(self, x: Shown, sent: Sent, out: &mut String) -> Result<(), AllocError> {
+    fn put_subframe(self, x: Shown, sent: Sent, out: &mut String) -> Result<(), AllocError>
+        ensures room { OnOk result (length (string_bytes out.new) ≤ length (string_bytes out.old) + 12288) }
+    {
         answers::write_subframe(x, out)?;
         self.put_rows(x.unit, out)?;
         if self.kind.is_broadcast() {
@@ -238,7 +257,9 @@ impl<'a> Asked<'a> {
         sent: Sent,
         place: DownlinkPlace,
         out: &mut String,
-    ) -> Result<(), AllocError> {
+    ) -> Result<(), AllocError>
+        ensures room { OnOk result (length (string_bytes out.new) ≤ length (string_bytes out.old) + 12288) }
+    {
         let x = Shown {
             unit: place.t,
             subframe: self.begun_in(place.t),
@@ -255,7 +276,9 @@ impl<'a> Asked<'a> {
 }
 
 // A picture of transmitted subframe or slot i.
-pub fn put_picture(asked: Asked, out: &mut String) -> Result<(), AllocError> {
+pub fn put_picture(asked: Asked, out: &mut String) -> Result<(), AllocError>
+    ensures room { OnOk result (length (string_bytes out.new) ≤ length (string_bytes out.old) + 16384) }
+{
     let first = asked.forward(Engine::Quick, 0);
     let width = asked.places_in(first.t);
     let places = asked.places_of(width);

@@ -1,5 +1,5 @@
 // A timeline of a grant: a row for each frame, drawn from what backward answers at one place of each subframe or slot.
-ghost use Rattle.std.specs.Prelude.{◌^◌, ◌≤◌, ◌<◌};
+ghost use Rattle.std.specs.Prelude.{◌+◌, ◌^◌, ◌≤◌, ◌<◌, length, string_bytes, OnOk};
 
 use crate::asked::{Asked, Place};
 use crate::picture;
@@ -55,7 +55,9 @@ impl Unit {
         t / self.in_frame() % NO_FRAME
     }
 
-    fn columns(self) -> &'static str {
+    fn columns(self) -> &'static str
+        ensures { length result.now ≤ 64 }
+    {
         match self {
             Unit::Subframe => "         t frame 0123456789\n",
             Unit::Slot => "      slot frame 0 1 2 3 4 5 6 7 8 9\n",
@@ -78,7 +80,9 @@ struct Course<'a> {
     named: u64,
 }
 
-fn cause_sign(cause: Cause) -> char {
+fn cause_sign(cause: Cause) -> char
+    ensures { result < 128 }
+{
     match cause {
         Cause::None => '.',
         Cause::Npbch => 'B',
@@ -132,7 +136,9 @@ impl<'a> Asked<'a> {
         }
     }
 
-    fn legend(self) -> &'static str {
+    fn legend(self) -> &'static str
+        ensures { length result.now ≤ 512 }
+    {
         match self.kind {
             Kind::Up => {
                 "0 to 9 resource unit, G gap, W random access window, . before the first or after the last
@@ -156,7 +162,9 @@ t is the row's first subframe, over the signs is the subframe of the frame
 
 impl<'a> Course<'a> {
     // A slot that is not sent: in the 40 ms after each 256 ms from the slot first named, else in a window.
-    fn postponed_sign(self, slot: u64) -> char {
+    fn postponed_sign(self, slot: u64) -> char
+        ensures { result < 128 }
+    {
         let Some(since) = slot.checked_sub(self.named) else {
             return 'W';
         };
@@ -169,7 +177,9 @@ impl<'a> Course<'a> {
     }
 
     // Why a subframe or slot between the first and the last is not sent.
-    fn skipped_sign(self, t: u64) -> char {
+    fn skipped_sign(self, t: u64) -> char
+        ensures { result < 128 }
+    {
         if self.asked.kind.is_uplink() {
             return self.postponed_sign(t);
         }
@@ -177,7 +187,9 @@ impl<'a> Course<'a> {
         cause_sign(nbiot::cause(v.cell(), &v.anchor, &v.other, t).cause)
     }
 
-    fn sign(self, t: u64) -> char {
+    fn sign(self, t: u64) -> char
+        ensures { result < 128 }
+    {
         if t < self.first || t > self.last {
             return '.';
         }
@@ -193,6 +205,7 @@ impl<'a> Course<'a> {
     // The row of a frame, counted from subframe 0.
     fn put_row(self, frame: u64, out: &mut String) -> Result<(), AllocError>
         requires { frame < 2 ^ 33 }
+        ensures room { OnOk result (length (string_bytes out.new) ≤ length (string_bytes out.old) + 64) }
     {
         let t = self.unit.first_of(frame);
         write!(out, "{t:>10} {:>5} ", frame % FRAMES)?;
@@ -203,7 +216,9 @@ impl<'a> Course<'a> {
     }
 
     // A row for each frame from the first to the last, as far as they are drawn, and how many are past these.
-    fn put_frames(self, out: &mut String) -> Result<(), AllocError> {
+    fn put_frames(self, out: &mut String) -> Result<(), AllocError>
+        ensures room { OnOk result (length (string_bytes out.new) ≤ length (string_bytes out.old) + 4160) }
+    {
         let first = self.unit.frame_of(self.first);
         let frames = (self.unit.frame_of(self.last) + 1).saturating_sub(first);
         for frame in first..first + frames.min(ROWS) {
@@ -216,7 +231,9 @@ impl<'a> Course<'a> {
     }
 }
 
-pub fn put_timeline(asked: Asked, out: &mut String) -> Result<(), AllocError> {
+pub fn put_timeline(asked: Asked, out: &mut String) -> Result<(), AllocError>
+    ensures room { OnOk result (length (string_bytes out.new) ≤ length (string_bytes out.old) + 16384) }
+{
     let x = asked.plan();
     answers::write_cell(x.no, out)?;
     if x.no != 0 {
