@@ -19,11 +19,16 @@ range_split (suc m) n a =
     ap (range_with_len a) (suc-add m n)
     ∙ ap (λ xs. a ∷ xs) (range_split m n (a + 1) ∙ ap (λ (x : ℕ). range_with_len (a + 1) m ++ range_with_len x n) (omega arith))
 
+-- a test that all pass
+pub filter_true : {X : Type 0} (xs : List X) → filter (λ x. true) xs ≡ xs
+filter_true [] = refl
+filter_true (x ∷ xs) = ap (λ ys. x ∷ ys) (filter_true xs)
+
 -- ---- one row
 
 module _ (u : ℕ → Bool) where
   -- none passes
-  none_kept : (n a : ℕ) → ((i : ℕ) → i < n → u (a + i) ≡ false) → filter u (range_with_len a n) ≡ []
+  pub none_kept : (n a : ℕ) → ((i : ℕ) → i < n → u (a + i) ≡ false) → filter u (range_with_len a n) ≡ []
   none_kept zero a h = refl
   none_kept (suc n) a h =
       rw (ap u (sym (add-zero a)) ∙ h 0 (omega arith))
@@ -48,14 +53,31 @@ module _ (u : ℕ → Bool) where
         by p true i j k = rw i (ap₂ (λ x xs. x ∷ xs) j k)
         by p false i j k = rw i k
 
+  -- tests that agree
+  pub alike_kept : (v : ℕ → Bool) (n a : ℕ) → ((i : ℕ) → i < n → v (a + i) ≡ u (a + i))
+      → filter v (range_with_len a n) ≡ filter u (range_with_len a n)
+  alike_kept v n a h =
+      sym (ap (filter v) (map-id (range_with_len a n))) ∙ row_moved v (λ x. x) (λ x. x) n a a h (λ i l. refl)
+      ∙ map-id (filter u (range_with_len a n))
+
   -- the first b of a row, if none of the others passes
-  pub block_kept : (v : ℕ → Bool) (b g a : ℕ) → ((i : ℕ) → i < b → v (a + i) ≡ u (a + i)) → ((i : ℕ) → i < g → u (a + b + i) ≡ false)
+  pub block_kept : (v : ℕ → Bool) (b g a : ℕ) → ((i : ℕ) → i < b → v (a + i) ≡ u (a + i))
+      → ((i : ℕ) → i < g → u (a + b + i) ≡ false)
       → filter v (range_with_len a b) ≡ filter u (range_with_len a (b + g))
   block_kept v b g a h n =
-      sym (ap (filter v) (map-id (range_with_len a b))) ∙ row_moved v (λ x. x) (λ x. x) b a a h (λ i l. refl) ∙ map-id (filter u (range_with_len a b))
-      ∙ sym (append-nil (filter u (range_with_len a b)))
+      alike_kept v b a h ∙ sym (append-nil (filter u (range_with_len a b)))
       ∙ sym (ap (filter u) (range_split b g a) ∙ filter-append u (range_with_len a b) (range_with_len (a + b) g)
       ∙ ap (λ xs. filter u (range_with_len a b) ++ xs) (none_kept g (a + b) n))
+
+  -- those between the first m and the last r, if they all pass and none of the others does
+  pub middle_kept : (m n r a : ℕ) → ((i : ℕ) → i < m → u (a + i) ≡ false) → ((i : ℕ) → i < n → u (a + m + i) ≡ true)
+      → ((i : ℕ) → i < r → u (a + m + n + i) ≡ false)
+      → range_with_len (a + m) n ≡ filter u (range_with_len a (m + (n + r)))
+  middle_kept m n r a before pass after =
+      sym (filter_true (range_with_len (a + m) n)) ∙ block_kept (λ x. true) n r (a + m) (λ i l. sym (pass i l)) after
+      ∙ sym (ap (filter u) (range_split m (n + r) a)
+      ∙ filter-append u (range_with_len a m) (range_with_len (a + m) (n + r))
+      ∙ ap (λ xs. xs ++ filter u (range_with_len (a + m) (n + r))) (none_kept m a before))
 
 -- ---- all rows of p numbers each: h k is what is gone over for row k
 
@@ -84,14 +106,23 @@ blocks_kept u v b g h none n =
     (λ k. block_kept u v b g (k * (b + g)) (h k) (none k) ∙ sym (map-id (filter u (range_with_len (k * (b + g)) (b + g))))) n
     ∙ map-id (filter u (range_with_len 0 (n * (b + g))))
 
--- numbers in rows of T, gone over as what c makes of a row's number and a place in it
-pub cells_kept : {X : Type 0} (u : ℕ → Bool) (T : ℕ) (v : X → Bool) (c : ℕ → ℕ → X) (w : ℕ → X)
-    → ((l k : ℕ) → k < T → v (c l k) ≡ u (l * T + k)) → ((l k : ℕ) → k < T → c l k ≡ w (l * T + k))
-    → (n : ℕ) → filter v (flat_map (λ l. map (c l) (range_with_len 0 T)) (range_with_len 0 n)) ≡ map w (filter u (range_with_len 0 (n * T)))
-cells_kept u T v c w passes is n =
-    rows_kept u T v w (λ l. map (c l) (range_with_len 0 T))
-    (λ l. row_moved u v (c l) w T (l * T) 0
-    (λ i k. ap (λ (x : ℕ). v (c l x)) (zero-add i) ∙ passes l i k) (λ i k. ap (c l) (zero-add i) ∙ is l i k)) n
+-- rows that are left out
+pub left_out : {X Y : Type 0} (d : X → Bool) (h : X → List Y) (xs : List X)
+    → flat_map h (filter d xs) ≡ flat_map (λ x. cond (d x) (h x) []) xs
+left_out d h [] = refl
+left_out d h (x ∷ xs) = by (d x) (left_out d h xs)
+  where
+    by : (b : Bool) → flat_map h (filter d xs) ≡ flat_map (λ y. cond (d y) (h y) []) xs
+        → flat_map h (cond b (x ∷ filter d xs) (filter d xs)) ≡ cond b (h x) [] ++ flat_map (λ y. cond (d y) (h y) []) xs
+    by true e = ap (λ ys. h x ++ ys) e
+    by false e = e
+
+-- the numbers from b on, as what c makes of them, are those from a on, as what w makes of them
+pub range_moved : {X : Type 0} (c w : ℕ → X) (n a b : ℕ) → ((i : ℕ) → i < n → c (b + i) ≡ w (a + i))
+    → map c (range_with_len b n) ≡ map w (range_with_len a n)
+range_moved c w n a b e =
+    sym (filter_true (map c (range_with_len b n))) ∙ row_moved (λ x. true) (λ x. true) c w n a b (λ i l. refl) e
+    ∙ ap (map w) (filter_true (range_with_len a n))
 
 -- what holds of each number of each row
 pub rows_hold : (P : ℕ → Type 0) (h : ℕ → List ℕ) (n a : ℕ) → ((k : ℕ) → a ≤ k → k < a + n → All P (h k)) → All P (flat_map h (range_with_len a n))

@@ -6,12 +6,14 @@ use Rattle.std.proofs.lemmas.Option.{same_Some, slice_get-map}
 use Rattle.std.specs.List.{slice_get}
 use Rattle.std.specs.Option.{option_map}
 use Rattle.std.specs.Prelude.{Some}
+use mathlib.Core.Bool.{not}
 use mathlib.Core.Path.{◌≡◌, refl, sym, ap, ◌∙◌}
+use Prim.Native.Nat.{◌+◌}
 use native.Mathlib.Omega.{arith}
 use Rattle.grid.specs.Grid.{uplink_elements}
-use Rattle.uplink.specs.Elements.{carries_data, slot_data, element_at}
+use Rattle.uplink.specs.Elements.{is_reference, carries_data, slot_data, element_at}
 use Rattle.chains.proofs.Ranges.{range_selects}
-use Rattle.plain_uplink.proofs.DataRows.{place_at, has_data, row_of, data_of_rows}
+use Rattle.plain_uplink.proofs.DataRows.{place_at, tones_of, data_gone_over}
 use Rattle.plain_uplink.proofs.elements.nth.Goals.{After-nth}
 use Rattle.plain_uplink.proofs.elements.nth.Goals as goal
 
@@ -22,19 +24,19 @@ found c =
     let e = c.args.e in
     sym (option_map_id c.nth.result)
     ∙ nth_from_yields_List c.nth.result _ e c.nth.ensures.ran
-    (YieldsList-from_filter _ (has_data s)
-    (YieldsList-at c.filter.ensures.source (YieldsList-from_flat_map _ _ _ (λ x. x) (row_of s.subcarriers) _
-    (λ l u q k. (
-      search (rules, tests),
-      λ j o. YieldsList-at o (YieldsList-from_map _ (λ k. record { l = l; k = k }) {f = record { 0 = l }}
-          (YieldsList-from_range 0 s.subcarriers _ (search (rules, tests)) (omega arith)) (search (rules, tests)) (λ x r q k. search (rules, tests))),
-    ))
-    (YieldsList-from_range 0 _ 7 c.flat_map.ensures.source (omega arith))
-    c.flat_map.ensures.closure c.flat_map.ensures.front c.flat_map.ensures.back c.flat_map.ensures.done)) c.filter.ensures.closure
-    (λ x b q k. search (rules, tests)))
-    ∙ ap (λ xs. slice_get xs e) (data_of_rows s c.requires.0)
+    (YieldsList-from_flat_map _ _ _ (λ x. x) (tones_of s) _
+    (λ l u q k. (search (rules, tests), λ j o. YieldsList-at o
+    (YieldsList-from_map _ (λ k. record { l = l; k = k }) {f = record { 0 = l }}
+    (YieldsList-from_range s.tone (s.tone + s.tones) s.tones (search (rules, tests)) (omega arith)) (search (rules, tests))
+    (λ x r q k. search (rules, tests)))))
+    (YieldsList-at c.flat_map.ensures.source (YieldsList-from_filter _ (λ l. not (is_reference s l))
+    (YieldsList-from_range 0 _ 7 c.filter.ensures.source (omega arith)) c.filter.ensures.closure
+    (λ x b q k. search (rules, tests))))
+    c.flat_map.ensures.closure c.flat_map.ensures.front c.flat_map.ensures.back c.flat_map.ensures.done)
+    ∙ ap (λ xs. slice_get xs e) (data_gone_over s c.requires.0)
     ∙ slice_get-map (place_at s.subcarriers) _ e
-    ∙ ap (option_map (place_at s.subcarriers)) (range_selects (carries_data s) (uplink_elements s.subcarriers) e c.requires.1)
+    ∙ ap (option_map (place_at s.subcarriers))
+    (range_selects (carries_data s) (uplink_elements s.subcarriers) e c.requires.1)
 
 pub unwrap-requires : goal.unwrap-requires
 unwrap-requires c = rw (found c) refl
