@@ -13,7 +13,7 @@ on : (a : ℕ) → suc a ≡ a + 1
 on a = omega arith
 
 -- a range in two parts
-range_split : (m n a : ℕ) → range_with_len a (m + n) ≡ range_with_len a m ++ range_with_len (a + m) n
+pub range_split : (m n a : ℕ) → range_with_len a (m + n) ≡ range_with_len a m ++ range_with_len (a + m) n
 range_split zero n a = ap₂ range_with_len (sym (add-zero a)) (zero-add n)
 range_split (suc m) n a =
     ap (range_with_len a) (suc-add m n)
