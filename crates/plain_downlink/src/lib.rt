@@ -2,8 +2,8 @@
 // a time, with running counts and none of the quick search. Its time grows with the way it goes.
 #![tactic(auto)]
 
-ghost use Rattle.std.specs.Prelude.{Bool, ◌≡◌, ◌+◌, ◌*◌, ◌^◌, ◌≤◌, ◌<◌};
-ghost use Rattle.counting.specs.Counting.{select};
+ghost use Rattle.std.specs.Prelude.{Bool, true, false, not, eqb, ◌&&◌, ◌||◌, ◌≡◌, ◌+◌, ◌*◌, ◌%◌, ◌^◌, ◌≤◌, ◌<◌};
+ghost use Rattle.counting.specs.Counting.{count, select};
 ghost use Rattle.sending.specs.Answer.{place_at};
 ghost use Rattle.grid.specs.Grid.{elements};
 ghost use Rattle.messages.specs.Messages.{all_periods};
@@ -33,6 +33,30 @@ use spans::Pattern;
 
 // A time after which the usable subframes repeat; at least one in it is usable.
 const ALL_PERIODS: u64 = 40960;
+
+// A row is a symbol of a slot.
+const ROWS: u64 = Grid::SLOTS * Grid::SYMBOLS;
+
+// Which references a row has: at its near subcarriers, and at its far ones.
+#[derive(Clone, Copy)]
+struct References {
+    near: bool,
+    far: bool,
+}
+
+// A row by its number, from 0 in a subframe, and the references that it has.
+#[derive(Clone, Copy)]
+struct Row {
+    number: u64,
+    references: References,
+}
+
+// An element's row and subcarrier.
+#[derive(Clone, Copy)]
+struct Element {
+    row: u64,
+    k: u64,
+}
 
 // A narrowband reference stands at symbol l of a slot: port 2000 at l = 5 near and at l = 6 far, port 2001 the other
 // way round. Near: k mod 6 is v; far: it is (v + 3) mod 6.
@@ -68,48 +92,74 @@ fn is_crs(g: Layout, l: u64, near: bool, far: bool) -> bool
     false
 }
 
+// Which references a row has, symbol l of a slot: at its near subcarriers, and at its far ones.
+fn references_of(g: Layout, l: u64) -> References
+    ensures { (result.near ≡ (nrs_on g l true false || crs_on g l true false))
+        × (result.far ≡ (nrs_on g l false true || crs_on g l false true)) }
+{
+    References {
+        near: is_nrs(g, l, true, false) | is_crs(g, l, true, false),
+        far: is_nrs(g, l, false, true) | is_crs(g, l, false, true),
+    }
+}
+
 // A reference of either kind stands at symbol l and subcarrier k of a slot.
 fn is_reference(g: Layout, l: u64, k: u64) -> bool
     requires { Valid g }
     ensures { result ≡ reference g l k }
 {
-    let near = k % 6 == g.v;
-    let far = k % 6 == (g.v + 3) % 6;
-    is_nrs(g, l, near, far) | is_crs(g, l, near, far)
+    let row = references_of(g, l);
+    (row.near && k % 6 == g.v) || (row.far && k % 6 == (g.v + 3) % 6)
 }
 
-// Element x is used: in the grid, outside the control region, no reference, and on one of `width` subcarriers from
-// `low` on.
-fn is_used(g: Layout, low: u64, width: u64, x: u64) -> bool
-    requires { Valid g × Part low width }
-    ensures { result ≡ used g low width x }
+// Subcarrier k of a row is free: no reference stands there. `near` and `far` are those k mod 6.
+fn is_free(row: References, near: u64, far: u64, k: u64) -> bool
+    ensures { result ≡ not ((row.near && eqb (k % 6) near) || (row.far && eqb (k % 6) far)) }
 {
-    let l = Grid::symbol(x);
-    let k = Grid::subcarrier(x);
-    let control = (Grid::slot(x) == 0) & (l < g.control);
-    let eligible = (x < Grid::ELEMENTS) & (!control & !is_reference(g, l, k));
-    eligible & ((low <= k) & (k < low + width))
+    !((row.near & (k % 6 == near)) | (row.far & (k % 6 == far)))
 }
 
-// How many elements of a subframe are used.
+// How many of `width` subcarriers from `low` on carry no reference at symbol l of a slot.
+fn count_in_row(g: Layout, low: u64, width: u64, l: u64) -> u64
+    requires { Valid g × Part low width }
+    ensures { result ≡ count (λ k. not (reference g l k)) low width }
+{
+    (low..low + width)
+        .filter(|&k| !is_reference(g, l, k))
+        .count() as u64
+}
+
+// How many elements of a subframe are used: those outside the control region, with no reference, on `width`
+// subcarriers from `low` on.
 fn count_used(g: Layout, low: u64, width: u64) -> u64
     requires { Valid g × Part low width }
     ensures { (result ≡ count_of g low width) × (0 < result) × (result ≤ elements) }
 {
-    (0..Grid::ELEMENTS)
-        .filter(|&x| is_used(g, low, width, x))
-        .count() as u64
+    (g.control..ROWS)
+        .map(|row| count_in_row(g, low, width, row % Grid::SYMBOLS))
+        .sum()
 }
 
-// The e-th used element of a subframe.
+// The e-th used element of a subframe: row by row, along the subcarriers.
 fn used_at(g: Layout, low: u64, width: u64, e: u64) -> u64
     requires { Valid g × Part low width × (e < count_of g low width) }
     ensures { result ≡ element_at g low width e }
 {
-    (0..Grid::ELEMENTS)
-        .filter(|&x| is_used(g, low, width, x))
+    let end = low + width;
+    let far = (g.v + 3) % 6;
+    let at = (g.control..ROWS)
+        .map(|number| Row {
+            number,
+            references: references_of(g, number % Grid::SYMBOLS),
+        })
+        .flat_map(|r| {
+            (low..end)
+                .filter(move |&k| is_free(r.references, g.v, far, k))
+                .map(move |k| Element { row: r.number, k })
+        })
         .nth(e as usize)
-        .unwrap()
+        .unwrap();
+    at.row * Grid::SUBCARRIERS + at.k
 }
 
 // No cause stands against subframe t.
