@@ -1,6 +1,6 @@
 -- How long the text of a number is, and how long a text is to which it was added.
-use Rattle.std.proofs.Common.{◌≡◌, ℕ, zero, suc, ◌+◌, ◌/◌, ◌%◌, ◌^◌, ◌<◌, ◌≤◌, Bool, true, false, eqb}
-use Rattle.std.proofs.Common.{List, [], ◌∷◌, ◌++◌, length, length-append, decimal, OnOk, Result, Ok, Err, ⊎_elim, ap, arith}
+use Rattle.std.proofs.Common.{◌≡◌, ℕ, zero, suc, ◌+◌, ◌/◌, ◌%◌, ◌^◌, ◌<◌, ◌≤◌, true, false, eqb, ⊎_elim, ap}
+use Rattle.std.proofs.Common.{List, [], ◌∷◌, ◌++◌, length, length-append, decimal, OnOk, Result, Ok, Err, arith}
 use Rattle.std.proofs.lemmas.Bool.{cases_lt, eq-eqb, ne_eqb}
 use Rattle.std.proofs.lemmas.Fmt.{length-decimal-le}
 use Rattle.std.proofs.lemmas.List.{length-replicate}
@@ -11,7 +11,7 @@ use Rattle.answers.specs.Line.{hex}
 pub decimal_short : (n : ℕ) → n < 2 ^ 64 → length (decimal n) ≤ 20
 decimal_short n h = length-decimal-le 20 n (omega arith) (omega arith) h
 
--- no more hex digits are put before the others than the number needs
+-- no more hex digits are put before the others than the number has
 digits_onto_short : (k j n : ℕ) (acc : List ℕ) → n < 16 ^ suc j →
     length (digits_onto k 16 false n acc) ≤ suc j + length acc
 digits_onto_short zero j n acc h = omega arith

@@ -120,7 +120,7 @@ const REFUSALS: &str = "0 accepted
 255 a buffer too short, in C alone
 ";
 
-// The lines of help that begin with a word and a space.
+// The lines of help that begin with a word and a space: at most twice the bytes of HELP, since none is empty.
 fn write_lines_of(word: &[u8], out: &mut String) -> Result<(), AllocError>
     ensures lines { OnOk result ((lines : List ℕ) × (string_bytes out.new ≡ string_bytes out.old ++ lines)) }
     ensures room { OnOk result (length (string_bytes out.new) ≤ length (string_bytes out.old) + 12634) }
