@@ -135,14 +135,25 @@ fn read_words<'a>(line: &'a [u8], values: &mut Values) -> Line<'a>
         return Line::Nothing;
     };
     let second = words.next();
+    let third = words.next();
     if matches!(first, b"help") {
-        return read_help(second, words.next().is_some());
+        return read_help(second, third.is_some());
     }
     let kind = second.and_then(|word| Kind::of(word));
     match Question::of(first, kind) {
         Err(Fault::Kind) => Line::Wrong(Fault::Kind, 2),
         Err(fault) => Line::Wrong(fault, 1),
-        Ok(question) => keep_words(line, question, values),
+        Ok(question) => {
+            let value = if question.kind().is_some() {
+                third
+            } else {
+                second
+            };
+            if value.is_none() {
+                return Line::Asked(question);
+            }
+            keep_words(line, question, values)
+        }
     }
 }
 
