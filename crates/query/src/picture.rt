@@ -252,12 +252,7 @@ impl<'a> Asked<'a> {
     }
 
     // The subframe or slot at a place, its first.
-    fn put_shown(
-        self,
-        sent: Sent,
-        place: DownlinkPlace,
-        out: &mut String,
-    ) -> Result<(), AllocError>
+    fn put_shown(self, sent: Sent, place: DownlinkPlace, out: &mut String) -> Result<(), AllocError>
         ensures room { OnOk result (length (string_bytes out.new) ≤ length (string_bytes out.old) + 12288) }
     {
         let x = Shown {

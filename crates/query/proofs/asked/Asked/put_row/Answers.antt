@@ -8,10 +8,10 @@ use Rattle.query.proofs.asked.Asked.put_row.Goals.{then-is_uplink, else-is_uplin
 pub returns : goal.returns
 returns c =
     let slots : c.if-is_uplink.slots ≤ 2 =
-        elim c.if-is_uplink.branch [ then-is_uplink w ↦ omega arith | else-is_uplink w ↦ omega arith ] in
+    elim c.if-is_uplink.branch [ then-is_uplink w ↦ omega arith | else-is_uplink w ↦ omega arith ] in
     let number = length-right-le 2 c.args.k (omega arith) (omega arith) in
     let begin = simp length-append at (ap length (rw c.laid_out.ensures at c.in_ok-write.ensures.bytes)) in
     record {
       room = on_ok_weaker c.writeln.result (λ e. omega (arith, simp length-append at (ap length e), begin, number))
-        c.writeln.ensures.bytes
+          c.writeln.ensures.bytes;
     }

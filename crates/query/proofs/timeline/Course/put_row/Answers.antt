@@ -9,8 +9,8 @@ returns c =
     let first = length-right-le 10 c.first_of-t.result (omega arith) (omega arith) in
     let frame = length-right-le 5 (c.args.frame % 1024) (omega arith) (omega arith) in
     let begin = simp length-append at
-        (ap length (rw (c.laid_out.ensures, c.laid_out-2.ensures) at c.in_ok-write.ensures.bytes)) in
+    (ap length (rw (c.laid_out.ensures, c.laid_out-2.ensures) at c.in_ok-write.ensures.bytes)) in
     record {
       room = on_ok_weaker c.writeln.result (λ e. omega (arith, simp length-append at (ap length e), begin, first, frame))
-        c.writeln.ensures.bytes
+          c.writeln.ensures.bytes;
     }
