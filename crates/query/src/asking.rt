@@ -4,7 +4,7 @@ ghost use Rattle.std.specs.Prelude.{◌+◌, ◌≤◌, length, string_bytes, On
 use crate::asked::{Asked, Place};
 use crate::{picture, timeline};
 use questions::{Kind, Question, Values};
-use std::alloc::{AllocError, Global};
+use std::alloc::AllocError;
 
 fn bitmap(v: &Values, out: &mut String) -> Result<(), AllocError>
     ensures room { OnOk result (length (string_bytes out.new) ≤ length (string_bytes out.old) + 320) }
@@ -83,13 +83,14 @@ fn step(kind: Kind, v: &mut Values, out: &mut String) -> Result<(), AllocError>
 }
 
 // The most numbers that are lent to a fill.
-const LENT: u64 = 1024;
+const LENT: usize = 1024;
 
 // A fill of the room lent, whose numbers are all 42 before, shown as it stands afterwards.
-fn fill(alloc: Global, v: &Values, out: &mut String) -> Result<(), AllocError>
+fn fill(v: &Values, out: &mut String) -> Result<(), AllocError>
     ensures room { OnOk result (length (string_bytes out.new) ≤ length (string_bytes out.old) + 16384) }
 {
-    let mut room = vec![in alloc; 42.0f32; v.room.min(LENT) as usize]?;
+    let mut numbers = [42.0f32; LENT];
+    let room = &mut numbers[..LENT.min(v.room as usize)];
     let c = v.cell();
     let g = v.npdsch_grant();
     let no = nbiot::fill(
@@ -100,9 +101,9 @@ fn fill(alloc: Global, v: &Values, out: &mut String) -> Result<(), AllocError>
         v.i,
         &v.data,
         v.level(),
-        &mut room,
+        room,
     );
-    answers::write_fill(no, &room, out)
+    answers::write_fill(no, room, out)
 }
 
 fn element(v: &Values, out: &mut String) -> Result<(), AllocError>
@@ -119,7 +120,6 @@ fn element(v: &Values, out: &mut String) -> Result<(), AllocError>
 
 // Asks a question of the values and writes its answer.
 pub fn ask(
-    alloc: Global,
     question: Question,
     values: &mut Values,
     out: &mut String,
@@ -136,7 +136,7 @@ pub fn ask(
         }
         Question::Count => answers::write_count(nbiot::count(v.cell(), &v.anchor, &v.other), out),
         Question::Search => search(v, out),
-        Question::Fill => fill(alloc, v, out),
+        Question::Fill => fill(v, out),
         Question::Element => element(v, out),
         Question::Meaning => answers::write_meaning(v.no, out),
         Question::Plan(kind) => plan(Asked { kind, values: v }, out),

@@ -16,6 +16,9 @@ mod timeline;
 // Answers of more bytes than this are written before the next line is answered.
 const FULL: usize = 49_152;
 
+// No answer has more bytes than this.
+const LONGEST: usize = 16_384;
+
 // So many bytes of a line are kept: two more than the longest has, since it is too long without a carriage return too.
 const KEPT: usize = 4098;
 
@@ -50,7 +53,7 @@ impl<T: Drop> From<AllocFailed<T>> for Failure {
 }
 
 // Where the input stands: the line begun, and how many ended before it; the values kept, the answer begun, and the
-// whole answers that are not yet written.
+// whole answers that are not yet written. There is room for all of them from the begin.
 #[derive(Drop)]
 struct Session {
     line: Vec<u8>,
@@ -68,13 +71,13 @@ impl Session {
             line: Vec::with_capacity(alloc, KEPT)?,
             lines: 0,
             values: Values::new(),
-            begun: String::new(alloc),
-            answers: String::new(alloc),
+            begun: String::with_capacity(alloc, LONGEST)?,
+            answers: String::with_capacity(alloc, FULL + LONGEST)?,
         })
     }
 
     // Answers the line, which ends here; where no memory is left, it has no answer.
-    fn answer(&mut self, alloc: Global) -> Result<(), AllocError>
+    fn answer(&mut self) -> Result<(), AllocError>
         ensures room { OnOk result
             (length (string_bytes self.new.answers) ≤ length (string_bytes self.old.answers) + 16384) }
         ensures kept { OnErr result (string_bytes self.new.answers ≡ string_bytes self.old.answers) }
@@ -88,7 +91,7 @@ impl Session {
             Line::Nothing => {}
             Line::Wrong(fault, word) => answers::write_fault(fault, self.lines, word, out)?,
             Line::Help(word) => answers::write_help(word, out)?,
-            Line::Asked(question) => asking::ask(alloc, question, &mut self.values, out)?,
+            Line::Asked(question) => asking::ask(question, &mut self.values, out)?,
         }
         self.answers.push_str(&self.begun)?;
         self.line.clear();
@@ -114,7 +117,7 @@ impl Session {
                 if self.answers.len() > FULL {
                     self.write_out(rt)?;
                 }
-                self.answer(rt.alloc())?;
+                self.answer()?;
             } else if self.line.len() < KEPT {
                 self.line.push(*b)?;
             }
