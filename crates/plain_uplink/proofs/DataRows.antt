@@ -32,17 +32,20 @@ gone_over s = flat_map (tones_of s) (filter (λ l. not (is_reference s l)) (rang
 
 module _ (s : Shape) (f : Fits s) where
   -- an element of a data symbol carries data by its tone
-  on_data : (l k : ℕ) → is_data_symbol s l ≡ true → k < s.subcarriers → carries_data s (l * s.subcarriers + k) ≡ is_granted s k
+  on_data : (l k : ℕ) → is_data_symbol s l ≡ true → k < s.subcarriers
+      → carries_data s (l * s.subcarriers + k) ≡ is_granted s k
   on_data l k d h = data_at s f l k h ∙ ap (λ (b : Bool). b && is_granted s k) d
 
-  placed : (l k : ℕ) → k < s.subcarriers → ◌≡◌ {A = Element} (record { l = l; k = k }) (place_at s.subcarriers (l * s.subcarriers + k))
+  placed : (l k : ℕ) → k < s.subcarriers
+      → ◌≡◌ {A = Element} (record { l = l; k = k }) (place_at s.subcarriers (l * s.subcarriers + k))
   placed l k h j = record {
     l = sym (uplink_symbol_of_lem s.subcarriers l k h) j;
     k = sym (uplink_subcarrier_of_lem s.subcarriers l k h) j;
   }
 
   row : (l : ℕ) → is_data_symbol s l ≡ true
-      → tones_of s l ≡ map (place_at s.subcarriers) (filter (carries_data s) (range_with_len (l * s.subcarriers) s.subcarriers))
+      → tones_of s l
+      ≡ map (place_at s.subcarriers) (filter (carries_data s) (range_with_len (l * s.subcarriers) s.subcarriers))
   row l d =
       let m = l * s.subcarriers in
       let r = s.subcarriers - (s.tone + s.tones) in
@@ -70,10 +73,12 @@ module _ (s : Shape) (f : Fits s) where
           (sym (none_kept (carries_data s) s.subcarriers (l * s.subcarriers)
           (λ i h. data_at s f l i h ∙ ap (λ (b : Bool). b && is_granted s i) d)))
 
-  pub data_gone_over : gone_over s ≡ map (place_at s.subcarriers) (filter (carries_data s) (range_with_len 0 (uplink_elements s.subcarriers)))
+  pub data_gone_over : gone_over s
+      ≡ map (place_at s.subcarriers) (filter (carries_data s) (range_with_len 0 (uplink_elements s.subcarriers)))
   data_gone_over =
       ap (flat_map (tones_of s))
-      (alike_kept (is_data_symbol s) (λ l. not (is_reference s l)) symbols 0 (λ l h. rw (lt-ltb (0 + l) symbols (omega (arith, h))) refl))
+      (alike_kept (is_data_symbol s) (λ l. not (is_reference s l)) symbols 0
+      (λ l h. rw (lt-ltb (0 + l) symbols (omega (arith, h))) refl))
       ∙ left_out (is_data_symbol s) (tones_of s) (range_with_len 0 symbols)
       ∙ sym (filter_true (flat_map (λ l. cond (is_data_symbol s l) (tones_of s l) []) (range_with_len 0 symbols)))
       ∙ rows_kept (carries_data s) s.subcarriers (λ x. true) (place_at s.subcarriers)
@@ -83,4 +88,5 @@ module _ (s : Shape) (f : Fits s) where
   pub data_counted : length (gone_over s) ≡ slot_data s
   unfolding slot_data
   data_counted =
-      ap length data_gone_over ∙ length-map _ (place_at s.subcarriers) ∙ range_counts (carries_data s) (uplink_elements s.subcarriers)
+      ap length data_gone_over ∙ length-map _ (place_at s.subcarriers)
+      ∙ range_counts (carries_data s) (uplink_elements s.subcarriers)

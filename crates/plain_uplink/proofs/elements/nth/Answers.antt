@@ -25,10 +25,13 @@ found c =
     sym (option_map_id c.nth.result)
     ∙ nth_from_yields_List c.nth.result _ e c.nth.ensures.ran
     (YieldsList-from_flat_map _ _ _ (λ x. x) (tones_of s) _
-    (λ l u q k. (search (rules, tests), λ j o. YieldsList-at o
-    (YieldsList-from_map _ (λ k. record { l = l; k = k }) {f = record { 0 = l }}
-    (YieldsList-from_range s.tone (s.tone + s.tones) s.tones (search (rules, tests)) (omega arith)) (search (rules, tests))
-    (λ x r q k. search (rules, tests)))))
+    (λ l u q k. (
+      search (rules, tests),
+      λ j o. YieldsList-at o
+          (YieldsList-from_map _ (λ k. record { l = l; k = k }) {f = record { 0 = l }}
+          (YieldsList-from_range s.tone (s.tone + s.tones) s.tones (search (rules, tests)) (omega arith)) (search (rules, tests))
+          (λ x r q k. search (rules, tests))),
+    ))
     (YieldsList-at c.flat_map.ensures.source (YieldsList-from_filter _ (λ l. not (is_reference s l))
     (YieldsList-from_range 0 _ 7 c.filter.ensures.source (omega arith)) c.filter.ensures.closure
     (λ x b q k. search (rules, tests))))

@@ -18,10 +18,13 @@ count-requires-clause-fits c =
     let s = c.args.s in
     inr (runs_fit
     (YieldsList-from_flat_map _ _ _ (λ x. x) (tones_of s) _
-    (λ l u q k. (search (rules, tests), λ j o. YieldsList-at o
-    (YieldsList-from_map _ (λ k. record { l = l; k = k }) {f = record { 0 = l }}
-    (YieldsList-from_range s.tone (s.tone + s.tones) s.tones (search (rules, tests)) (omega arith)) (search (rules, tests))
-    (λ x r q k. search (rules, tests)))))
+    (λ l u q k. (
+      search (rules, tests),
+      λ j o. YieldsList-at o
+          (YieldsList-from_map _ (λ k. record { l = l; k = k }) {f = record { 0 = l }}
+          (YieldsList-from_range s.tone (s.tone + s.tones) s.tones (search (rules, tests)) (omega arith)) (search (rules, tests))
+          (λ x r q k. search (rules, tests))),
+    ))
     (YieldsList-at c.flat_map.ensures.source (YieldsList-from_filter _ (λ l. not (is_reference s l))
     (YieldsList-from_range 0 _ 7 c.filter.ensures.source (omega arith)) c.filter.ensures.closure
     (λ x b q k. search (rules, tests))))
@@ -34,10 +37,13 @@ returns c =
     let n : c.count.result ≡ slot_data s =
     count_from_yields_List c.flat_map.result c.count.result c.count.ensures.ran
     (YieldsList-from_flat_map _ _ _ (λ x. x) (tones_of s) _
-    (λ l u q k. (search (rules, tests), λ j o. YieldsList-at o
-    (YieldsList-from_map _ (λ k. record { l = l; k = k }) {f = record { 0 = l }}
-    (YieldsList-from_range s.tone (s.tone + s.tones) s.tones (search (rules, tests)) (omega arith)) (search (rules, tests))
-    (λ x r q k. search (rules, tests)))))
+    (λ l u q k. (
+      search (rules, tests),
+      λ j o. YieldsList-at o
+          (YieldsList-from_map _ (λ k. record { l = l; k = k }) {f = record { 0 = l }}
+          (YieldsList-from_range s.tone (s.tone + s.tones) s.tones (search (rules, tests)) (omega arith)) (search (rules, tests))
+          (λ x r q k. search (rules, tests))),
+    ))
     (YieldsList-at c.flat_map.ensures.source (YieldsList-from_filter _ (λ l. not (is_reference s l))
     (YieldsList-from_range 0 _ 7 c.filter.ensures.source (omega arith)) c.filter.ensures.closure
     (λ x b q k. search (rules, tests))))
