@@ -4,6 +4,7 @@ use Rattle.std.proofs.Common.{List, [], ◌∷◌, ◌++◌, length, length-appe
 use Rattle.std.proofs.lemmas.Bool.{cases_lt, eq-eqb, ne_eqb}
 use Rattle.std.proofs.lemmas.Fmt.{length-decimal-le}
 use Rattle.std.proofs.lemmas.List.{length-replicate}
+use Rattle.std.proofs.lemmas.Str.{IsUtf8-from_ascii}
 use Rattle.std.proofs.Math.Nat.{pow-suc}
 use Rattle.std.specs.Fmt.{padded_integral, digits, digits_onto, digit_glyph, char_count}
 use Rattle.answers.specs.Line.{hex}
@@ -47,4 +48,4 @@ pub room : {T E : Type 0} (r : Result T E) (old new text : List ℕ) (n : ℕ) �
 room (Ok x) old new text n e h = omega (arith, length-append {A = ℕ}, ap length e)
 room (Err x) old new text n e h = e
 
-pub ruleset rooms = (room, length-append, decimal_short, word_short, byte_short)
+pub ruleset rooms = (room, length-append, decimal_short, word_short, byte_short, IsUtf8-from_ascii)

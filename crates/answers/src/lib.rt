@@ -1,7 +1,7 @@
 // The answers' lines, written to a text.
 #![tactic(auto, using(crate::proofs::Room::rooms))]
 
-ghost use Rattle.std.specs.Prelude.{◌≡◌, ◌≤◌, ◌+◌, ◌*◌, [], ◌++◌, OnOk, codes, length, string_bytes};
+ghost use Rattle.std.specs.Prelude.{◌≡◌, ◌≤◌, ◌+◌, ◌*◌, [], ◌++◌, OnOk, IsOk, codes, length, string_bytes, string_capacity};
 ghost use Rattle.answers.specs.Line.{hex_of};
 ghost use Rattle.answers.specs.Answers.{fault_text, cell_text, bitmap_text, downlink_plan_text, uplink_plan_text};
 ghost use Rattle.answers.specs.Answers.{downlink_place_text, uplink_place_text, cause_text, count_text, back_then};
@@ -9,6 +9,7 @@ ghost use Rattle.answers.specs.Answers.{candidates_text, search_text, downlink_b
 ghost use Rattle.answers.specs.Answers.{uplink_step_text, downlink_step_text, element_text, fill_text};
 ghost use Rattle.answers.specs.Words.{cause_word, fault_word};
 
+use crate::hex::{write_byte, write_patterns, write_word};
 use cell::{Cause, CauseAnswer, ElementCount};
 use downlink::{DownlinkBack, DownlinkPlace, DownlinkPlan};
 use questions::Fault;
@@ -20,6 +21,7 @@ use uplink::{UplinkPlace, UplinkPlan};
 use walk::WalkPlace;
 
 mod drawn;
+mod hex;
 #[cfg(test)]
 mod tests;
 mod told;
@@ -80,12 +82,14 @@ fn write_hex(bytes: &[u8], out: &mut String) -> Result<(), AllocError>
     ensures text { OnOk result (string_bytes out.new ≡ string_bytes out.old ++ hex_of bytes.now) }
     ensures room { OnOk result
         (length (string_bytes out.new) ≤ length (string_bytes out.old) + (length bytes.now * 2 + 1)) }
+    ensures succeeds { length (string_bytes out.old) + (length bytes.now * 2 + 1) ≤ string_capacity out.old → IsOk result }
+    ensures capacity { string_capacity out.old ≤ string_capacity out.new }
 {
     if bytes.is_empty() {
-        return write!(out, "-");
+        return out.push_str("-");
     }
     for b in bytes {
-        write!(out, "{b:02x}")?;
+        write_byte(*b, out)?;
     }
     Ok(())
 }
@@ -303,7 +307,11 @@ pub fn write_element(x: ElementNumbers, out: &mut String) -> Result<(), AllocErr
 {
     let re = text::pattern_of(x.re);
     let im = text::pattern_of(x.im);
-    writeln!(out, "no={} case={} re={re:08x} im={im:08x}", x.no, x.state)
+    write!(out, "no={} case={} re=", x.no, x.state)?;
+    write_word(re, out)?;
+    out.push_str(" im=")?;
+    write_word(im, out)?;
+    out.push_str("\n")
 }
 
 // The patterns of a fill's numbers.
@@ -313,8 +321,6 @@ pub fn write_fill(no: u64, numbers: &[f32], out: &mut String) -> Result<(), Allo
         OnOk result (length (string_bytes out.new) ≤ length (string_bytes out.old) + 16384) }
 {
     write!(out, "no={no}")?;
-    for x in numbers {
-        write!(out, " {:08x}", text::pattern_of(*x))?;
-    }
+    write_patterns(numbers, out)?;
     writeln!(out)
 }
