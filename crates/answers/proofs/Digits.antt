@@ -1,6 +1,7 @@
 -- The digits of a number in hex, one by one, as `hex` of specs/Line.antt has them.
 use Rattle.std.proofs.Common.{◌≡◌, refl, sym, ap, ◌∙◌, ℕ, zero, suc, ◌+◌, ◌-◌, ◌/◌, ◌%◌, ◌^◌, ◌<◌, ◌≤◌, Bool, true, false, eqb}
-use Rattle.std.proofs.Common.{List, [], ◌∷◌, ◌++◌, length, ⊎_elim, arith}
+use Rattle.std.proofs.Common.{List, [], ◌∷◌, ◌++◌, length, get_or, ⊎_elim, arith, T, ◌&&◌, cond, ltb, eqb→eq}
+use lib.Ieee.Fits.{and_l, and_r}
 use Rattle.std.proofs.lemmas.Bool.{cases_lt, eq-eqb, ne_eqb}
 use Rattle.std.proofs.lemmas.List.{replicate-append-replicate, append-nil, append_assoc}
 use Rattle.std.proofs.lemmas.Fmt.{hex_byte}
@@ -9,6 +10,7 @@ use Rattle.std.proofs.Math.Nat.{pow-suc}
 use Rattle.std.specs.Fmt.{padded_integral, digits, digits_onto, digit_glyph, char_count}
 use Rattle.std.specs.Str.{IsAscii}
 use Rattle.answers.specs.Line.{hex}
+use Rattle.answers.specs.declared.hex.TheConstants.{DIGITS}
 
 -- so many of the last digits, before what stands already
 abbrev pub digits_before : ℕ → ℕ → List ℕ → List ℕ
@@ -97,3 +99,28 @@ pub each_ascii : (bs : List ℕ) → EachAscii bs → IsAscii bs
 each_ascii [] each i = omega arith
 each_ascii (b ∷ bs) each zero = each.0
 each_ascii (b ∷ bs) each (suc i) = each_ascii bs each.1 i
+
+-- the first places of the table hold the digits: a test, which computes
+abbrev hold_digits : ℕ → Bool
+hold_digits zero = true
+hold_digits (suc d) = eqb (get_or DIGITS d 0) (digit_glyph false d) && hold_digits d
+
+held : (n d : ℕ) → T (hold_digits n) → d < n → get_or DIGITS d 0 ≡ digit_glyph false d
+held zero d t h = absurd (omega arith)
+held (suc n) d t h =
+    ⊎_elim
+    (λ (below : d < n). held n d (and_r _ (hold_digits n) t) below)
+    (λ (top : n ≤ d).
+    let e : d ≡ n = omega arith in
+    rw e (eqb→eq _ _ (and_l _ (hold_digits n) t)))
+    (cases_lt d n)
+
+pub held_digit : (d : ℕ) → d < 16 → get_or DIGITS d 0 ≡ digit_glyph false d
+held_digit d h = held 16 d tt h
+
+pub glyph_ascii : (d : ℕ) → d < 16 → digit_glyph false d < 128
+glyph_ascii d h = either (ltb d 10)
+  where
+    either : (b : Bool) → cond b (48 + d) (87 + d) < 128
+    either true = omega arith
+    either false = omega arith

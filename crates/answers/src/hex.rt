@@ -8,6 +8,8 @@ ghost use Rattle.answers.specs.Answers.{number_text};
 use std::alloc::AllocError;
 use std::str;
 
+const DIGITS: [u8; 16] = *b"0123456789abcdef";
+
 // How many numbers are written at a time.
 const GROUP: usize = 8;
 
@@ -16,12 +18,7 @@ fn last_digit(x: u32) -> u8
     ensures value { result ≡ digit_glyph false (x % 16) }
     ensures ascii { result < 128 }
 {
-    let digit = (x % 16) as u8;
-    if digit < 10 {
-        b'0' + digit
-    } else {
-        b'a' - 10 + digit
-    }
+    DIGITS[(x % 16) as usize]
 }
 
 // A byte in two digits.
@@ -55,7 +52,9 @@ pub(crate) fn write_byte(b: u8, out: &mut String) -> Result<(), AllocError>
     ensures succeeds { length (string_bytes out.old) + 2 ≤ string_capacity out.old → IsOk result }
     ensures capacity { string_capacity out.old ≤ string_capacity out.new }
 {
-    out.push_str(str::from_utf8(&byte_digits(b)).unwrap())
+    let [high, low] = byte_digits(b);
+    out.push(char::from(high))?;
+    out.push(char::from(low))
 }
 
 pub(crate) fn write_word(x: u32, out: &mut String) -> Result<(), AllocError>
