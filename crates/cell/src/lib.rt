@@ -296,7 +296,12 @@ fn accept_own(c: CellConfig, own: &[u8]) -> Result<(), Refusal>
 }
 
 // Whether a cell is accepted. The test is the shortest, so that the compiler puts this in where it is asked.
-fn accept_lent(c: CellConfig, si: &[u64], anchor: &[u8], other: &[u8]) -> Result<(), Refusal>
+fn accept_lent(
+    c: CellConfig,
+    si: &[u64],
+    anchor: &[u8],
+    other: &[u8],
+) -> Result<(), Refusal>
     ensures { refused_by result ≡ judge_of (lent_cell c si.now) anchor.now other.now }
 {
     if subframes::are_none(si) {
@@ -317,11 +322,28 @@ pub fn accept(c: Cell, anchor: &[u8], other: &[u8]) -> Result<(), Refusal>
     accept_lent(c.config, &si, anchor, other)
 }
 
-// Judge a cell: its refusal number, or 0, as C hands it on.
+// The refusal number of eight numbers, by their own buffer. The same as a Result costs a judge a tenth more.
+fn judge_alone(c: CellConfig, own: &[u8]) -> u64
+    ensures { (ms : Messages) → is_silent ms ≡ true → result ≡ cell_refusal (with_messages c ms) own.now }
+{
+    if let Err(refusal) = config_refusal(c, own) {
+        return refusal.number();
+    }
+    number(formed_alone(c, own))
+}
+
+// Judge a cell: its refusal number, or 0, as C hands it on. The test is the shortest, so that the compiler puts this in
+// where it is asked.
 pub fn judge_lent(c: CellConfig, si: &[u64], anchor: &[u8], other: &[u8]) -> u64
     ensures { result ≡ judge_of (lent_cell c si.now) anchor.now other.now }
 {
-    number(accept_lent(c, si, anchor, other))
+    if subframes::are_none(si) {
+        if c.carrier == 0 {
+            return judge_alone(c, anchor);
+        }
+        return judge_alone(c, other);
+    }
+    number(judged_beside(c, si, anchor, other))
 }
 
 pub fn judge(c: Cell, anchor: &[u8], other: &[u8]) -> u64

@@ -1,6 +1,6 @@
 // A picture of one transmitted subframe or slot, drawn from what backward answers at each place of it, and the
 // subframes skipped after it.
-ghost use Rattle.std.specs.Prelude.{◌+◌, ◌<◌, ◌≤◌, length, string_bytes, OnOk};
+ghost use Rattle.std.specs.Prelude.{◌≡◌, ◌+◌, ◌<◌, ◌≤◌, length, string_bytes, OnOk};
 
 use crate::asked::{Asked, Place};
 use answers::Shown;
@@ -86,7 +86,7 @@ impl<'a> Asked<'a> {
 
     // The signs of one subcarrier in a slot.
     fn put_signs(self, t: u64, slot: u64, k: u64, out: &mut String) -> Result<(), AllocError>
-        ensures room { OnOk result (length (string_bytes out.new) ≤ length (string_bytes out.old) + 7) }
+        ensures signs { OnOk result (length (string_bytes out.new) ≡ length (string_bytes out.old) + 7) }
     {
         let reference = if self.kind.is_uplink() { 'R' } else { 'N' };
         let control = self.drawn_control();
