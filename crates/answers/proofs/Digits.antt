@@ -4,7 +4,6 @@ use Rattle.std.proofs.Common.{List, [], ◌∷◌, ◌++◌, length, get_or, ⊎
 use lib.Ieee.Fits.{and_l, and_r}
 use Rattle.std.proofs.lemmas.Bool.{cases_lt, eq-eqb, ne_eqb}
 use Rattle.std.proofs.lemmas.List.{replicate-append-replicate, append-nil, append_assoc}
-use Rattle.std.proofs.lemmas.Fmt.{hex_byte}
 use Rattle.std.proofs.Math.ListN.{replicate}
 use Rattle.std.proofs.Math.Nat.{pow-suc}
 use Rattle.std.specs.Fmt.{padded_integral, digits, digits_onto, digit_glyph, char_count}

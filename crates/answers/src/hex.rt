@@ -1,5 +1,6 @@
 // Bytes and patterns of numbers in hex digits.
-ghost use Rattle.std.specs.Prelude.{◌≡◌, ◌≤◌, ◌<◌, ◌+◌, ◌*◌, ◌%◌, ◌++◌, false, OnOk, IsOk, IsAscii, length, string_bytes, string_capacity};
+ghost use Rattle.std.specs.Prelude.{◌≡◌, ◌≤◌, ◌<◌, ◌+◌, ◌*◌, ◌%◌, ◌++◌, false, OnOk, IsOk, IsAscii, length};
+ghost use Rattle.std.specs.Prelude.{string_bytes, string_capacity};
 ghost use Rattle.std.specs.Fmt.{digit_glyph};
 ghost use Rattle.std.specs.List.{flat_map};
 ghost use Rattle.answers.specs.Line.{hex};
@@ -78,7 +79,8 @@ fn spaced_pattern(x: f32) -> [u8; 9]
 fn write_group(numbers: &[f32], out: &mut String) -> Result<(), AllocError>
     requires { length numbers.now ≤ 8 }
     ensures text { OnOk result (string_bytes out.new ≡ string_bytes out.old ++ flat_map number_text numbers.now) }
-    ensures room { OnOk result (length (string_bytes out.new) ≤ length (string_bytes out.old) + length numbers.now * 9) }
+    ensures room { OnOk result
+        (length (string_bytes out.new) ≤ length (string_bytes out.old) + length numbers.now * 9) }
     ensures succeeds { length (string_bytes out.old) + length numbers.now * 9 ≤ string_capacity out.old → IsOk result }
     ensures capacity { string_capacity out.old ≤ string_capacity out.new }
 {
@@ -93,7 +95,8 @@ fn write_group(numbers: &[f32], out: &mut String) -> Result<(), AllocError>
 // Numbers' patterns, each after a space.
 pub(crate) fn write_patterns(numbers: &[f32], out: &mut String) -> Result<(), AllocError>
     ensures text { OnOk result (string_bytes out.new ≡ string_bytes out.old ++ flat_map number_text numbers.now) }
-    ensures room { OnOk result (length (string_bytes out.new) ≤ length (string_bytes out.old) + length numbers.now * 9) }
+    ensures room { OnOk result
+        (length (string_bytes out.new) ≤ length (string_bytes out.old) + length numbers.now * 9) }
     ensures succeeds { length (string_bytes out.old) + length numbers.now * 9 ≤ string_capacity out.old → IsOk result }
     ensures capacity { string_capacity out.old ≤ string_capacity out.new }
 {

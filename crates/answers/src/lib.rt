@@ -1,7 +1,8 @@
 // The answers' lines, written to a text.
 #![tactic(auto, using(crate::proofs::Room::rooms))]
 
-ghost use Rattle.std.specs.Prelude.{◌≡◌, ◌≤◌, ◌+◌, ◌*◌, [], ◌∷◌, ◌++◌, OnOk, IsOk, codes, length, string_bytes, string_capacity};
+ghost use Rattle.std.specs.Prelude.{◌≡◌, ◌≤◌, ◌+◌, ◌*◌, [], ◌∷◌, ◌++◌, OnOk, IsOk, codes, length};
+ghost use Rattle.std.specs.Prelude.{string_bytes, string_capacity};
 ghost use Rattle.answers.specs.Line.{hex_of, values_then, plan_then, place_then};
 ghost use Rattle.answers.specs.Answers.{fault_text, cell_text, bitmap_text, downlink_plan_text, uplink_plan_text};
 ghost use Rattle.answers.specs.Answers.{downlink_place_text, uplink_place_text, cause_text, count_text, back_then};
@@ -128,7 +129,8 @@ fn write_plan(
     places: u64,
     out: &mut String,
 ) -> Result<(), AllocError>
-    ensures text { OnOk result (string_bytes out.new ≡ string_bytes out.old ++ plan_then no first last copies places []) }
+    ensures text { OnOk result
+        (string_bytes out.new ≡ string_bytes out.old ++ plan_then no first last copies places []) }
     ensures room { OnOk result (length (string_bytes out.new) ≤ length (string_bytes out.old) + 192) }
     ensures succeeds { length (string_bytes out.old) + 192 ≤ string_capacity out.old → IsOk result }
     ensures capacity { string_capacity out.old ≤ string_capacity out.new }
@@ -186,7 +188,8 @@ fn write_element_place(
     symbol: u64,
     out: &mut String,
 ) -> Result<(), AllocError>
-    ensures text { OnOk result (string_bytes out.new ≡ string_bytes out.old ++ place_then slot l k symbol (codes "\n")) }
+    ensures text { OnOk result
+        (string_bytes out.new ≡ string_bytes out.old ++ place_then slot l k symbol (codes "\n")) }
     ensures room { OnOk result (length (string_bytes out.new) ≤ length (string_bytes out.old) + 128) }
     ensures succeeds { length (string_bytes out.old) + 128 ≤ string_capacity out.old → IsOk result }
     ensures capacity { string_capacity out.old ≤ string_capacity out.new }

@@ -1,4 +1,4 @@
-use Rattle.std.proofs.Common.{◌≡◌, sym, ◌∙◌, ◌∷◌, []}
+use Rattle.std.proofs.Common.{sym, ◌∙◌, ◌∷◌, []}
 use Rattle.answers.proofs.Digits.{byte_digits, each_ascii}
 use Rattle.answers.proofs.hex.byte_digits.Goals as goal
 
