@@ -296,12 +296,7 @@ fn accept_own(c: CellConfig, own: &[u8]) -> Result<(), Refusal>
 }
 
 // Whether a cell is accepted. The test is the shortest, so that the compiler puts this in where it is asked.
-fn accept_lent(
-    c: CellConfig,
-    si: &[u64],
-    anchor: &[u8],
-    other: &[u8],
-) -> Result<(), Refusal>
+fn accept_lent(c: CellConfig, si: &[u64], anchor: &[u8], other: &[u8]) -> Result<(), Refusal>
     ensures { refused_by result ≡ judge_of (lent_cell c si.now) anchor.now other.now }
 {
     if subframes::are_none(si) {

@@ -93,16 +93,7 @@ fn fill(v: &Values, out: &mut String) -> Result<(), AllocError>
     let room = &mut numbers[..LENT.min(v.room as usize)];
     let c = v.cell();
     let g = v.npdsch_grant();
-    let no = nbiot::fill(
-        c,
-        &v.anchor,
-        &v.other,
-        g,
-        v.i,
-        &v.data,
-        v.level(),
-        room,
-    );
+    let no = nbiot::fill(c, &v.anchor, &v.other, g, v.i, &v.data, v.level(), room);
     answers::write_fill(no, room, out)
 }
 
@@ -119,11 +110,7 @@ fn element(v: &Values, out: &mut String) -> Result<(), AllocError>
 }
 
 // Asks a question of the values and writes its answer.
-pub fn ask(
-    question: Question,
-    values: &mut Values,
-    out: &mut String,
-) -> Result<(), AllocError>
+pub fn ask(question: Question, values: &mut Values, out: &mut String) -> Result<(), AllocError>
     ensures room { OnOk result (length (string_bytes out.new) ≤ length (string_bytes out.old) + 16384) }
 {
     let v = &*values;
