@@ -94,7 +94,8 @@ fn write_hex(bytes: &[u8], out: &mut String) -> Result<(), AllocError>
     ensures text { OnOk result (string_bytes out.new ≡ string_bytes out.old ++ hex_of bytes.now) }
     ensures room { OnOk result
         (length (string_bytes out.new) ≤ length (string_bytes out.old) + (length bytes.now * 2 + 1)) }
-    ensures succeeds { length (string_bytes out.old) + (length bytes.now * 2 + 1) ≤ string_capacity out.old → IsOk result }
+    ensures succeeds { length (string_bytes out.old) + (length bytes.now * 2 + 1) ≤ string_capacity out.old
+        → IsOk result }
     ensures capacity { string_capacity out.old ≤ string_capacity out.new }
 {
     if bytes.is_empty() {
