@@ -1,8 +1,9 @@
 // The words over and under what is drawn: a transmitted subframe or slot, and a grant's frames.
-ghost use Rattle.std.specs.Prelude.{◌≡◌, ◌≤◌, ◌+◌, ◌++◌, OnOk, length, string_bytes};
+ghost use Rattle.std.specs.Prelude.{◌≡◌, ◌≤◌, ◌+◌, ◌++◌, OnOk, IsOk, length, string_bytes, string_capacity};
 ghost use Rattle.answers.specs.Drawn.{place_text, subframe_text, slot_text, unit_text, tones_text};
 ghost use Rattle.answers.specs.Drawn.{slot_columns_text, more_text};
 
+use crate::value::write_value;
 use std::alloc::AllocError;
 
 const FRAMES: u64 = 1024;
@@ -23,31 +24,35 @@ pub struct Shown {
 fn write_place(x: Shown, out: &mut String) -> Result<(), AllocError>
     ensures text { OnOk result (string_bytes out.new ≡ string_bytes out.old ++ place_text x) }
     ensures room { OnOk result (length (string_bytes out.new) ≤ length (string_bytes out.old) + 160) }
+    ensures succeeds { length (string_bytes out.old) + 160 ≤ string_capacity out.old → IsOk result }
+    ensures capacity { string_capacity out.old ≤ string_capacity out.new }
 {
     let frame = x.subframe / 10 % FRAMES;
     let within = x.subframe % 10;
-    write!(
-        out,
-        "frame {frame}, subframe {within} of it, i={} of {} transmitted, codeword ",
-        x.i, x.sent
-    )
+    write_value("frame ", frame, out)?;
+    write_value(", subframe ", within, out)?;
+    write_value(" of it, i=", x.i, out)?;
+    write_value(" of ", x.sent, out)?;
+    out.push_str(" transmitted, codeword ")
 }
 
 // The title of a subframe, the legend and the columns.
 pub fn write_subframe(x: Shown, out: &mut String) -> Result<(), AllocError>
     ensures text { OnOk result (string_bytes out.new ≡ string_bytes out.old ++ subframe_text x) }
     ensures room { OnOk result (length (string_bytes out.new) ≤ length (string_bytes out.old) + 384) }
+    ensures succeeds { length (string_bytes out.old) + 384 ≤ string_capacity out.old → IsOk result }
+    ensures capacity { string_capacity out.old ≤ string_capacity out.new }
 {
-    write!(out, "subframe {}: ", x.unit)?;
+    write_value("subframe ", x.unit, out)?;
+    out.push_str(": ")?;
     write_place(x, out)?;
-    write!(
-        out,
-        "subframe {}
+    write_value("subframe ", x.codeword, out)?;
+    out.push_str(
+        "
 o ours, N narrowband reference, C cell reference, # control region, . anything else
      slot 0  slot 1
    l 0123456 0123456
 ",
-        x.codeword
     )
 }
 
@@ -55,29 +60,39 @@ o ours, N narrowband reference, C cell reference, # control region, . anything e
 pub fn write_slot(x: Shown, out: &mut String) -> Result<(), AllocError>
     ensures text { OnOk result (string_bytes out.new ≡ string_bytes out.old ++ slot_text x) }
     ensures room { OnOk result (length (string_bytes out.new) ≤ length (string_bytes out.old) + 256) }
+    ensures succeeds { length (string_bytes out.old) + 256 ≤ string_capacity out.old → IsOk result }
+    ensures capacity { string_capacity out.old ≤ string_capacity out.new }
 {
-    write!(out, "slot {}: from subframe {}, ", x.unit, x.subframe)?;
+    write_value("slot ", x.unit, out)?;
+    write_value(": from subframe ", x.subframe, out)?;
+    out.push_str(", ")?;
     write_place(x, out)?;
-    write!(out, "slot {}", x.codeword)
+    write_value("slot ", x.codeword, out)
 }
 
 // The resource unit of a slot's title.
 pub fn write_unit(unit: u64, out: &mut String) -> Result<(), AllocError>
     ensures text { OnOk result (string_bytes out.new ≡ string_bytes out.old ++ unit_text unit) }
     ensures room { OnOk result (length (string_bytes out.new) ≤ length (string_bytes out.old) + 64) }
+    ensures succeeds { length (string_bytes out.old) + 64 ≤ string_capacity out.old → IsOk result }
+    ensures capacity { string_capacity out.old ≤ string_capacity out.new }
 {
-    write!(out, ", resource unit {unit}")
+    write_value(", resource unit ", unit, out)
 }
 
 // The granted tones, the last words of a slot's title.
 pub fn write_tones(first: u64, last: u64, out: &mut String) -> Result<(), AllocError>
     ensures text { OnOk result (string_bytes out.new ≡ string_bytes out.old ++ tones_text first last) }
     ensures room { OnOk result (length (string_bytes out.new) ≤ length (string_bytes out.old) + 64) }
+    ensures succeeds { length (string_bytes out.old) + 64 ≤ string_capacity out.old → IsOk result }
+    ensures capacity { string_capacity out.old ≤ string_capacity out.new }
 {
-    writeln!(out, ", tones {first} to {last}")
+    write_value(", tones ", first, out)?;
+    write_value(" to ", last, out)?;
+    out.push_str("\n")
 }
 
-// The legend of a slot, and its columns.
+// The legend of a slot, and its columns. By the formatter, as the next: after a name so long the search finds no proof.
 pub fn write_slot_columns(slot: u64, out: &mut String) -> Result<(), AllocError>
     ensures text { OnOk result (string_bytes out.new ≡ string_bytes out.old ++ slot_columns_text slot) }
     ensures room { OnOk result (length (string_bytes out.new) ≤ length (string_bytes out.old) + 128) }

@@ -1,7 +1,8 @@
 // What is told in words: help, and the meanings of the refusal numbers.
-ghost use Rattle.std.specs.Prelude.{◌≡◌, ◌≤◌, ◌+◌, ◌++◌, List, None, ℕ, OnOk, codes, length, string_bytes};
+ghost use Rattle.std.specs.Prelude.{◌≡◌, ◌≤◌, ◌+◌, ◌++◌, List, None, ℕ, OnOk, codes, length, string_bytes, IsOk, string_capacity};
 ghost use Rattle.answers.specs.Answers.{meaning_text};
 
+use crate::value::write_value;
 use std::alloc::AllocError;
 
 // The text of docs/help.txt.
@@ -124,11 +125,14 @@ const REFUSALS: &str = "0 accepted
 fn write_lines_of(word: &[u8], out: &mut String) -> Result<(), AllocError>
     ensures lines { OnOk result ((lines : List ℕ) × (string_bytes out.new ≡ string_bytes out.old ++ lines)) }
     ensures room { OnOk result (length (string_bytes out.new) ≤ length (string_bytes out.old) + 12634) }
+    ensures succeeds { length (string_bytes out.old) + 12634 ≤ string_capacity out.old → IsOk result }
+    ensures capacity { string_capacity out.old ≤ string_capacity out.new }
 {
     for line in HELP.lines() {
         if let Some((first, _)) = line.split_once(' ') {
             if first.as_bytes() == word {
-                writeln!(out, "{line}")?;
+                out.push_str(line)?;
+                out.push_str("\n")?;
             }
         }
     }
@@ -142,11 +146,13 @@ pub fn write_help(word: Option<&[u8]>, out: &mut String) -> Result<(), AllocErro
     ensures begun { OnOk result ((rest : List ℕ) ×
         (string_bytes out.new ≡ string_bytes out.old ++ (codes "no=0\n" ++ rest))) }
     ensures room { OnOk result (length (string_bytes out.new) ≤ length (string_bytes out.old) + 16384) }
+    ensures succeeds { length (string_bytes out.old) + 16384 ≤ string_capacity out.old → IsOk result }
+    ensures capacity { string_capacity out.old ≤ string_capacity out.new }
 {
-    writeln!(out, "no=0")?;
+    out.push_str("no=0\n")?;
     match word {
         Some(word) => write_lines_of(word, out),
-        None => write!(out, "{HELP}"),
+        None => out.push_str(HELP),
     }
 }
 
@@ -166,6 +172,11 @@ pub fn write_meaning(no: u64, out: &mut String) -> Result<(), AllocError>
     ensures text { OnOk result ((words : List ℕ) ×
         (string_bytes out.new ≡ string_bytes out.old ++ meaning_text no words)) }
     ensures room { OnOk result (length (string_bytes out.new) ≤ length (string_bytes out.old) + 16384) }
+    ensures succeeds { length (string_bytes out.old) + 16384 ≤ string_capacity out.old → IsOk result }
+    ensures capacity { string_capacity out.old ≤ string_capacity out.new }
 {
-    writeln!(out, "no={no} meaning={}", words_of(no))
+    write_value("no=", no, out)?;
+    out.push_str(" meaning=")?;
+    out.push_str(words_of(no))?;
+    out.push_str("\n")
 }
