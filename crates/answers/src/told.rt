@@ -1,5 +1,6 @@
 // What is told in words: help, and the meanings of the refusal numbers.
-ghost use Rattle.std.specs.Prelude.{◌≡◌, ◌≤◌, ◌+◌, ◌++◌, List, None, ℕ, OnOk, codes, length, string_bytes, IsOk, string_capacity};
+ghost use Rattle.std.specs.Prelude.{◌≡◌, ◌≤◌, ◌+◌, ◌++◌, List, None, ℕ, OnOk, codes, length, string_bytes};
+ghost use Rattle.std.specs.Prelude.{IsOk, string_capacity};
 ghost use Rattle.answers.specs.Answers.{meaning_text};
 
 use crate::value::write_value;
