@@ -19,7 +19,7 @@ pub struct Closure {
     pub closed: u64,
 }
 
-// Four closures; a number is clear if none of them closes it. No array: nprach's definition `closures_by` names the
+// Four closures; a number is clear if none of them closes it. No array: nprach's definition `closures_of` names the
 // four, and so do the laws of both links on it.
 #[derive(Clone, Copy)]
 pub struct Closures {
