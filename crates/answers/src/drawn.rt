@@ -92,21 +92,28 @@ pub fn write_tones(first: u64, last: u64, out: &mut String) -> Result<(), AllocE
     out.push_str("\n")
 }
 
-// The legend of a slot, and its columns. By the formatter, as the next: after a name so long the search finds no proof.
+// The legend of a slot, and its columns.
 pub fn write_slot_columns(slot: u64, out: &mut String) -> Result<(), AllocError>
     ensures text { OnOk result (string_bytes out.new ≡ string_bytes out.old ++ slot_columns_text slot) }
     ensures room { OnOk result (length (string_bytes out.new) ≤ length (string_bytes out.old) + 128) }
+    ensures succeeds { length (string_bytes out.old) + 128 ≤ string_capacity out.old → IsOk result }
+    ensures capacity { string_capacity out.old ≤ string_capacity out.new }
 {
-    write!(
+    write_value(
+        "o data, R reference, . tone not granted\n     slot ",
+        slot,
         out,
-        "o data, R reference, . tone not granted\n     slot {slot}\n   l 0123456\n"
-    )
+    )?;
+    out.push_str("\n   l 0123456\n")
 }
 
 // How many frames are past the last row.
 pub fn write_more(frames: u64, out: &mut String) -> Result<(), AllocError>
     ensures text { OnOk result (string_bytes out.new ≡ string_bytes out.old ++ more_text frames) }
     ensures room { OnOk result (length (string_bytes out.new) ≤ length (string_bytes out.old) + 64) }
+    ensures succeeds { length (string_bytes out.old) + 64 ≤ string_capacity out.old → IsOk result }
+    ensures capacity { string_capacity out.old ≤ string_capacity out.new }
 {
-    writeln!(out, "more frames: {frames}")
+    write_value("more frames: ", frames, out)?;
+    out.push_str("\n")
 }
