@@ -1,5 +1,5 @@
 -- The digits of a number in hex, one by one, as `hex` of specs/Line.antt has them.
-use Rattle.std.proofs.Common.{◌≡◌, refl, sym, ap, ◌∙◌, ℕ, zero, suc, ◌+◌, ◌-◌, ◌/◌, ◌%◌, ◌^◌, ◌<◌, ◌≤◌, Bool, true, false, eqb}
+use Rattle.std.proofs.Common.{◌≡◌, refl, sym, ap, ◌∙◌, ℕ, zero, suc, ◌+◌, ◌*◌, ◌-◌, ◌/◌, ◌%◌, ◌^◌, ◌<◌, ◌≤◌, Bool, true, false, eqb}
 use Rattle.std.proofs.Common.{List, [], ◌∷◌, ◌++◌, length, get_or, ⊎_elim, arith, T, ◌&&◌, cond, ltb, eqb→eq}
 use lib.Ieee.Fits.{and_l, and_r}
 use Rattle.std.proofs.lemmas.Bool.{cases_lt, eq-eqb, ne_eqb}
@@ -9,7 +9,7 @@ use Rattle.std.proofs.Math.Nat.{pow-suc}
 use Rattle.std.specs.Fmt.{padded_integral, digits, digits_onto, digit_glyph, char_count}
 use Rattle.std.specs.Str.{IsAscii}
 use Rattle.answers.specs.Line.{hex}
-use Rattle.answers.specs.declared.hex.TheConstants.{DIGITS}
+use Rattle.answers.specs.declared.hex.TheConstants.{PAIRS}
 
 -- so many of the last digits, before what stands already
 abbrev pub digits_before : ℕ → ℕ → List ℕ → List ℕ
@@ -72,22 +72,29 @@ hex_digits j n le h =
     let same : suc j - length all - 0 - 0 ≡ suc j - (length all - 0) = omega arith in
     rw (append-nil all) (ap (λ m. replicate m 48 ++ all) same ∙ filled j 63 n [] (omega arith) h)
 
-pub byte_digits : (n : ℕ) → n < 256 → hex 2 n ≡ digit_glyph false (n / 16 % 16) ∷ digit_glyph false (n % 16) ∷ []
-byte_digits n h = hex_digits 1 n (omega arith) (omega arith)
+-- the two digits of a byte
+abbrev pub pair : ℕ → List ℕ
+pair b = digit_glyph false (b / 16) ∷ digit_glyph false (b % 16) ∷ []
+
+pub byte_digits : (n : ℕ) → n < 256 → hex 2 n ≡ pair n
+byte_digits n h =
+    let high : n / 16 % 16 ≡ n / 16 = omega arith in hex_digits 1 n (omega arith) (omega arith) ∙ rw high refl
 
 pub word_digits : (n : ℕ) → n < 2 ^ 32 →
-    hex 8 n ≡ digit_glyph false (n / 0x1000_0000 % 16) ∷ digit_glyph false (n / 0x100_0000 % 16) ∷
-    digit_glyph false (n / 0x10_0000 % 16) ∷ digit_glyph false (n / 0x1_0000 % 16) ∷
-    digit_glyph false (n / 0x1000 % 16) ∷ digit_glyph false (n / 0x100 % 16) ∷
-    digit_glyph false (n / 0x10 % 16) ∷ digit_glyph false (n % 16) ∷ []
+    hex 8 n ≡ pair (n / 0x100_0000) ++ (pair (n / 0x1_0000 % 0x100) ++ (pair (n / 0x100 % 0x100) ++ pair (n % 0x100)))
 word_digits n h =
-    let a : n / 16 / 16 ≡ n / 0x100 = omega arith in
-    let b : n / 0x100 / 16 ≡ n / 0x1000 = omega arith in
-    let c : n / 0x1000 / 16 ≡ n / 0x1_0000 = omega arith in
-    let d : n / 0x1_0000 / 16 ≡ n / 0x10_0000 = omega arith in
-    let e : n / 0x10_0000 / 16 ≡ n / 0x100_0000 = omega arith in
-    let f : n / 0x100_0000 / 16 ≡ n / 0x1000_0000 = omega arith in
-    hex_digits 7 n (omega arith) (omega arith) ∙ rw (a, b, c, d, e, f) refl
+    let two : n / 16 / 16 ≡ n / 0x100 = omega arith in
+    let four : n / 0x100 / 16 / 16 ≡ n / 0x1_0000 = omega arith in
+    let six : n / 0x1_0000 / 16 / 16 ≡ n / 0x100_0000 = omega arith in
+    let first : n / 0x100_0000 / 16 % 16 ≡ n / 0x100_0000 / 16 = omega arith in
+    let third : n / 0x1_0000 / 16 % 16 ≡ n / 0x1_0000 % 0x100 / 16 = omega arith in
+    let fourth : n / 0x1_0000 % 16 ≡ n / 0x1_0000 % 0x100 % 16 = omega arith in
+    let fifth : n / 0x100 / 16 % 16 ≡ n / 0x100 % 0x100 / 16 = omega arith in
+    let sixth : n / 0x100 % 16 ≡ n / 0x100 % 0x100 % 16 = omega arith in
+    let seventh : n / 16 % 16 ≡ n % 0x100 / 16 = omega arith in
+    let last : n % 16 ≡ n % 0x100 % 16 = omega arith in
+    hex_digits 7 n (omega arith) (omega arith)
+    ∙ rw (two, four, six, first, third, fourth, fifth, sixth, seventh, last) refl
 
 -- each of the bytes is ASCII, one after the other
 abbrev pub EachAscii : List ℕ → Type 0
@@ -99,23 +106,27 @@ each_ascii [] each i = omega arith
 each_ascii (b ∷ bs) each zero = each.0
 each_ascii (b ∷ bs) each (suc i) = each_ascii bs each.1 i
 
--- the first places of the table hold the digits: a test, which computes
-abbrev hold_digits : ℕ → Bool
-hold_digits zero = true
-hold_digits (suc d) = eqb (get_or DIGITS d 0) (digit_glyph false d) && hold_digits d
+-- the first places of the table hold the digits of the first bytes: a test, which computes
+abbrev hold_pairs : ℕ → Bool
+hold_pairs zero = true
+hold_pairs (suc b) =
+    eqb (get_or PAIRS (2 * b) 0) (digit_glyph false (b / 16))
+    && (eqb (get_or PAIRS (2 * b + 1) 0) (digit_glyph false (b % 16)) && hold_pairs b)
 
-held : (n d : ℕ) → T (hold_digits n) → d < n → get_or DIGITS d 0 ≡ digit_glyph false d
-held zero d t h = absurd (omega arith)
-held (suc n) d t h =
+held : (n b : ℕ) → T (hold_pairs n) → b < n →
+    (get_or PAIRS (2 * b) 0 ≡ digit_glyph false (b / 16)) × (get_or PAIRS (2 * b + 1) 0 ≡ digit_glyph false (b % 16))
+held zero b t h = absurd (omega arith)
+held (suc n) b t h =
     ⊎_elim
-    (λ (below : d < n). held n d (and_r _ (hold_digits n) t) below)
-    (λ (top : n ≤ d).
-    let e : d ≡ n = omega arith in
-    rw e (eqb→eq _ _ (and_l _ (hold_digits n) t)))
-    (cases_lt d n)
+    (λ (below : b < n). held n b (and_r _ (hold_pairs n) (and_r _ (_ && hold_pairs n) t)) below)
+    (λ (top : n ≤ b).
+    let e : b ≡ n = omega arith in
+    rw e (eqb→eq _ _ (and_l _ (_ && hold_pairs n) t), eqb→eq _ _ (and_l _ (hold_pairs n) (and_r _ (_ && hold_pairs n) t))))
+    (cases_lt b n)
 
-pub held_digit : (d : ℕ) → d < 16 → get_or DIGITS d 0 ≡ digit_glyph false d
-held_digit d h = held 16 d tt h
+pub held_pair : (b : ℕ) → b < 256 →
+    (get_or PAIRS (2 * b) 0 ≡ digit_glyph false (b / 16)) × (get_or PAIRS (2 * b + 1) 0 ≡ digit_glyph false (b % 16))
+held_pair b h = held 256 b tt h
 
 pub glyph_ascii : (d : ℕ) → d < 16 → digit_glyph false d < 128
 glyph_ascii d h = either (ltb d 10)

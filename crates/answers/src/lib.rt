@@ -11,7 +11,7 @@ ghost use Rattle.answers.specs.Answers.{uplink_step_text, downlink_step_text, el
 ghost use Rattle.answers.specs.Words.{cause_word, fault_word};
 
 use crate::hex::{write_byte, write_patterns, write_word};
-use crate::value::write_value;
+use crate::value::{write_number, write_value};
 use cell::{Cause, CauseAnswer, ElementCount};
 use downlink::{DownlinkBack, DownlinkPlace, DownlinkPlan};
 use questions::Fault;
@@ -273,9 +273,12 @@ fn write_candidates(x: SearchAnswer, out: &mut String) -> Result<(), AllocError>
     let listed = x.list.len().min(x.count as usize);
     for candidate in &x.list[..listed] {
         let Candidate { first, r, last } = *candidate;
-        write_value(" ", first, out)?;
-        write_value(",", r, out)?;
-        write_value(",", last, out)?;
+        out.push(' ')?;
+        write_number(first, out)?;
+        out.push(',')?;
+        write_number(r, out)?;
+        out.push(',')?;
+        write_number(last, out)?;
     }
     Ok(())
 }

@@ -1,7 +1,20 @@
-// A number after its name.
+// Numbers, alone and after their names.
 ghost use Rattle.std.specs.Prelude.{◌≡◌, ◌≤◌, ◌+◌, ◌++◌, OnOk, IsOk, decimal, length, string_bytes, string_capacity};
 
 use std::alloc::AllocError;
+
+// One below ten, as most are, is its digit.
+pub(crate) fn write_number(value: u64, out: &mut String) -> Result<(), AllocError>
+    ensures text { OnOk result (string_bytes out.new ≡ string_bytes out.old ++ decimal value) }
+    ensures room { OnOk result (length (string_bytes out.new) ≤ length (string_bytes out.old) + 20) }
+    ensures succeeds { length (string_bytes out.old) + 20 ≤ string_capacity out.old → IsOk result }
+    ensures capacity { string_capacity out.old ≤ string_capacity out.new }
+{
+    if value < 10 {
+        return out.push(char::from(b'0' + value as u8));
+    }
+    out.push_str(itoa::Buffer::new().format(value))
+}
 
 pub(crate) fn write_value(name: &str, value: u64, out: &mut String) -> Result<(), AllocError>
     ensures text { OnOk result (string_bytes out.new ≡ string_bytes out.old ++ (name.now ++ decimal value)) }
@@ -11,5 +24,5 @@ pub(crate) fn write_value(name: &str, value: u64, out: &mut String) -> Result<()
     ensures capacity { string_capacity out.old ≤ string_capacity out.new }
 {
     out.push_str(name)?;
-    out.push_str(itoa::Buffer::new().format(value))
+    write_number(value, out)
 }
