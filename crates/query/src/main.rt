@@ -84,6 +84,9 @@ impl Session {
     {
         // No input has more lines than are counted.
         self.lines = self.lines.saturating_add(1);
+        if self.line.is_empty() {
+            return Ok(());
+        }
         let line = questions::without_return(&self.line);
         self.begun.clear();
         let out = &mut self.begun;
@@ -93,7 +96,9 @@ impl Session {
             Line::Help(word) => answers::write_help(word, out)?,
             Line::Asked(question) => asking::ask(question, &mut self.values, out)?,
         }
-        self.answers.push_str(&self.begun)?;
+        if !self.begun.is_empty() {
+            self.answers.push_str(&self.begun)?;
+        }
         self.line.clear();
         Ok(())
     }
