@@ -81,6 +81,12 @@ fn read_bytes<const N: usize>(word: &[u8]) -> Result<Buffer<N>, Fault> {
     Ok(text::bytes(word)?)
 }
 
+// By itself, so that the memory of many bytes is cleared for such values alone.
+fn keep_bytes<const N: usize>(word: &[u8], bytes: &mut Buffer<N>) -> Result<(), Fault> {
+    *bytes = read_bytes(word)?;
+    Ok(())
+}
+
 // Four bytes, the highest first.
 fn read_pattern(word: &[u8]) -> Result<u32, Fault> {
     let bytes = text::bytes::<4>(word)?;
@@ -90,18 +96,23 @@ fn read_pattern(word: &[u8]) -> Result<u32, Fault> {
     }
 }
 
-// Keeps the value of a word, a name and what stands after its equals sign.
-fn keep_word(word: &[u8], values: &mut Values) -> Result<(), Fault> {
-    if word.contains(&b'\t') || word.contains(&b'\r') {
-        return Err(Fault::Value);
+// A value's name, and what stands after its equals sign; none of a word with a tab or carriage return in it.
+fn split_value(word: &[u8]) -> Option<(&[u8], &[u8])> {
+    if word.iter().any(|b| matches!(*b, b'\t' | b'\r')) {
+        return None;
     }
-    let (name, value) = text::split_once(word, b'=').ok_or(Fault::Value)?;
+    text::split_once(word, b'=')
+}
+
+// Keeps the value of a word.
+fn keep_word(word: &[u8], values: &mut Values) -> Result<(), Fault> {
+    let (name, value) = split_value(word).ok_or(Fault::Value)?;
     match values.place(name).ok_or(Fault::Name)? {
         Place::Number(number) => *number = read_number(value, u64::MAX)?,
         Place::Limited(number, largest) => *number = read_number(value, largest)?,
         Place::Pattern(pattern) => *pattern = read_pattern(value)?,
-        Place::Bitmap(bitmap) => *bitmap = read_bytes(value)?,
-        Place::Bytes(bytes) => *bytes = read_bytes(value)?,
+        Place::Bitmap(bitmap) => keep_bytes(value, bitmap)?,
+        Place::Bytes(bytes) => keep_bytes(value, bytes)?,
         Place::Window(window) => *window = read_window(value)?,
         Place::Schedule(schedule) => *schedule = read_schedule(value)?,
     }
@@ -144,15 +155,17 @@ fn read_words<'a>(line: &'a [u8], values: &mut Values) -> Line<'a>
         Err(Fault::Kind) => Line::Wrong(Fault::Kind, 2),
         Err(fault) => Line::Wrong(fault, 1),
         Ok(question) => {
-            let value = if question.kind().is_some() {
-                third
+            let (number, value) = if question.kind().is_some() {
+                (3, third)
             } else {
-                second
+                (2, second)
             };
-            if value.is_none() {
-                return Line::Asked(question);
+            // a first word that is no value is told before all values are copied
+            match value {
+                None => Line::Asked(question),
+                Some(word) if split_value(word).is_none() => Line::Wrong(Fault::Value, number),
+                Some(_) => keep_words(line, question, values),
             }
-            keep_words(line, question, values)
         }
     }
 }
