@@ -1,5 +1,5 @@
 -- For the code alone. The text of numbers and of bytes.
-use Rattle.std.specs.Prelude.{ℕ, ◌^◌, ◌-◌, List, [], ◌∷◌, ◌++◌, false, decimal, codes}
+use Rattle.std.specs.Prelude.{ℕ, ◌^◌, ◌-◌, List, [], ◌∷◌, ◌++◌, false, decimal, codes, length, replicate}
 use Rattle.std.specs.Fmt.{padded_integral, format_spec, digits}
 use Rattle.std.specs.List.{flat_map}
 
@@ -20,6 +20,10 @@ plan_then number first last copies places rest =
 abbrev pub place_then : ℕ → ℕ → ℕ → ℕ → List ℕ → List ℕ
 place_then slot l k symbol rest =
     values_then ((codes " slot=", slot) ∷ (codes " l=", l) ∷ (codes " k=", k) ∷ (codes " symbol=", symbol) ∷ []) rest
+
+-- a number at the right of a column so wide: spaces before its digits
+abbrev pub aligned : ℕ → ℕ → List ℕ
+aligned width n = replicate (width - length (decimal n)) 32 ++ decimal n
 
 -- a number in so many hex digits, in more where it needs them
 abbrev pub hex : ℕ → ℕ → List ℕ

@@ -33,6 +33,7 @@ pub use drawn::{
     Shown, write_more, write_slot, write_slot_columns, write_subframe, write_tones, write_unit,
 };
 pub use told::{write_help, write_meaning};
+pub use value::write_aligned;
 
 fn fault_word(fault: Fault) -> &'static str
     ensures word { result.now ≡ fault_word fault }

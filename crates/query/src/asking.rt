@@ -1,5 +1,5 @@
 // The questions, asked of the values, and their answers written.
-ghost use Rattle.std.specs.Prelude.{◌+◌, ◌≤◌, length, string_bytes, OnOk};
+ghost use Rattle.std.specs.Prelude.{◌+◌, ◌≤◌, length, string_bytes, string_capacity, OnOk, IsOk};
 
 use crate::asked::{Asked, Place};
 use crate::{picture, timeline};
@@ -8,6 +8,8 @@ use std::alloc::AllocError;
 
 fn bitmap(v: &Values, out: &mut String) -> Result<(), AllocError>
     ensures room { OnOk result (length (string_bytes out.new) ≤ length (string_bytes out.old) + 320) }
+    ensures succeeds { length (string_bytes out.old) + 320 ≤ string_capacity out.old → IsOk result }
+    ensures capacity { string_capacity out.old ≤ string_capacity out.new }
 {
     let c = v.cell();
     let no = nbiot::judge(c, &v.anchor, &v.other);
@@ -16,6 +18,8 @@ fn bitmap(v: &Values, out: &mut String) -> Result<(), AllocError>
 
 fn search(v: &Values, out: &mut String) -> Result<(), AllocError>
     ensures room { OnOk result (length (string_bytes out.new) ≤ length (string_bytes out.old) + 2048) }
+    ensures succeeds { length (string_bytes out.old) + 2048 ≤ string_capacity out.old → IsOk result }
+    ensures capacity { string_capacity out.old ≤ string_capacity out.new }
 {
     let x = nbiot::search(v.cell(), &v.anchor, &v.other, v.search_space());
     answers::write_search(x, out)
@@ -23,6 +27,8 @@ fn search(v: &Values, out: &mut String) -> Result<(), AllocError>
 
 fn plan(asked: Asked, out: &mut String) -> Result<(), AllocError>
     ensures room { OnOk result (length (string_bytes out.new) ≤ length (string_bytes out.old) + 320) }
+    ensures succeeds { length (string_bytes out.old) + 320 ≤ string_capacity out.old → IsOk result }
+    ensures capacity { string_capacity out.old ≤ string_capacity out.new }
 {
     if asked.kind.is_uplink() {
         answers::write_uplink_plan(asked.plan_slots(), out)
@@ -33,6 +39,8 @@ fn plan(asked: Asked, out: &mut String) -> Result<(), AllocError>
 
 fn forward(asked: Asked, out: &mut String) -> Result<(), AllocError>
     ensures room { OnOk result (length (string_bytes out.new) ≤ length (string_bytes out.old) + 320) }
+    ensures succeeds { length (string_bytes out.old) + 320 ≤ string_capacity out.old → IsOk result }
+    ensures capacity { string_capacity out.old ≤ string_capacity out.new }
 {
     let p = asked.values.p;
     let engine = asked.values.engine();
@@ -45,6 +53,8 @@ fn forward(asked: Asked, out: &mut String) -> Result<(), AllocError>
 
 fn backward(asked: Asked, out: &mut String) -> Result<(), AllocError>
     ensures room { OnOk result (length (string_bytes out.new) ≤ length (string_bytes out.old) + 320) }
+    ensures succeeds { length (string_bytes out.old) + 320 ≤ string_capacity out.old → IsOk result }
+    ensures capacity { string_capacity out.old ≤ string_capacity out.new }
 {
     let v = asked.values;
     let (slot, l, k) = (v.slot, v.l, v.k);
@@ -72,6 +82,8 @@ fn backward(asked: Asked, out: &mut String) -> Result<(), AllocError>
 // The position after the step is kept.
 fn step(kind: Kind, v: &mut Values, out: &mut String) -> Result<(), AllocError>
     ensures room { OnOk result (length (string_bytes out.new) ≤ length (string_bytes out.old) + 320) }
+    ensures succeeds { length (string_bytes out.old) + 320 ≤ string_capacity out.old → IsOk result }
+    ensures capacity { string_capacity out.old ≤ string_capacity out.new }
 {
     let s = nbiot::step_value(v.walk(kind), &v.anchor, &v.other, v.engine());
     v.p = s.walk.p;
@@ -88,6 +100,8 @@ const LENT: usize = 1024;
 // A fill of the room lent, whose numbers are all 42 before, shown as it stands afterwards.
 fn fill(v: &Values, out: &mut String) -> Result<(), AllocError>
     ensures room { OnOk result (length (string_bytes out.new) ≤ length (string_bytes out.old) + 16384) }
+    ensures succeeds { length (string_bytes out.old) + 16384 ≤ string_capacity out.old → IsOk result }
+    ensures capacity { string_capacity out.old ≤ string_capacity out.new }
 {
     let mut numbers = [42.0f32; LENT];
     let room = &mut numbers[..LENT.min(v.room as usize)];
@@ -99,6 +113,8 @@ fn fill(v: &Values, out: &mut String) -> Result<(), AllocError>
 
 fn element(v: &Values, out: &mut String) -> Result<(), AllocError>
     ensures room { OnOk result (length (string_bytes out.new) ≤ length (string_bytes out.old) + 320) }
+    ensures succeeds { length (string_bytes out.old) + 320 ≤ string_capacity out.old → IsOk result }
+    ensures capacity { string_capacity out.old ≤ string_capacity out.new }
 {
     let c = v.cell();
     let g = v.npdsch_grant();
@@ -112,6 +128,8 @@ fn element(v: &Values, out: &mut String) -> Result<(), AllocError>
 // Asks a question of the values and writes its answer.
 pub fn ask(question: Question, values: &mut Values, out: &mut String) -> Result<(), AllocError>
     ensures room { OnOk result (length (string_bytes out.new) ≤ length (string_bytes out.old) + 16384) }
+    ensures succeeds { length (string_bytes out.old) + 16384 ≤ string_capacity out.old → IsOk result }
+    ensures capacity { string_capacity out.old ≤ string_capacity out.new }
 {
     let v = &*values;
     match question {

@@ -1,6 +1,6 @@
 // A picture of one transmitted subframe or slot, drawn from what backward answers at each place of it, and the
 // subframes skipped after it.
-ghost use Rattle.std.specs.Prelude.{◌≡◌, ◌+◌, ◌<◌, ◌≤◌, length, string_bytes, OnOk};
+ghost use Rattle.std.specs.Prelude.{◌≡◌, ◌+◌, ◌<◌, ◌≤◌, length, string_bytes, string_capacity, OnOk, IsOk};
 
 use crate::asked::{Asked, Place};
 use answers::Shown;
@@ -63,11 +63,13 @@ fn mark(b: Back, reference: char, in_control: bool) -> char
 // The end of the line of skipped subframes: how many are not listed.
 fn put_end(skipped: u64, out: &mut String) -> Result<(), AllocError>
     ensures room { OnOk result (length (string_bytes out.new) ≤ length (string_bytes out.old) + 64) }
+    ensures succeeds { length (string_bytes out.old) + 64 ≤ string_capacity out.old → IsOk result }
+    ensures capacity { string_capacity out.old ≤ string_capacity out.new }
 {
     if skipped == 0 {
-        writeln!(out, " none")
+        out.push_str(" none\n")
     } else if skipped <= LISTED {
-        writeln!(out)
+        out.push_str("\n")
     } else {
         answers::write_unlisted(skipped - LISTED, out)
     }
@@ -87,6 +89,8 @@ impl<'a> Asked<'a> {
     // The signs of one subcarrier in a slot.
     fn put_signs(self, t: u64, slot: u64, k: u64, out: &mut String) -> Result<(), AllocError>
         ensures signs { OnOk result (length (string_bytes out.new) ≡ length (string_bytes out.old) + 7) }
+        ensures succeeds { length (string_bytes out.old) + 7 ≤ string_capacity out.old → IsOk result }
+        ensures capacity { string_capacity out.old ≤ string_capacity out.new }
     {
         let reference = if self.kind.is_uplink() { 'R' } else { 'N' };
         let control = self.drawn_control();
@@ -100,14 +104,17 @@ impl<'a> Asked<'a> {
     // One subcarrier: its number, and its signs, first slot first.
     fn put_row(self, t: u64, k: u64, out: &mut String) -> Result<(), AllocError>
         ensures room { OnOk result (length (string_bytes out.new) ≤ length (string_bytes out.old) + 40) }
+        ensures succeeds { length (string_bytes out.old) + 40 ≤ string_capacity out.old → IsOk result }
+        ensures capacity { string_capacity out.old ≤ string_capacity out.new }
     {
         let slots = if self.kind.is_uplink() { 1 } else { 2 };
-        write!(out, "k {k:>2}")?;
+        out.push_str("k ")?;
+        answers::write_aligned(k, 2, out)?;
         for slot in 0..slots {
-            write!(out, " ")?;
+            out.push(' ')?;
             self.put_signs(t, slot, k, out)?;
         }
-        writeln!(out)
+        out.push_str("\n")
     }
 
     // How many subcarriers the grid has.
@@ -124,6 +131,8 @@ impl<'a> Asked<'a> {
     // The rows, the highest subcarrier on top.
     fn put_rows(self, t: u64, out: &mut String) -> Result<(), AllocError>
         ensures room { OnOk result (length (string_bytes out.new) ≤ length (string_bytes out.old) + 1920) }
+        ensures succeeds { length (string_bytes out.old) + 1920 ≤ string_capacity out.old → IsOk result }
+        ensures capacity { string_capacity out.old ≤ string_capacity out.new }
     {
         for k in (0..self.subcarriers()).rev() {
             self.put_row(t, k, out)?;
@@ -141,10 +150,12 @@ impl<'a> Asked<'a> {
     // The subframes after t up to the last, each with its cause, as far as they are listed.
     fn put_skips(self, t: u64, last: u64, out: &mut String) -> Result<(), AllocError>
         ensures room { OnOk result (length (string_bytes out.new) ≤ length (string_bytes out.old) + 6408) }
+        ensures succeeds { length (string_bytes out.old) + 6408 ≤ string_capacity out.old → IsOk result }
+        ensures capacity { string_capacity out.old ≤ string_capacity out.new }
     {
         let v = self.values;
         let c = v.cell();
-        write!(out, "skipped:")?;
+        out.push_str("skipped:")?;
         for before in t..last.min(t.saturating_add(LISTED)) {
             let now = before + 1;
             let x = nbiot::cause(c, &v.anchor, &v.other, now);
@@ -227,6 +238,8 @@ impl<'a> Asked<'a> {
     // A slot, whose first granted tone is named.
     fn put_slot(self, x: Shown, width: u64, tone: u64, out: &mut String) -> Result<(), AllocError>
         ensures room { OnOk result (length (string_bytes out.new) ≤ length (string_bytes out.old) + 8192) }
+        ensures succeeds { length (string_bytes out.old) + 8192 ≤ string_capacity out.old → IsOk result }
+        ensures capacity { string_capacity out.old ≤ string_capacity out.new }
     {
         answers::write_slot(x, out)?;
         if self.kind == Kind::Up {
@@ -240,6 +253,8 @@ impl<'a> Asked<'a> {
     // A subframe, and what is skipped after it by a grant.
     fn put_subframe(self, x: Shown, sent: Sent, out: &mut String) -> Result<(), AllocError>
         ensures room { OnOk result (length (string_bytes out.new) ≤ length (string_bytes out.old) + 12288) }
+        ensures succeeds { length (string_bytes out.old) + 12288 ≤ string_capacity out.old → IsOk result }
+        ensures capacity { string_capacity out.old ≤ string_capacity out.new }
     {
         answers::write_subframe(x, out)?;
         self.put_rows(x.unit, out)?;
@@ -254,6 +269,8 @@ impl<'a> Asked<'a> {
     // The subframe or slot at a place, its first.
     fn put_shown(self, sent: Sent, place: DownlinkPlace, out: &mut String) -> Result<(), AllocError>
         ensures room { OnOk result (length (string_bytes out.new) ≤ length (string_bytes out.old) + 12288) }
+        ensures succeeds { length (string_bytes out.old) + 12288 ≤ string_capacity out.old → IsOk result }
+        ensures capacity { string_capacity out.old ≤ string_capacity out.new }
     {
         let x = Shown {
             unit: place.t,
@@ -273,6 +290,8 @@ impl<'a> Asked<'a> {
 // A picture of transmitted subframe or slot i.
 pub fn put_picture(asked: Asked, out: &mut String) -> Result<(), AllocError>
     ensures room { OnOk result (length (string_bytes out.new) ≤ length (string_bytes out.old) + 16384) }
+    ensures succeeds { length (string_bytes out.old) + 16384 ≤ string_capacity out.old → IsOk result }
+    ensures capacity { string_capacity out.old ≤ string_capacity out.new }
 {
     let first = asked.forward(Engine::Quick, 0);
     let width = asked.places_in(first.t);

@@ -1,5 +1,5 @@
 // A timeline of a grant: a row for each frame, drawn from what backward answers at one place of each subframe or slot.
-ghost use Rattle.std.specs.Prelude.{◌+◌, ◌^◌, ◌≤◌, ◌<◌, length, string_bytes, OnOk};
+ghost use Rattle.std.specs.Prelude.{◌+◌, ◌^◌, ◌≤◌, ◌<◌, length, string_bytes, string_capacity, OnOk, IsOk};
 
 use crate::asked::{Asked, Place};
 use crate::picture;
@@ -206,18 +206,25 @@ impl<'a> Course<'a> {
     fn put_row(self, frame: u64, out: &mut String) -> Result<(), AllocError>
         requires { frame < 2 ^ 33 }
         ensures room { OnOk result (length (string_bytes out.new) ≤ length (string_bytes out.old) + 64) }
+        ensures succeeds { length (string_bytes out.old) + 64 ≤ string_capacity out.old → IsOk result }
+        ensures capacity { string_capacity out.old ≤ string_capacity out.new }
     {
         let t = self.unit.first_of(frame);
-        write!(out, "{t:>10} {:>5} ", frame % FRAMES)?;
+        answers::write_aligned(t, 10, out)?;
+        out.push(' ')?;
+        answers::write_aligned(frame % FRAMES, 5, out)?;
+        out.push(' ')?;
         for i in 0..self.unit.in_frame() {
             out.push(self.sign(t + i))?;
         }
-        writeln!(out)
+        out.push_str("\n")
     }
 
     // A row for each frame from the first to the last, as far as they are drawn, and how many are past these.
     fn put_frames(self, out: &mut String) -> Result<(), AllocError>
         ensures room { OnOk result (length (string_bytes out.new) ≤ length (string_bytes out.old) + 4160) }
+        ensures succeeds { length (string_bytes out.old) + 4160 ≤ string_capacity out.old → IsOk result }
+        ensures capacity { string_capacity out.old ≤ string_capacity out.new }
     {
         let first = self.unit.frame_of(self.first);
         let frames = (self.unit.frame_of(self.last) + 1).saturating_sub(first);
@@ -233,6 +240,8 @@ impl<'a> Course<'a> {
 
 pub fn put_timeline(asked: Asked, out: &mut String) -> Result<(), AllocError>
     ensures room { OnOk result (length (string_bytes out.new) ≤ length (string_bytes out.old) + 16384) }
+    ensures succeeds { length (string_bytes out.old) + 16384 ≤ string_capacity out.old → IsOk result }
+    ensures capacity { string_capacity out.old ≤ string_capacity out.new }
 {
     let x = asked.plan();
     answers::write_cell(x.no, out)?;

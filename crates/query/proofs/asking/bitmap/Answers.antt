@@ -26,5 +26,8 @@ unfolding in_force_of
 short c anchor other =
     front (eqb (judge_of c anchor other) 0) (bytes_of c.config.bits) (own_buffer c.config anchor other) (few c.config.bits)
 
-pub returns : goal.returns
-returns c = record { room = c.write_bitmap.ensures.room (rw c.bitmap.ensures (short _ _ _)) }
+pub returns-clause-room : goal.returns-clause-room
+returns-clause-room c = c.write_bitmap.ensures.room (rw c.bitmap.ensures (short _ _ _))
+
+pub returns-clause-succeeds : goal.returns-clause-succeeds
+returns-clause-succeeds c fits = c.write_bitmap.ensures.succeeds (rw c.bitmap.ensures (short _ _ _)) fits
