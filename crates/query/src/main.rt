@@ -84,6 +84,7 @@ impl Session {
     {
         // No input has more lines than are counted.
         self.lines = self.lines.saturating_add(1);
+        // An empty line has no answer.
         if self.line.is_empty() {
             return Ok(());
         }
