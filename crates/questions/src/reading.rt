@@ -78,7 +78,7 @@ fn read_bytes<const N: usize>(word: &[u8]) -> Result<Buffer<N>, Fault> {
     if matches!(word, b"-") {
         return Ok(Buffer::new());
     }
-    Ok(text::bytes(word)?)
+    Ok(text::bytes_within(word)?)
 }
 
 // By itself, so that the memory of many bytes is cleared for such values alone.
@@ -89,7 +89,7 @@ fn keep_bytes<const N: usize>(word: &[u8], bytes: &mut Buffer<N>) -> Result<(), 
 
 // Four bytes, the highest first.
 fn read_pattern(word: &[u8]) -> Result<u32, Fault> {
-    let bytes = text::bytes::<4>(word)?;
+    let bytes = text::bytes_within::<4>(word)?;
     match bytes.as_slice() {
         [a, b, c, d] => Ok(u32::from_be_bytes([*a, *b, *c, *d])),
         _ => Err(Fault::Size),

@@ -22,7 +22,7 @@ fn digit(b: u8) -> Option<u8>
 
 // The byte of two digits.
 #[tactic(auto, unfolding(crate::specs::Hex::pair_of, crate::specs::Hex::both))]
-fn pair(high: u8, low: u8) -> Option<u8>
+pub(crate) fn pair(high: u8, low: u8) -> Option<u8>
     ensures { result ≡ pair_of high low }
 {
     Some(16 * digit(high)? + digit(low)?)
@@ -36,7 +36,7 @@ pub enum HexError {
 }
 
 // The bytes of a hex text, at least one and at most N.
-pub fn bytes<const N: usize>(s: &[u8]) -> Result<Buffer<N>, HexError>
+pub fn bytes_within<const N: usize>(s: &[u8]) -> Result<Buffer<N>, HexError>
     ensures { result_map_both buffer_bytes (λ e. e) result ≡ within N (bytes_of s.now) }
 {
     if s.is_empty() {
@@ -72,22 +72,22 @@ mod tests {
 
     #[test]
     fn bytes_of_a_text(rt: HostRuntime) -> Result<(), Fail> {
-        let read = bytes::<2>(b"0aFf").ok().ok_or("no bytes")?;
+        let read = bytes_within::<2>(b"0aFf").ok().ok_or("no bytes")?;
         assert_eq!(rt; read.as_slice(), [0x0a, 0xff].as_slice());
         Ok(())
     }
 
     #[test]
     fn no_bytes(rt: HostRuntime) {
-        assert!(rt; bytes::<2>(b"").err() == Some(HexError::NotHex));
-        assert!(rt; bytes::<2>(b"0").err() == Some(HexError::NotHex));
-        assert!(rt; bytes::<2>(b"0g").err() == Some(HexError::NotHex));
+        assert!(rt; bytes_within::<2>(b"").err() == Some(HexError::NotHex));
+        assert!(rt; bytes_within::<2>(b"0").err() == Some(HexError::NotHex));
+        assert!(rt; bytes_within::<2>(b"0g").err() == Some(HexError::NotHex));
     }
 
     #[test]
     fn too_many_bytes(rt: HostRuntime) {
-        assert!(rt; bytes::<2>(b"012345").err() == Some(HexError::TooLong));
-        assert!(rt; bytes::<2>(b"0123450").err() == Some(HexError::NotHex));
-        assert!(rt; bytes::<2>(b"01234g").err() == Some(HexError::NotHex));
+        assert!(rt; bytes_within::<2>(b"012345").err() == Some(HexError::TooLong));
+        assert!(rt; bytes_within::<2>(b"0123450").err() == Some(HexError::NotHex));
+        assert!(rt; bytes_within::<2>(b"01234g").err() == Some(HexError::NotHex));
     }
 }

@@ -1,7 +1,7 @@
 -- The bytes read, of which the room keeps the first, stand before those of the rest.
 use Rattle.std.proofs.Common.{◌≡◌, ◌+◌, ◌*◌, length}
 use Rattle.text.proofs.Hexwise.{Reads}
-use Rattle.text.proofs.hex.bytes.Given as goal
+use Rattle.text.proofs.hex.bytes_within.Given as goal
 
 abbrev pub invariant-loop-rest : goal.invariant-loop-rest
 invariant-loop-rest g l = record {

@@ -2,8 +2,8 @@ use Rattle.std.proofs.Common.{sym, ◌∙◌, arith}
 use Rattle.std.proofs.lemmas.List.{length-replicate}
 use Rattle.std.proofs.Math.ListN.{length-set}
 use Rattle.text.proofs.Hexwise.{no_text, some_text, none_read, one_left, halved, reads_begun, reads_kept, reads_full, not_hex, kept_whole, too_long}
-use Rattle.text.proofs.hex.bytes.Goals as goal
-use Rattle.text.proofs.hex.bytes.Goals.{then-count, else-count}
+use Rattle.text.proofs.hex.bytes_within.Goals as goal
+use Rattle.text.proofs.hex.bytes_within.Goals.{then-count, else-count}
 
 pub returns-then-is_empty : goal.returns-then-is_empty
 returns-then-is_empty g c = not_hex _ _ (no_text _ (grind (arith, c.if-is_empty.ensures)))
